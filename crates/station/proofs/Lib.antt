@@ -1,0 +1,13 @@
+pub mod Spans
+pub mod Crash
+pub mod Writes
+pub mod Puts
+pub mod Opens
+pub mod Replay
+pub mod Lines
+pub mod Choices
+pub mod Images
+pub mod Restart
+pub mod Events
+pub mod Changes
+pub mod Examples

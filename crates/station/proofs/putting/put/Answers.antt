@@ -1,0 +1,42 @@
+use Rattle.std.proofs.Common.{◌∙◌, sym, ap, subst}
+use Rattle.std.specs.Prelude.{slice_set}
+use Rattle.station.specs.Disk.{Disk, settled, IsSettled, IsCrashImage}
+use Rattle.station.specs.Blocks.{Spares, OldOrNew, Amid}
+use Rattle.station.proofs.Spans.{goes, weakens}
+use Rattle.station.proofs.Crash.{settled_image, console_then}
+use Rattle.station.proofs.Puts.{early, late, on_ok}
+use Rattle.station.proofs.putting.put.Goals as goal
+
+pub returns-in_err-put_blocks-clause-moments : goal.returns-in_err-put_blocks-clause-moments
+returns-in_err-put_blocks-clause-moments g c = λ honest disk.
+    let old = g.D.Device.state c.args.device.now in
+    weakens _ _ _ _ _ (early old.events old.disk.present c.args.blocks.now c.args.root c.args.bytes.now) (c.put_blocks.ensures.moments honest disk)
+
+pub returns-clause-durable : goal.returns-clause-durable
+returns-clause-durable g c = λ honest.
+    let there = c.in_ok-put_blocks.ensures.durable honest in
+    on_ok c.save.result (λ is. is ∙ ap (λ (d : Disk). settled (slice_set d.present c.args.root c.args.bytes.now)) there) (c.save.ensures.durable (c.put_blocks.ensures.honest.0 honest))
+
+pub returns-clause-console : goal.returns-clause-console
+returns-clause-console g c = λ honest. console_then _ _ _ (c.put_blocks.ensures.console honest) (c.save.ensures.console (c.put_blocks.ensures.honest.0 honest))
+
+pub returns-clause-moments : goal.returns-clause-moments
+returns-clause-moments g c = λ honest disk.
+    let state = g.D.Device.state in
+    let history = g.D.Device.history in
+    let old = state c.args.device.now in
+    let mid = state c.put_blocks.new.device in
+    let new = state c.save.new.device in
+    let base = old.disk.present in
+    let blocks = c.args.blocks.now in
+    let there = c.in_ok-put_blocks.ensures.durable honest in
+    let honest' = c.put_blocks.ensures.honest.0 honest in
+    let settled_mid : IsSettled mid.disk = there ∙ sym (ap (λ (d : Disk). settled d.present) there) in
+    goes (history c.args.device.now) (history c.put_blocks.new.device) (history c.save.new.device) mid new (Amid old.events (OldOrNew base blocks c.args.root c.args.bytes.now))
+    (weakens _ _ mid (Amid old.events (Spares base blocks)) _ (early old.events base blocks c.args.root c.args.bytes.now) (c.put_blocks.ensures.moments honest disk))
+    (weakens _ _ new _ _ (late old.events mid.events base mid.disk.present blocks c.args.root c.args.bytes.now (c.put_blocks.ensures.console honest).events
+    (ap (λ (d : Disk). d.present) there)) (c.save.ensures.moments honest' settled_mid))
+
+pub returns-clause-new : goal.returns-clause-new
+returns-clause-new g c = λ honest.
+    on_ok c.save.result (λ disk image crash. settled_image _ image (subst (λ (d : Disk). IsCrashImage d image) disk crash)) (returns-clause-durable g c honest)

@@ -1,0 +1,39 @@
+-- Each state that a station has been in.
+use Rattle.std.specs.Prelude.{◌≡◌, ℕ, List, [], ◌∷◌, ◌++◌, take}
+use Rattle.std.specs.List.{AllByRecursion}
+use Rattle.station.specs.Disk.{Sector, IsCrashImage}
+use Rattle.station.specs.State.{State, shown, showing}
+
+-- The newest of the states is this one.
+pub record EndsIn (history : List State) (state : State) : Type 0 where
+  pub earlier : List State
+  pub is : history ≡ earlier ++ state ∷ []
+
+-- A call goes to another state, or does nothing at all.
+pub data Moves (past : List State) (old : State) (later : List State) (new : State) : Type 0 where
+  Stays : later ≡ past → new ≡ old → Moves past old later new
+  Goes : later ≡ past ++ new ∷ [] → Moves past old later new
+
+-- A call shows these bytes.
+pub record Shows (past : List State) (old : State) (bytes : List ℕ) (later : List State) (new : State) : Type 0 where
+  pub history : later ≡ past ++ showing old bytes
+  pub state : new ≡ shown old bytes
+
+-- Each state between two histories of a station has P.
+pub record Spans (past later : List State) (P : State → Type 0) : Type 0 where
+  pub during : List State
+  pub adds : later ≡ past ++ during
+  pub each : AllByRecursion P during
+
+-- Each state that calls passed through has P, and so has the one that they left.
+pub record Through (past later : List State) (new : State) (P : State → Type 0) : Type 0 where
+  pub spans : Spans past later P
+  pub now : P new
+
+-- whatever a crash leaves has P
+abbrev pub EachImage : (List Sector → Type 0) → State → Type 0
+EachImage P state = (image : List Sector) → IsCrashImage state.disk image → P image
+
+-- some of these bytes were shown since
+abbrev pub Telling : State → List ℕ → State → Type 0
+Telling old bytes state = (n : ℕ) × (state ≡ shown old (take n bytes))

@@ -1,0 +1,16 @@
+pub mod Disk
+pub mod State
+pub mod History
+pub mod Failures
+pub mod Blocks
+pub mod Opening
+pub mod Changes
+pub mod Replay
+pub mod Sectors
+pub mod Journal
+pub mod Memory
+pub mod Choice
+pub mod Trace
+pub mod Plan
+pub mod Possible
+pub mod Newest

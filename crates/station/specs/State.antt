@@ -1,0 +1,89 @@
+-- What there is of a station at a moment, and what its calls do to that.
+use Rattle.std.specs.Prelude.{◌≡◌, ℕ, List, [], ◌∷◌, ◌++◌, length, map, take, drop, slice_set, slice_get, slice_index_or, min, Option, option_map}
+use Rattle.station.specs.Disk.{Disk, Sector, settled}
+use Rattle.station.specs.declared.note.Note.{Note}
+
+-- a byte that was shown, or a status that a program received
+pub data Event : Type 0 where
+  Shown : ℕ → Event
+  Noted : Note → Event
+
+pub record State : Type 0 where
+  -- the first of them first
+  pub events : List Event
+  -- the console lines that are still to be read
+  pub lines : List (List ℕ)
+  pub disk : Disk
+
+-- after a write
+abbrev pub wrote : State → ℕ → Sector → State
+wrote s i b = record s { disk = record { present = slice_set s.disk.present i b; stable = s.disk.stable; written = s.disk.written ++ (i, b) ∷ [] } }
+
+-- after a write that failed, where the sector keeps its value and a crash may yet leave the new one
+abbrev pub kept : State → ℕ → Sector → State
+kept s i b = record s { disk = record { present = s.disk.present; stable = s.disk.stable; written = s.disk.written ++ (i, b) ∷ [] } }
+
+-- after a sync
+abbrev pub synced : State → State
+synced s = record s { disk = settled s.disk.present }
+
+abbrev pub noted : State → Note → State
+noted s note = record s { events = s.events ++ Noted note ∷ [] }
+
+abbrev pub took_line : State → State
+took_line s = record s { lines = drop 1 s.lines }
+
+-- the one state, if there is any of these
+abbrev pub if_any : List (List ℕ) → State → List State
+if_any [] s = []
+if_any (line ∷ lines) s = s ∷ []
+
+-- the state after a line was taken, where one was left
+abbrev pub taking : State → List State
+taking s = if_any s.lines (took_line s)
+
+-- after these bytes were shown
+abbrev pub shown : State → List ℕ → State
+shown s bytes = record s { events = s.events ++ map Shown bytes }
+
+-- each state while they are shown, one after each byte
+abbrev pub showing : State → List ℕ → List State
+showing s [] = []
+showing s (byte ∷ bytes) = shown s (byte ∷ []) ∷ showing (shown s (byte ∷ [])) bytes
+
+-- Nothing was told, and no line was taken.
+pub record SameConsole (old new : State) : Type 0 where
+  pub events : new.events ≡ old.events
+  pub lines : new.lines ≡ old.lines
+
+-- a beginning of these events
+abbrev pub Begins : List Event → List Event → Type 0
+Begins events all = (rest : List Event) × (events ++ rest ≡ all)
+
+-- What a write that failed may have done.
+pub data MayHaveWritten (old : State) (i : ℕ) (b : Sector) (new : State) : Type 0 where
+  Nothing : new ≡ old → MayHaveWritten old i b new
+  Kept : new ≡ kept old i b → MayHaveWritten old i b new
+  Wrote : new ≡ wrote old i b → MayHaveWritten old i b new
+
+-- a buffer after the front of a line was put in, as much as fits
+abbrev pub overlaid : List ℕ → List ℕ → List ℕ
+overlaid buffer line = take (length buffer) line ++ drop (length line) buffer
+
+-- A line, as much as fits, is put at the front of a buffer. With no line left there is none, and nothing changes.
+pub record TakesLine (old : State) (before : List ℕ) (taken : Option ℕ) (after : List ℕ) (new : State) : Type 0 where
+  pub state : new ≡ took_line old
+  pub count : taken ≡ option_map (λ line. min (length line) (length before)) (slice_get old.lines 0)
+  pub bytes : after ≡ overlaid before (slice_index_or old.lines 0 [])
+
+-- the bytes that were shown
+abbrev pub bytes_of : List Event → List ℕ
+bytes_of [] = []
+bytes_of (Shown byte ∷ events) = byte ∷ bytes_of events
+bytes_of (Noted note ∷ events) = bytes_of events
+
+-- the statuses that were received
+abbrev pub notes_of : List Event → List Note
+notes_of [] = []
+notes_of (Shown byte ∷ events) = notes_of events
+notes_of (Noted note ∷ events) = note ∷ notes_of events

@@ -1,0 +1,24 @@
+//! Sectors, a console, and the moments at which a run may be stopped.
+//! The traits say what a crash may leave; what `put` writes is there as a whole after it, or the old root is.
+#![tactic(auto)]
+
+mod blocks;
+mod call;
+mod console;
+mod device;
+mod follow;
+mod heard;
+mod image;
+mod journal;
+mod laws;
+mod memory;
+mod note;
+mod plan;
+mod putting;
+
+pub use blocks::{Block, write_blocks};
+pub use device::{Device, DeviceError, Station};
+pub use laws::{crash_laws, moment_laws};
+pub use memory::MemoryStation;
+pub use note::Note;
+pub use putting::{put, put_blocks, save};

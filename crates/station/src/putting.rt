@@ -1,0 +1,74 @@
+//! Blocks and a root that names them, put on the disk so that a crash leaves the old root or all of them.
+ghost use Rattle.std.specs.Prelude.{◌≡◌, ◌<◌, ◌↔◌, slice_set, OnOk};
+ghost use Rattle.station.specs.Disk.{settled, IsSettled};
+ghost use Rattle.station.specs.State.{SameConsole};
+ghost use Rattle.station.specs.History.{Through, EachImage};
+ghost use Rattle.station.specs.Failures.{CountsFailure};
+ghost use Rattle.station.specs.Blocks.{AreAt, Spares, WithOrWithout, OldOrNew, Amid, with_all};
+
+use crate::blocks::{Block, write_blocks};
+use crate::{Device, DeviceError};
+
+/// Writes blocks, which are durable at `Ok`.
+pub fn put_blocks<D: Device>(device: &mut D, blocks: &[Block]) -> Result<(), DeviceError>
+    requires { AreAt (λ s. s < D.sectors device.old) blocks.now }
+    ensures honest { D.is_honest device.old ↔ D.is_honest device.new }
+    ensures sectors { D.sectors device.new ≡ D.sectors device.old }
+    ensures failures { CountsFailure result (D.failures device.old) (D.failures device.new) }
+    ensures durable { D.is_honest device.old → OnOk result ((D.state device.new).disk ≡ settled (with_all (D.state device.old).disk.present blocks.now)) }
+    ensures console { D.is_honest device.old → SameConsole (D.state device.old) (D.state device.new) }
+
+    // At each moment a crash leaves all other sectors as they were.
+    ensures moments { D.is_honest device.old → IsSettled (D.state device.old).disk →
+        Through (D.history device.old) (D.history device.new) (D.state device.new)
+        (Amid (D.state device.old).events (Spares (D.state device.old).disk.present blocks.now)) }
+{
+    write_blocks(device, blocks)?;
+    device.sync()
+}
+
+/// Writes a sector, which is durable at `Ok`.
+pub fn save<D: Device>(device: &mut D, sector: u32, bytes: &[u8; 4096]) -> Result<(), DeviceError>
+    requires { sector < D.sectors device.old }
+    ensures honest { D.is_honest device.old ↔ D.is_honest device.new }
+    ensures sectors { D.sectors device.new ≡ D.sectors device.old }
+    ensures failures { CountsFailure result (D.failures device.old) (D.failures device.new) }
+    ensures durable { D.is_honest device.old → OnOk result ((D.state device.new).disk ≡ settled (slice_set (D.state device.old).disk.present sector bytes.now)) }
+    ensures console { D.is_honest device.old → SameConsole (D.state device.old) (D.state device.new) }
+
+    // At each moment a crash leaves all as it was, or with that sector written.
+    ensures moments { D.is_honest device.old → IsSettled (D.state device.old).disk →
+        Through (D.history device.old) (D.history device.new) (D.state device.new)
+        (Amid (D.state device.old).events (WithOrWithout (D.state device.old).disk.present sector bytes.now)) }
+{
+    device.write(sector, bytes)?;
+    device.sync()
+}
+
+/// Writes blocks, and then the root. After `Ok` all is durable.
+pub fn put<D: Device>(
+    device: &mut D,
+    blocks: &[Block],
+    root: u32,
+    bytes: &[u8; 4096],
+) -> Result<(), DeviceError>
+    requires blocks { AreAt (λ s. s < D.sectors device.old) blocks.now }
+    requires root { root < D.sectors device.old }
+    ensures honest { D.is_honest device.old ↔ D.is_honest device.new }
+    ensures sectors { D.sectors device.new ≡ D.sectors device.old }
+    ensures failures { CountsFailure result (D.failures device.old) (D.failures device.new) }
+    ensures durable { D.is_honest device.old → OnOk result ((D.state device.new).disk ≡ settled (slice_set (with_all (D.state device.old).disk.present blocks.now) root bytes.now)) }
+    ensures console { D.is_honest device.old → SameConsole (D.state device.old) (D.state device.new) }
+
+    // At each moment a crash leaves the old root and all sectors but the blocks', or the new root and all blocks.
+    ensures moments { D.is_honest device.old → IsSettled (D.state device.old).disk →
+        Through (D.history device.old) (D.history device.new) (D.state device.new)
+        (Amid (D.state device.old).events (OldOrNew (D.state device.old).disk.present blocks.now root bytes.now)) }
+
+    // After `Ok` a crash leaves the new root and all blocks.
+    ensures new { D.is_honest device.old → OnOk result (EachImage
+        (λ image. image ≡ slice_set (with_all (D.state device.old).disk.present blocks.now) root bytes.now) (D.state device.new)) }
+{
+    put_blocks(device, blocks)?;
+    save(device, root, bytes)
+}
