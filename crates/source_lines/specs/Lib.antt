@@ -1,0 +1,9 @@
+pub mod Cut
+pub mod Faults
+pub mod Format
+pub mod Indicator
+pub mod Line
+pub mod Literal
+pub mod Paragraph
+pub mod Reading
+pub use Rattle.answers.specs.Answer

@@ -1,0 +1,13 @@
+pub mod Faults
+pub mod Characters
+pub mod Spelling
+pub mod Words
+pub mod Contexts
+pub mod Literals
+pub mod Pictures
+pub mod Lexemes
+pub mod Scanning
+pub mod Tokens
+pub mod Spelled
+pub mod Kinds
+pub use Rattle.answers.specs.Answer

@@ -1,0 +1,62 @@
+-- Literals (COBOL-85, Nucleus, "Literals").
+use Rattle.std.specs.Prelude.{ℕ, ◌+◌, Bool, true, false, ◌||◌, if◌then◌else◌, ◌==◌, nat_lt, List, [], ◌∷◌, ◌++◌, length, take, drop, Option, None, Some, Ok}
+use Rattle.source_lines.specs.declared.lines.Character.{Character}
+use Rattle.source_lines.specs.declared.place.Place.{Place}
+use Rattle.tokens.specs.declared.character.Class.TheVariants as class
+use Rattle.tokens.specs.declared.fault.FaultKind.TheVariants as fault
+use Rattle.tokens.specs.declared.token.Sign.{Sign}
+use Rattle.tokens.specs.declared.token.Sign.TheVariants.{Unsigned, Plus, Minus}
+use Rattle.tokens.specs.declared.token.Kind.TheVariants as k
+use Rattle.tokens.specs.Characters.{bytes, run, begins}
+use Rattle.tokens.specs.Words.{Outcome, refused, token}
+
+-- ---- numeric literals: 1 to 18 digits, at most one point, not last, a sign directly before them
+
+abbrev pub after_point : List Character → List Character
+after_point [] = []
+after_point (c ∷ more) = if c.byte == 46 then more else []
+
+-- a digit, or a point with a digit
+abbrev pub begins_number : List Character → Bool
+begins_number characters = begins class.Digit characters || begins class.Digit (after_point characters)
+
+abbrev pub sign_size : Sign → ℕ
+sign_size Unsigned = 0
+sign_size Plus = 1
+sign_size Minus = 1
+
+-- the size of the decimals with their point; without decimals a point is no part of the literal
+abbrev pub point_size : ℕ → ℕ
+point_size decimals = if decimals == 0 then 0 else 1
+
+-- The characters are those after the sign.
+unfoldable pub numeric : Place → Sign → List Character → Outcome
+numeric place sign characters =
+    let whole = run class.Digit characters in
+    let fraction = after_point (drop whole characters) in
+    let decimals = run class.Digit fraction in
+    if nat_lt 18 (whole + decimals) then refused fault.WrongNumericLiteral place
+    else Ok (token
+    (k.Numeric (record { sign = sign; whole = bytes (take whole characters); decimals = bytes (take decimals fraction) }))
+    (sign_size sign + whole + point_size decimals + decimals))
+
+-- ---- nonnumeric literals: 1 to 160 characters between two marks, the mark doubled inside for one
+
+-- The text up to the mark that closes it, and how many characters were passed with that mark. After a mark a second one
+-- stands for one, and anything else has closed the text.
+abbrev pub quoted : ℕ → Bool → List ℕ → ℕ → List Character → Option (List ℕ × ℕ)
+quoted mark true text size [] = Some (text, size)
+quoted mark false text size [] = None
+quoted mark true text size (c ∷ more) = if c.byte == mark then quoted mark false (text ++ mark ∷ []) (size + 1) more else Some (text, size)
+quoted mark false text size (c ∷ more) =
+    if c.byte == mark then quoted mark true text (size + 1) more else quoted mark false (text ++ c.byte ∷ []) (size + 1) more
+
+abbrev pub closed : Place → Option (List ℕ × ℕ) → Outcome
+closed place None = refused fault.WrongNonnumericLiteral place
+closed place (Some (text, size)) =
+    if length text == 0 || nat_lt 160 (length text) then refused fault.WrongNonnumericLiteral place
+    else Ok (token (k.Nonnumeric text) size)
+
+-- The characters are those after the opening mark.
+unfoldable pub nonnumeric : Place → ℕ → List Character → Outcome
+nonnumeric place mark characters = closed place (quoted mark false [] 1 characters)

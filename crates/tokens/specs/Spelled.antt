@@ -1,0 +1,84 @@
+-- What the characters of a token spell.
+use Rattle.std.specs.Prelude.{◌≡◌, ℕ, ◌-◌, true, if◌then◌else◌, ◌==◌, List, [], ◌∷◌, ◌++◌, take, drop, Option, None, Some}
+use Rattle.source_lines.specs.declared.lines.Character.{Character}
+use Rattle.tokens.specs.declared.character.Class.{Class}
+use Rattle.tokens.specs.declared.character.Class.TheVariants as class
+use Rattle.tokens.specs.declared.token.Kind.{Kind}
+use Rattle.tokens.specs.declared.token.Kind.TheVariants as k
+use Rattle.tokens.specs.declared.token.NumericLiteral.{NumericLiteral}
+use Rattle.tokens.specs.declared.token.Operator.{Operator}
+use Rattle.tokens.specs.declared.token.Operator.TheVariants as o
+use Rattle.tokens.specs.declared.token.Sign.{Sign}
+use Rattle.tokens.specs.declared.token.Sign.TheVariants.{Unsigned, Plus, Minus}
+use Rattle.tokens.specs.declared.token.Token.{Token}
+use Rattle.tokens.specs.Characters.{is_in, bytes, bytes_in_upper_case, begins}
+use Rattle.tokens.specs.Spelling.{reserved}
+
+abbrev pub operator_text : Operator → List ℕ
+operator_text o.Plus = 43 ∷ []
+operator_text o.Minus = 45 ∷ []
+operator_text o.Times = 42 ∷ []
+operator_text o.Divide = 47 ∷ []
+operator_text o.Equal = 61 ∷ []
+operator_text o.Greater = 62 ∷ []
+operator_text o.Less = 60 ∷ []
+operator_text o.GreaterOrEqual = 62 ∷ 61 ∷ []
+operator_text o.LessOrEqual = 60 ∷ 61 ∷ []
+
+-- each of these bytes is of the class
+abbrev pub All : Class → List ℕ → Type 0
+All class [] = Unit {0}
+All class (b ∷ more) = (is_in class b ≡ true) × All class more
+
+-- ---- literals (COBOL-85, Nucleus, "Literals")
+
+abbrev pub sign_text : Sign → List ℕ
+sign_text Unsigned = []
+sign_text Plus = 43 ∷ []
+sign_text Minus = 45 ∷ []
+
+-- the decimals with the point before them
+abbrev pub decimals_text : List ℕ → List ℕ
+decimals_text [] = []
+decimals_text (d ∷ more) = 46 ∷ d ∷ more
+
+-- the text is the literal's sign, digits, and decimals after a point
+abbrev pub IsNumber : NumericLiteral → List Character → Type 0
+IsNumber literal text =
+    (bytes text ≡ sign_text literal.sign ++ (literal.whole ++ decimals_text literal.decimals)) × All class.Digit literal.whole × All class.Digit literal.decimals
+
+abbrev pub doubled : ℕ → List ℕ → List ℕ
+doubled mark [] = []
+doubled mark (b ∷ more) = if b == mark then mark ∷ mark ∷ doubled mark more else b ∷ doubled mark more
+
+-- the text is the literal between two of these marks, with each such mark in it doubled
+abbrev pub IsQuoted : ℕ → List ℕ → List Character → Type 0
+IsQuoted mark literal text = (is_in class.Mark mark ≡ true) × (bytes text ≡ mark ∷ (doubled mark literal ++ (mark ∷ [])))
+
+-- ---- every kind
+
+abbrev pub Spells : Kind → List Character → Type 0
+Spells (k.Word word) text = (word ≡ bytes_in_upper_case text) × (reserved word ≡ None)
+Spells (k.Reserved word) text = reserved (bytes_in_upper_case text) ≡ Some word
+Spells (k.Picture picture) text = picture ≡ bytes text
+Spells k.Period text = bytes text ≡ 46 ∷ []
+Spells k.LeftParenthesis text = bytes text ≡ 40 ∷ []
+Spells k.RightParenthesis text = bytes text ≡ 41 ∷ []
+Spells (k.Operator one) text = bytes text ≡ operator_text one
+Spells (k.Numeric literal) text = IsNumber literal text
+Spells (k.Nonnumeric literal) text = (mark : ℕ) × IsQuoted mark literal text
+
+-- A front that is no token is one space, comma or semicolon.
+abbrev pub Front : Option Kind → ℕ → List Character → Type 0
+Front None size characters = (size ≡ 1) × (begins class.Separator characters ≡ true)
+Front (Some kind) size characters = Spells kind (take size characters)
+
+-- each token's kind is what the slice of the characters at its span spells
+abbrev pub Spelled : List Character → List Token → Type 0
+Spelled characters [] = Unit {0}
+Spelled characters (t ∷ more) = Spells t.kind (take (t.span.end - t.span.start) (drop t.span.start characters)) × Spelled characters more
+
+-- the characters from this one on up to the first span, between spans, and after the last one, are spaces, commas and semicolons
+abbrev pub Separated : ℕ → List Character → List Token → Type 0
+Separated from characters [] = All class.Separator (bytes (drop from characters))
+Separated from characters (t ∷ more) = All class.Separator (bytes (take (t.span.start - from) (drop from characters))) × Separated t.span.end characters more

@@ -1,0 +1,39 @@
+-- Words (COBOL-85, Nucleus, "COBOL words"): at most 30 letters, digits and hyphens, a hyphen not last. A word without a hyphen last and with
+-- more than 30 characters, or with a hyphen last, is refused whole: own choice.
+use Rattle.std.specs.Prelude.{ℕ, ◌||◌, if◌then◌else◌, nat_lt, List, take, Option, None, Some, Result, Ok, Err}
+use Rattle.source_lines.specs.declared.lines.Character.{Character}
+use Rattle.source_lines.specs.declared.place.Place.{Place}
+use Rattle.tokens.specs.declared.character.Class.TheVariants as class
+use Rattle.tokens.specs.declared.fault.Fault.{Fault}
+use Rattle.tokens.specs.declared.fault.FaultKind.{FaultKind}
+use Rattle.tokens.specs.declared.fault.FaultKind.TheVariants as fault
+use Rattle.tokens.specs.declared.lexeme.Lexeme.{Lexeme}
+use Rattle.tokens.specs.declared.reserved.Reserved.{Reserved}
+use Rattle.tokens.specs.declared.token.Kind.{Kind}
+use Rattle.tokens.specs.declared.token.Kind.TheVariants as k
+use Rattle.tokens.specs.Characters.{bytes_in_upper_case, run, ends}
+use Rattle.tokens.specs.Spelling.{reserved}
+
+-- a token or a separator at the front of some characters, or why there is none
+abbrev pub Outcome : Type 0
+Outcome = Result Lexeme Fault
+
+abbrev pub refused : FaultKind → Place → Outcome
+refused kind place = Err (record { kind = kind; place = place })
+
+abbrev pub token : Kind → ℕ → Lexeme
+token kind size = record { kind = Some kind; size = size }
+
+abbrev pub word_or_reserved : List ℕ → Option Reserved → Kind
+word_or_reserved text None = k.Word text
+word_or_reserved text (Some word) = k.Reserved word
+
+-- the kind of a word in upper case
+abbrev pub kind_of_word : List ℕ → Kind
+kind_of_word text = word_or_reserved text (reserved text)
+
+unfoldable pub word : Place → List Character → Outcome
+word place characters =
+    let size = run class.InWord characters in
+    if nat_lt 30 size || ends class.Hyphen (take size characters) then refused fault.WrongWord place
+    else Ok (token (kind_of_word (bytes_in_upper_case (take size characters))) size)

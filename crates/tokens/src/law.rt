@@ -1,0 +1,29 @@
+//! The laws of the definitions.
+
+ghost use Rattle.std.specs.Prelude.{◌≡◌, ◌∷◌, ◌++◌, List, length, Option};
+ghost use Rattle.source_lines.specs.declared.lines.Character.{Character};
+ghost use Rattle.tokens.specs.declared.context.Context.{Context};
+ghost use Rattle.tokens.specs.declared.token.Kind.{Kind};
+ghost use Rattle.tokens.specs.declared.token.Token.{Token};
+ghost use Rattle.tokens.specs.Kinds.{IsFront};
+ghost use Rattle.tokens.specs.Scanning as spec;
+ghost use Rattle.tokens.specs.Tokens.{TokensOf, NoLonger, InOrder, Placed};
+ghost use Rattle.tokens.specs.Spelled.{Spelled, Separated};
+
+/// Characters have at most one list of tokens, the one that `scan` answers, and its spans and places are theirs.
+pub fn laws()
+    // What the function answers is in the relation.
+    ensures answered { (characters : List Character) (found : List Token) → spec.tokens characters ≡ Ok found → TokensOf characters found }
+    // What is in the relation is what the function answers.
+    ensures only { (characters : List Character) (found : List Token) → TokensOf characters found → spec.tokens characters ≡ Ok found }
+    // A token or separator is the longest that can begin at its place, after what stands before it.
+    ensures longest { (before : Context) (kind : Option Kind) (c : Character) (text rest : List Character) → IsFront before kind (c ∷ text) rest → NoLonger before c (text ++ rest) (c ∷ text) }
+    // Spans are in order, not empty and apart.
+    ensures spans { (characters : List Character) (found : List Token) → spec.tokens characters ≡ Ok found → InOrder 0 (length characters) found }
+    // A token's place is that of its first character.
+    ensures places { (characters : List Character) (found : List Token) → spec.tokens characters ≡ Ok found → Placed characters found }
+    // Each token's kind is what the characters at its span spell.
+    ensures texts { (characters : List Character) (found : List Token) → spec.tokens characters ≡ Ok found → Spelled characters found }
+    // What lies before, between and after the spans is separators.
+    ensures separators { (characters : List Character) (found : List Token) → spec.tokens characters ≡ Ok found → Separated 0 characters found }
+{}

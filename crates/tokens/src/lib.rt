@@ -1,0 +1,21 @@
+//! From the characters of a source text to its one list of tokens: what `scan` answers is what the definition of tokens says.
+#![tactic(auto)]
+
+mod character;
+mod context;
+mod fault;
+mod law;
+mod lexeme;
+mod literal;
+mod picture;
+pub mod reserved;
+mod scanner;
+mod spelling;
+pub mod token;
+mod word;
+
+pub use fault::{Fault, FaultKind, TokenFault};
+pub use law::laws;
+pub use reserved::Reserved;
+pub use scanner::scan;
+pub use token::{Kind, NumericLiteral, Operator, Sign, Span, Token};

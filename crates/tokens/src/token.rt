@@ -1,0 +1,66 @@
+//! Tokens: the words, literals, pictures, operators and separators of a source text.
+
+use crate::reserved::Reserved;
+use source_lines::Place;
+use sqlite_items::Items;
+
+/// The sign that stands directly before a numeric literal.
+#[derive(Clone, Copy, Debug, PartialEq, Eq)]
+pub enum Sign {
+    Unsigned,
+    Plus,
+    Minus,
+}
+
+/// A numeric literal as it was written: ASCII digits before and after the point. Without a point there are no decimals.
+#[derive(Debug, Drop)]
+pub struct NumericLiteral {
+    pub sign: Sign,
+    pub whole: Items<u8>,
+    pub decimals: Items<u8>,
+}
+
+/// An arithmetic or relational operator.
+#[derive(Clone, Copy, Debug, PartialEq, Eq)]
+pub enum Operator {
+    Plus,
+    Minus,
+    Times,
+    Divide,
+    Equal,
+    Greater,
+    Less,
+    GreaterOrEqual,
+    LessOrEqual,
+}
+
+#[derive(Debug, Drop)]
+pub enum Kind {
+    Reserved(Reserved),
+    /// A user-defined word, in upper case.
+    Word(Items<u8>),
+    Numeric(NumericLiteral),
+    /// The bytes between the marks, a doubled mark as one.
+    Nonnumeric(Items<u8>),
+    /// The characters after PIC or PICTURE.
+    Picture(Items<u8>),
+    Period,
+    LeftParenthesis,
+    RightParenthesis,
+    Operator(Operator),
+}
+
+/// The characters of a token in the characters of its `Lines`, counted from 0: from `start` on, up to before `end`.
+#[derive(Clone, Copy, Debug, PartialEq, Eq)]
+pub struct Span {
+    pub start: usize,
+    pub end: usize,
+}
+
+#[derive(Debug, Drop)]
+pub struct Token {
+    pub kind: Kind,
+    pub span: Span,
+    /// Where its first character stands.
+    pub place: Place,
+}
