@@ -1,0 +1,14 @@
+pub mod Alignment
+pub mod Difference
+pub mod DigitRuns
+pub mod Examples
+pub mod Greatest
+pub mod Powers
+pub mod ProductLaws
+pub mod QuotientLaws
+pub mod Raised
+pub mod ReceiverLaws
+pub mod Receivers
+pub mod Rounds
+pub mod Signs
+pub mod SumLaws

@@ -1,0 +1,25 @@
+-- Numbers from and by their decimal digits (COBOL-85, Nucleus, numeric literals and the digit positions of a numeric item).
+use Rattle.std.specs.Prelude.{ℕ, Bool, ℤ, pos, List, [], ◌∷◌, ◌+◌, ◌-◌, ◌*◌, ◌/◌, ◌%◌, ◌^◌, ◌==◌, unsigned_abs, int_div, if◌then◌else◌, Option, Some, None, Result}
+use Rattle.decimal18.specs.Fraction.{Fraction, signed}
+use Rattle.decimal18.specs.Arithmetic.{intermediate}
+use Rattle.decimal18.specs.declared.size_error.Size.{Size}
+
+-- The number that ASCII digits stand for, behind those of n.
+abbrev pub digits_behind : ℕ → List ℕ → ℕ
+digits_behind n [] = n
+digits_behind n (c ∷ cs) = digits_behind (10 * n + (c - 48)) cs
+
+-- The number with this sign and these digits, the last of them decimals.
+unfoldable pub spelled : Bool → List ℕ → ℕ → Result Fraction Size
+spelled negative digits scale = intermediate (signed negative (digits_behind 0 digits)) scale
+
+-- The digit of n with so many digits to its right.
+abbrev pub digit_of : ℕ → ℕ → ℕ
+digit_of n place = n / 10 ^ place % 10
+
+-- The integer that the number is, if it is one.
+abbrev pub whole : Fraction → Option ℤ
+whole x =
+    if unsigned_abs x.coefficient % 10 ^ x.scale == 0
+    then Some (int_div x.coefficient (pos (10 ^ x.scale)))
+    else None

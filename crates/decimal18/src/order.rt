@@ -1,0 +1,86 @@
+ghost use Rattle.std.specs.Prelude.{◌≡◌, ◌<◌, ◌≤◌, ◌^◌, pos, ◌*ℤ◌, unsigned_abs};
+ghost use Rattle.std.specs.Ordering.{int_cmp};
+
+use crate::decimal::Dec;
+use crate::power::power_of_ten;
+use std::cmp::Ordering;
+
+/// The order of `left * 10^shift` and `right`.
+fn raised_order(left: i128, shift: u8, right: i128) -> Ordering
+    requires shift { shift ≤ 18 }
+    requires right { unsigned_abs right < 10 ^ 38 }
+    ensures { result ≡ int_cmp (left *ℤ pos (10 ^ shift)) right }
+{
+    match left.checked_mul(power_of_ten(shift) as i128) {
+        Some(raised) => raised.cmp(&right),
+        None if left < 0 => Ordering::Less,
+        None => Ordering::Greater,
+    }
+}
+
+impl Ord for Dec {
+    ghost use Rattle.std.specs.Prelude.{refl};
+    ghost use Rattle.decimal18.specs.Order.{order};
+    ghost use Rattle.decimal18.specs.TotalOrder.{order_total};
+
+    ghost cmp = { order };
+
+    ghost total = { order_total };
+
+    ghost matches_partial_cmp = { λ x y. refl };
+
+    ghost matches_eq = { λ x y. refl };
+
+    fn cmp(&self, other: &Dec) -> Ordering {
+        let (left, right) = (*self, *other);
+        if left.scale() <= right.scale() {
+            raised_order(
+                left.coefficient(),
+                right.scale() - left.scale(),
+                right.coefficient(),
+            )
+        } else {
+            raised_order(
+                right.coefficient(),
+                left.scale() - right.scale(),
+                left.coefficient(),
+            )
+            .reverse()
+        }
+    }
+}
+
+impl PartialOrd for Dec {
+    ghost use Rattle.std.specs.Prelude.{Some, refl};
+    ghost use Rattle.std.specs.Cmp.{partial_order_from_agreeing_total};
+    ghost use Rattle.decimal18.specs.Order.{order};
+    ghost use Rattle.decimal18.specs.TotalOrder.{order_total};
+
+    ghost partial_cmp = { λ x y. Some (order x y) };
+
+    ghost laws = { partial_order_from_agreeing_total order order_total (λ x y. refl) (λ x y. refl) };
+
+    fn partial_cmp(&self, other: &Dec) -> Option<Ordering> {
+        Some(self.cmp(other))
+    }
+}
+
+impl PartialEq for Dec {
+    ghost use Rattle.decimal18.specs.Order.{equals};
+    ghost use Rattle.std.specs.Cmp.{partial_equiv_from_equiv};
+    ghost use Rattle.decimal18.specs.TotalOrder.{equals_equiv};
+
+    ghost eq = { equals };
+
+    ghost laws = { partial_equiv_from_equiv equals_equiv };
+
+    fn eq(&self, other: &Dec) -> bool {
+        self.cmp(other) == Ordering::Equal
+    }
+}
+
+impl Eq for Dec {
+    ghost use Rattle.decimal18.specs.TotalOrder.{equals_equiv};
+
+    ghost laws = { equals_equiv };
+}

@@ -1,0 +1,155 @@
+-- A picture that is read is the picture of the text, and the only one; what its form bounds.
+use Rattle.std.proofs.Common.{◌≡◌, ◌≤◌, ◌+◌, ℕ, Bool, true, false, ◌||◌, if◌then◌else◌, List, [], ◌∷◌, length, Option, Some, None, Result, Ok, Err, IfOk, refl, sym, ap, ◌∙◌, subst, arith}
+use Rattle.answers.specs.Answer.{Gives}
+use Rattle.picture.specs.declared.run.Run.{Run}
+use Rattle.picture.specs.declared.picture.Picture.{Picture}
+use Rattle.picture.specs.declared.category.Category.{Category}
+use Rattle.picture.specs.declared.category.Category.TheVariants as k
+use Rattle.picture.specs.declared.class.Class.TheVariants as c
+use Rattle.picture.specs.declared.symbol.Symbol.{Symbol}
+use Rattle.picture.specs.declared.symbol.Symbol.TheVariants as s
+use Rattle.picture.specs.declared.symbol.Suppression.{Suppression}
+use Rattle.picture.specs.declared.symbol.Suppression.TheVariants as z
+use Rattle.picture.specs.declared.fault.PictureFault.{PictureFault}
+use Rattle.picture.specs.declared.fault.PictureFault.TheVariants as faults
+use Rattle.picture.specs.Faults.{fault_of, or_no_form}
+use Rattle.picture.specs.Symbols.{has, is_nine, is_by, is_floating, least}
+use Rattle.picture.specs.Runs.{from_first, occurrences}
+use Rattle.picture.specs.Forms.{IsEdited, digit_places, suppression_of}
+use Rattle.picture.specs.Categories.{HasForm}
+use Rattle.picture.specs.Deciding.{category_of}
+use Rattle.picture.specs.Text.{Spells, runs_of}
+use Rattle.picture.specs.Pictures.{IsPicture, IsAnswer, IsBounded, described, of_digits, of_characters, of_category, of_runs, picture_of, scale_of}
+use Rattle.picture.proofs.Counts.{scale_within}
+use Rattle.picture.proofs.Forms.{category_found, category_only}
+use Rattle.picture.proofs.Places.{length-places}
+use Rattle.picture.proofs.Texts.{runs_spelled, runs_answered}
+
+-- ---- exact both ways
+
+is_described : (text : List ℕ) (category : Category) (runs : List Run) → length text ≤ 30 → Spells runs text → HasForm category runs → IsPicture text (described category runs)
+unfolding of_digits of_characters
+is_described text k.Alphabetic runs short spelled form = record { short = short; spelled = spelled; form = form; told = refl }
+is_described text k.Alphanumeric runs short spelled form = record { short = short; spelled = spelled; form = form; told = refl }
+is_described text k.AlphanumericEdited runs short spelled form = record { short = short; spelled = spelled; form = form; told = refl }
+is_described text k.Numeric runs short spelled form = record { short = short; spelled = spelled; form = form; told = refl }
+is_described text k.NumericEdited runs short spelled form = record { short = short; spelled = spelled; form = form; told = refl }
+
+some_is : {A : Type 0} {a b : A} → Some a ≡ Some b → a ≡ b
+some_is e = cc
+
+picture_found : (text : List ℕ) (picture : Picture) → picture_of text ≡ Some picture → IsPicture text picture
+unfolding picture_of
+picture_found text picture e = go (runs_of text) refl e
+  where
+    inner : (runs : List Run) → runs_of text ≡ Some runs → (o : Option Category) → category_of runs ≡ o → of_category runs o ≡ Some picture → IsPicture text picture
+    inner runs read None is e = cc
+    inner runs read (Some category) is e =
+        let spelled = runs_spelled text runs read in
+        subst (IsPicture text) (some_is e) (is_described text category runs spelled.1 spelled.0 (category_found runs category is))
+
+    go : (o : Option (List Run)) → runs_of text ≡ o → of_runs o ≡ Some picture → IsPicture text picture
+    go None is e = cc
+    go (Some runs) is e = inner runs is (category_of runs) refl e
+
+picture_answered : (text : List ℕ) (picture : Picture) → IsPicture text picture → picture_of text ≡ Some picture
+unfolding picture_of
+picture_answered text picture h =
+    ap of_runs (runs_answered text picture.runs h.spelled h.short) ∙ ap (of_category picture.runs) (category_only picture.runs picture.category h.form) ∙ ap Some (sym h.told)
+
+-- Each text has at most one form.
+pub one_form : (text : List ℕ) (one other : Picture) → IsPicture text one → IsPicture text other → one ≡ other
+one_form text one other h g = some_is (sym (picture_answered text one h) ∙ picture_answered text other g)
+
+found_is : (o : Option Picture) (picture : Picture) → or_no_form o ≡ Ok picture → o ≡ Some picture
+found_is None picture e = cc
+found_is (Some p) picture e = cc
+
+pub answer_form : (text : List ℕ) (result : Result Picture PictureFault) → Gives (λ p. p) fault_of result (or_no_form (picture_of text)) → IfOk result (λ picture. IsPicture text picture)
+answer_form text (Ok picture) g = picture_found text picture (found_is (picture_of text) picture g)
+answer_form text (Err e) g = tt
+
+pub answer_only : (text : List ℕ) (result : Result Picture PictureFault) → Gives (λ p. p) fault_of result (or_no_form (picture_of text))
+    → (picture : Picture) → IsPicture text picture → IsAnswer picture result
+answer_only text (Ok answer) g picture h = let e = picture_answered text picture h in let f = found_is (picture_of text) answer g in some_is (sym f ∙ e)
+answer_only text (Err faults.Memory) g picture h = tt
+answer_only text (Err faults.NoForm) g picture h = let e = ap or_no_form (picture_answered text picture h) in cc
+
+-- ---- bounds
+
+split_digit : (by : Suppression) (x : Symbol) (n : ℕ) → (if is_nine x || is_by by x then n else 0) ≡ (if is_nine x then n else 0) + (if is_by by x then n else 0)
+split_digit by s.Nine n = nine by
+  where
+    nine : (by : Suppression) → n ≡ n + (if is_by by s.Nine then n else 0)
+    nine z.Nothing = omega arith
+    nine z.Spaces = omega arith
+    nine z.Asterisks = omega arith
+    nine z.FloatingCurrency = omega arith
+    nine z.FloatingPlus = omega arith
+    nine z.FloatingMinus = omega arith
+split_digit by s.A n = omega arith
+split_digit by s.X n = omega arith
+split_digit by s.S n = omega arith
+split_digit by s.V n = omega arith
+split_digit by s.B n = omega arith
+split_digit by s.Zero n = omega arith
+split_digit by s.Slash n = omega arith
+split_digit by s.Comma n = omega arith
+split_digit by s.Point n = omega arith
+split_digit by s.Z n = omega arith
+split_digit by s.Star n = omega arith
+split_digit by s.Plus n = omega arith
+split_digit by s.Minus n = omega arith
+split_digit by s.Currency n = omega arith
+split_digit by s.Cr n = omega arith
+split_digit by s.Db n = omega arith
+
+nines : List Run → ℕ
+nines [] = 0
+nines (run ∷ more) = (if is_nine run.symbol then run.count else 0) + nines more
+
+split_digits : (by : Suppression) (runs : List Run) → occurrences (c.Digits by) runs ≡ nines runs + occurrences (c.Suppressed by) runs
+unfolding occurrences has nines
+split_digits by [] = refl
+split_digits by (run ∷ more) = let one = split_digit by run.symbol run.count in let h = split_digits by more in omega arith
+
+nines_rest : (runs : List Run) → nines (from_first c.Points runs) ≤ nines runs
+unfolding from_first nines
+nines_rest [] = omega arith
+nines_rest (run ∷ more) = go (has c.Points run.symbol) (nines_rest more)
+  where
+    go : (b : Bool) → nines (from_first c.Points more) ≤ nines more → nines (if b then run ∷ more else from_first c.Points more) ≤ nines (run ∷ more)
+    go true h = omega arith
+    go false h = omega arith
+
+floats_two : (by : Suppression) → (if is_floating by then 1 else 0) ≤ least by
+floats_two z.Nothing = omega arith
+floats_two z.Spaces = omega arith
+floats_two z.Asterisks = omega arith
+floats_two z.FloatingCurrency = omega arith
+floats_two z.FloatingPlus = omega arith
+floats_two z.FloatingMinus = omega arith
+
+scale_edited : (by : Suppression) (runs : List Run) → IsEdited by runs → scale_of by runs ≤ digit_places by runs
+unfolding scale_of
+scale_edited by runs h =
+    let all = split_digits by runs in let after = split_digits by (from_first c.Points runs) in
+    let fewer = nines_rest runs in let two = floats_two by in let before = h.before_point in
+    omega arith
+
+scale_numeric : (runs : List Run) → scale_of z.Nothing runs ≤ digit_places z.Nothing runs
+scale_numeric runs = let h = scale_within z.Nothing runs in omega arith
+
+within : (category : Category) (runs : List Run) → HasForm category runs → IsBounded (described category runs)
+unfolding of_digits of_characters
+within k.Alphabetic runs h = (refl, refl)
+within k.Alphanumeric runs h = (refl, refl)
+within k.AlphanumericEdited runs h = (refl, refl)
+within k.Numeric runs h =
+    (h.arranged.digits.0, h.arranged.digits.1, scale_numeric runs, length-places z.Nothing runs)
+within k.NumericEdited runs h =
+    let by = suppression_of runs in
+    ((h.arranged.digits.0, h.arranged.digits.1, scale_edited by runs h.arranged, length-places by runs), h.arranged.fits)
+
+pub bounds : (text : List ℕ) (picture : Picture) → IsPicture text picture → IsBounded picture
+bounds text picture h = subst IsBounded (sym h.told) (within picture.category picture.runs h.form)

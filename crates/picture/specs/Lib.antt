@@ -1,0 +1,9 @@
+pub mod Symbols
+pub mod Runs
+pub mod Forms
+pub mod Categories
+pub mod Deciding
+pub mod Text
+pub mod Faults
+pub mod Places
+pub mod Pictures

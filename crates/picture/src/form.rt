@@ -1,0 +1,29 @@
+//! What holds of every form.
+
+ghost use Rattle.std.specs.Prelude.{◌≡◌, ℕ, List};
+ghost use Rattle.picture.specs.Forms.{whole, some_of, stretch, numeric_arrangement, any_numeric_arrangement, arrangement, any_arrangement};
+ghost use Rattle.picture.specs.Pictures.{IsPicture, IsBounded};
+
+use crate::class::Class;
+use crate::picture::Picture;
+use crate::run::Run;
+use crate::symbol::Suppression;
+
+/// Each text is one picture at the most.
+pub fn one_form()
+    ensures { (text : List ℕ) (one other : Picture) → IsPicture text one → IsPicture text other → one ≡ other }
+{}
+
+/// Digit places are 1 to 18 in numeric and numeric edited pictures and 0 in others, the scale is at most the digit places, and
+/// an edited picture has at most 160 places.
+pub fn bounds()
+    ensures { (text : List ℕ) (picture : Picture) → IsPicture text picture → IsBounded picture }
+{}
+
+/// However a picture can be divided into its parts, it can be where each part takes all that it can.
+pub fn any_division()
+    // Pictures of characters, which are one stretch.
+    ensures characters { (class : Class) (runs : List Run) → whole (some_of class) runs → whole (stretch class) runs }
+    ensures numeric { (runs : List Run) → whole any_numeric_arrangement runs → whole numeric_arrangement runs }
+    ensures edited { (by : Suppression) (runs : List Run) → whole (any_arrangement by runs) runs → whole (arrangement by runs) runs }
+{}
