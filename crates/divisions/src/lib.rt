@@ -1,0 +1,11 @@
+//! From the tokens of a source text to its one tree, or to the fault that says where reading stopped.
+#![tactic(auto)]
+
+mod body;
+mod fault;
+mod identification;
+mod paragraphs;
+mod program;
+
+pub use fault::{Fault, FaultKind, ParseFault};
+pub use program::{one_tree, parse};

@@ -1,0 +1,62 @@
+//! Programs.
+
+ghost use Rattle.std.specs.Prelude.{[], ◌≡◌, ℕ, List, IfOk};
+ghost use Rattle.answers.specs.Answer.{Gives};
+ghost use Rattle.grammar.specs.Reading.{Reads};
+ghost use Rattle.statements.specs.Spelling.{max_nesting};
+ghost use Rattle.tokens.specs.declared.token.Token.{Token};
+ghost use Rattle.source_tree.specs.declared.program.Program.{Program};
+ghost use Rattle.divisions.specs.Spelling.{Spells};
+ghost use Rattle.divisions.specs.Reading as spec;
+ghost use Rattle.divisions.specs.Faults.{fault_of, parse_of, IsAnswer};
+
+use crate::body::procedure;
+use crate::fault::{ParseFault, refusal};
+use crate::identification::{ending, identification};
+use grammar::{ReadFault, Tokens};
+use source_tree::{Program, Section};
+use sqlite_items::Items;
+use std::alloc::Global;
+use tokens::Token;
+
+/// A program that is all of the tokens.
+#[tactic(auto, unfolding(crate::specs::Reading::program))]
+fn program(alloc: Global, tokens: &[Token]) -> Result<Program, ReadFault>
+    ensures { Reads (spec.program max_nesting tokens.now) result [] }
+{
+    let mut tokens = Tokens::new(tokens);
+    let name = identification(alloc, &mut tokens)?;
+    let paragraphs = procedure(alloc, &mut tokens)?;
+    ending(alloc, &mut tokens)?;
+    tokens.expect_end()?;
+    let mut sections = Items::new(alloc);
+    sections.push(Section {
+        name: None,
+        paragraphs,
+    })?;
+    Ok(Program { name, sections })
+}
+
+/// The tree of a source text, by its tokens (COBOL-85, Nucleus, "Structure of a program").
+///
+/// `Refused` with number 30 where no tree spells the tokens, at the token where reading stopped; with 31 where
+/// statements stand in one another more than 64 deep, at the statement that is one too deep.
+pub fn parse(alloc: Global, tokens: &[Token]) -> Result<Program, ParseFault>
+    // What is answered spells the tokens.
+    ensures spelled { IfOk result (λ tree. Spells max_nesting tree tokens.now) }
+    // What spells the tokens is answered, unless it nests too deep or memory runs out.
+    ensures only { (depth : ℕ) (tree : Program) → Spells depth tree tokens.now → IsAnswer depth tree result }
+    // The tree or the fault, with its place, is what reading gives.
+    ensures reads { Gives (λ (tree : Program). tree) fault_of result (parse_of tokens.now) }
+{
+    match program(alloc, tokens) {
+        Ok(tree) => Ok(tree),
+        Err(ReadFault::Memory) => Err(ParseFault::Memory),
+        Err(ReadFault::Halted(halt)) => Err(ParseFault::Refused(refusal(tokens, halt))),
+    }
+}
+
+/// No tokens are spelled by two trees, however deep they nest.
+pub fn one_tree()
+    ensures { (depth depth' : ℕ) (tree tree' : Program) (tokens : List Token) → Spells depth tree tokens → Spells depth' tree' tokens → tree ≡ tree' }
+{}

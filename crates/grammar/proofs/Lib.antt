@@ -1,0 +1,5 @@
+pub mod Turns
+pub mod Outcomes
+pub mod Looking
+pub mod Lists
+pub mod Parts

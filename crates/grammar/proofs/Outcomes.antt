@@ -1,0 +1,43 @@
+-- What reading in steps gives.
+use Rattle.std.proofs.Common.{◌≡◌, ◌∙◌, ℕ, List, Ok, Err, refl, sym, ap, subst}
+use Rattle.tokens.specs.declared.token.Token.{Token}
+use Rattle.grammar.specs.declared.fault.Halt.TheVariants.{TooDeep}
+use Rattle.grammar.specs.Reading.{Outcome, Parser, and_then}
+
+-- Reading answers this and nothing else, but where Deep holds it may find that statements nest too deep.
+pub data Answers (Deep : Type 0) {A : Type 0} (reading : Outcome A) (a : A) (rest : List Token) : Type 0 where
+  Reached : reading ≡ Ok (a, rest) → Answers Deep reading a rest
+  Sunk : Deep → (left : ℕ) → reading ≡ Err (TooDeep left) → Answers Deep reading a rest
+
+pub step : {Deep A B : Type 0} (first : Outcome A) (f : A → Parser B) {a : A} {middle : List Token} {b : B} {rest : List Token}
+    → Answers Deep first a middle → Answers Deep (f a middle) b rest → Answers Deep (and_then first f) b rest
+step {Deep = Deep} first f {b = b} {rest = rest} (Reached e) next = subst (λ o. Answers Deep (and_then o f) b rest) (sym e) next
+step first f (Sunk deep left e) next = Sunk deep left (ap (λ o. and_then o f) e)
+
+-- the first step of what was read, handed on
+pub unstep : {A B : Type 0} (first : Outcome A) (f : A → Parser B) {b : B} {rest : List Token} {Q : Type 0} → and_then first f ≡ Ok (b, rest)
+    → ((a : A) (middle : List Token) → first ≡ Ok (a, middle) → f a middle ≡ Ok (b, rest) → Q) → Q
+unstep (Ok p) f e go = go p.0 p.1 refl e
+unstep (Err fault) f e go = cc
+
+abbrev pub got : {A : Type 0} → A → List Token → Outcome A
+got a rest = Ok (a, rest)
+
+ok : {A : Type 0} → A × List Token → Outcome A
+ok x = Ok x
+
+same : {A : Type 0} {x y : A × List Token} → ok x ≡ ok y → x ≡ y
+unfolding ok
+same e = cc
+
+pub value : {A : Type 0} {a b : A} {i j : List Token} → got a i ≡ got b j → a ≡ b
+unfolding ok
+value {A = A} {a = a} {b = b} {i = i} {j = j} e = ap (λ p. p.0) (same {x = (a, i)} {y = (b, j)} e)
+
+pub after : {A : Type 0} {a b : A} {i j : List Token} → got a i ≡ got b j → i ≡ j
+unfolding ok
+after {A = A} {a = a} {b = b} {i = i} {j = j} e = ap (λ p. p.1) (same {x = (a, i)} {y = (b, j)} e)
+
+-- the last step, which only hands on what was read
+pub last : {A B : Type 0} {first : Outcome A} {a : A} {middle rest : List Token} {b c : B} → first ≡ Ok (a, middle) → got b middle ≡ got c rest → first ≡ Ok (a, rest)
+last {a = a} is e = is ∙ ap (λ j. Ok (a, j)) (after e)

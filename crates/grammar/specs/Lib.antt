@@ -1,0 +1,3 @@
+pub mod Parts
+pub mod Reading
+pub use Rattle.answers.specs.Answer

@@ -1,0 +1,128 @@
+-- The parts of the grammar: which tokens spell what.
+use Rattle.std.specs.Prelude.{◌≡◌, ◌⊎◌, Bool, true, false, List, [], ◌∷◌, Option, Some, None}
+use Rattle.tokens.specs.declared.reserved.Reserved.{Reserved}
+use Rattle.tokens.specs.declared.token.Kind.{Kind}
+use Rattle.tokens.specs.declared.token.Kind.TheVariants as k
+use Rattle.tokens.specs.declared.token.Token.{Token}
+use Rattle.tokens.specs.declared.token.Sign.{Sign as WrittenSign}
+use Rattle.tokens.specs.declared.token.Sign.TheVariants as written
+use Rattle.tokens.specs.declared.token.NumericLiteral.{NumericLiteral as WrittenNumber}
+use Rattle.source_tree.specs.declared.place.Place.{Place}
+use Rattle.source_tree.specs.declared.name.Name.{Name}
+use Rattle.source_tree.specs.declared.literal.Sign.{Sign}
+use Rattle.source_tree.specs.declared.literal.Sign.TheVariants as sign
+use Rattle.source_tree.specs.declared.literal.NumericLiteral.{NumericLiteral}
+use Rattle.source_tree.specs.declared.literal.LiteralValue.TheVariants as value
+use Rattle.source_tree.specs.declared.literal.Literal.{Literal}
+
+-- A part of a text, by the tokens from where it begins and the tokens from where it ends.
+abbrev pub Part : Type 1
+Part = List Token → List Token → Type 0
+
+infixr 20 ◌then◌
+abbrev pub ◌then◌ : Part → Part → Part
+p then q = λ from rest. (middle : List Token) × p from middle × q middle rest
+
+infixr 25 ◌or◌
+abbrev pub ◌or◌ : Part → Part → Part
+p or q = λ from rest. p from rest ⊎ q from rest
+
+-- Nothing, where p does not stand.
+abbrev pub without : Part → Part
+without p = λ from rest. (from ≡ rest) × ((after : List Token) → p from after → ⊥)
+
+-- `[p]`: it is left out only where it does not stand.
+abbrev pub optional : Part → Part
+optional p = p or without p
+
+-- `[p]`, told by whether it is left out
+abbrev pub absent : Part → Bool → Part
+absent p true = without p
+absent p false = p
+
+-- `p...`: any number, up to where no more can begin.
+abbrev pub any : {A : Type 0} → (A → Part) → (List Token → Bool) → List A → Part
+any p begins [] = λ from rest. (from ≡ rest) × (begins from ≡ false)
+any p begins (one ∷ more) = p one then any p begins more
+
+-- `p...`: one or more, up to where no more can begin.
+abbrev pub several : {A : Type 0} → (A → Part) → (List Token → Bool) → List A → Part
+several p begins [] = λ from rest. ⊥
+several p begins (one ∷ more) = p one then any p begins more
+
+-- ---- parts of one token
+
+-- A token of this kind.
+abbrev pub token : Kind → Part
+token kind = λ from rest. (one : Token) × (from ≡ one ∷ rest) × (one.kind ≡ kind)
+
+abbrev pub word : Reserved → Part
+word one = token (k.Reserved one)
+
+abbrev pub period : Part
+period = token k.Period
+
+-- A token that `tells` this.
+abbrev pub telling : {A : Type 0} → (Token → Option A) → A → Part
+telling tells a = λ from rest. (one : Token) × (from ≡ one ∷ rest) × (tells one ≡ Some a)
+
+abbrev pub is_told : {A : Type 0} → Option A → Bool
+is_told None = false
+is_told (Some a) = true
+
+abbrev pub begins_telling : {A : Type 0} → (Token → Option A) → List Token → Bool
+begins_telling tells [] = false
+begins_telling tells (one ∷ more) = is_told (tells one)
+
+-- ---- places
+
+abbrev pub place_in : Token → Place
+place_in one = record { line = one.place.line; column = one.place.column }
+
+abbrev pub place_at : List Token → Option Place
+place_at [] = None
+place_at (one ∷ more) = Some (place_in one)
+
+-- What follows begins at this place.
+abbrev pub here : Place → Part
+here place = λ from rest. (from ≡ rest) × (place_at from ≡ Some place)
+
+-- ---- names
+
+-- A user-defined word in upper case is a name (COBOL-85, Nucleus, "User-defined words").
+abbrev pub named_by : Kind → Place → Option Name
+named_by (k.Word characters) place = Some (record { characters = characters; place = place })
+named_by _ place = None
+
+abbrev pub name_in : Token → Option Name
+name_in one = named_by one.kind (place_in one)
+
+abbrev pub name : Name → Part
+name = telling name_in
+
+abbrev pub begins_name : List Token → Bool
+begins_name = begins_telling name_in
+
+-- ---- literals
+
+abbrev pub sign_in : WrittenSign → Sign
+sign_in written.Unsigned = sign.Unsigned
+sign_in written.Plus = sign.Plus
+sign_in written.Minus = sign.Minus
+
+abbrev pub number_in : WrittenNumber → NumericLiteral
+number_in n = record { sign = sign_in n.sign; whole = n.whole; decimals = n.decimals }
+
+abbrev pub value_in : Kind → Place → Option Literal
+value_in (k.Numeric number) place = Some (record { value = value.Numeric (number_in number); place = place })
+value_in (k.Nonnumeric bytes) place = Some (record { value = value.Nonnumeric bytes; place = place })
+value_in _ place = None
+
+abbrev pub literal_in : Token → Option Literal
+literal_in one = value_in one.kind (place_in one)
+
+abbrev pub literal : Literal → Part
+literal = telling literal_in
+
+abbrev pub begins_literal : List Token → Bool
+begins_literal = begins_telling literal_in

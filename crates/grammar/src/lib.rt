@@ -1,0 +1,15 @@
+//! The cursor over tokens and the parts that every rule of the grammar is built of: words, names, literals, lists. What is
+//! read is what the rule spells, and what it spells is read: laws stated once, of whatever rules come.
+#![tactic(auto)]
+
+mod cursor;
+mod fault;
+mod literals;
+mod names;
+mod words;
+
+pub use cursor::Tokens;
+pub use fault::{Halt, ReadFault};
+pub use literals::{begins_literal, literal};
+pub use names::{begins_name, name};
+pub use words::{after_word, is_word, past_word};

@@ -1,0 +1,64 @@
+//! Literals.
+
+ghost use Rattle.std.specs.Prelude.{◌≡◌, IfOk};
+ghost use Rattle.grammar.specs.Parts as grammar;
+ghost use Rattle.grammar.specs.Reading as spec;
+ghost use Rattle.grammar.specs.Reading.{Reads};
+
+use crate::cursor::Tokens;
+use crate::fault::ReadFault;
+use source_tree::{Literal, LiteralValue, NumericLiteral, Sign};
+use sqlite_items::Items;
+use std::alloc::{AllocError, Global};
+use tokens::Kind;
+
+/// The next token is a literal.
+pub fn begins_literal(tokens: &Tokens<'_>) -> bool
+    ensures { result ≡ grammar.begins_literal tokens.now }
+{
+    match tokens.rest() {
+        [next, ..] => matches!(next.kind, Kind::Numeric(_) | Kind::Nonnumeric(_)),
+        [] => false,
+    }
+}
+
+fn sign(sign: tokens::Sign) -> Sign
+    ensures { result ≡ grammar.sign_in sign }
+{
+    match sign {
+        tokens::Sign::Unsigned => Sign::Unsigned,
+        tokens::Sign::Plus => Sign::Plus,
+        tokens::Sign::Minus => Sign::Minus,
+    }
+}
+
+/// A copy for the tree.
+fn number(alloc: Global, number: &tokens::NumericLiteral) -> Result<NumericLiteral, AllocError>
+    ensures { IfOk result (λ copy. copy ≡ grammar.number_in number.now) }
+{
+    Ok(NumericLiteral {
+        sign: sign(number.sign),
+        whole: Items::from_slice(alloc, number.whole.as_slice())?,
+        decimals: Items::from_slice(alloc, number.decimals.as_slice())?,
+    })
+}
+
+/// A numeric or nonnumeric literal.
+#[tactic(auto, unfolding(crate::specs::Reading::literal, crate::specs::Reading::one_token, crate::specs::Reading::here))]
+pub fn literal(alloc: Global, tokens: &mut Tokens<'_>) -> Result<Literal, ReadFault>
+    ensures { Reads (spec.literal tokens.old) result tokens.new }
+{
+    let place = tokens.here()?;
+    let [next, rest @ ..] = tokens.rest() else {
+        return Err(tokens.refuse());
+    };
+    let value = match &next.kind {
+        Kind::Numeric(written) => LiteralValue::Numeric(number(alloc, written)?),
+        Kind::Nonnumeric(bytes) => {
+            LiteralValue::Nonnumeric(Items::from_slice(alloc, bytes.as_slice())?)
+        }
+        _ => return Err(tokens.refuse()),
+    };
+    tokens.go_to(rest);
+    Ok(Literal { value, place })
+}

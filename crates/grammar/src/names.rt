@@ -1,0 +1,42 @@
+//! Names.
+
+ghost use Rattle.std.specs.Prelude.{◌≡◌};
+ghost use Rattle.grammar.specs.Parts as grammar;
+ghost use Rattle.grammar.specs.Reading as spec;
+ghost use Rattle.grammar.specs.Reading.{Reads};
+
+use crate::cursor::Tokens;
+use crate::fault::ReadFault;
+use source_tree::Name;
+use sqlite_items::Items;
+use std::alloc::Global;
+use tokens::Kind;
+
+/// The next token is a user-defined word.
+pub fn begins_name(tokens: &Tokens<'_>) -> bool
+    ensures { result ≡ grammar.begins_name tokens.now }
+{
+    match tokens.rest() {
+        [next, ..] => matches!(next.kind, Kind::Word(_)),
+        [] => false,
+    }
+}
+
+/// A user-defined word.
+#[tactic(auto, unfolding(crate::specs::Reading::name, crate::specs::Reading::one_token, crate::specs::Reading::here))]
+pub fn name(alloc: Global, tokens: &mut Tokens<'_>) -> Result<Name, ReadFault>
+    ensures { Reads (spec.name tokens.old) result tokens.new }
+{
+    let place = tokens.here()?;
+    match tokens.rest() {
+        [next, rest @ ..] => match &next.kind {
+            Kind::Word(word) => {
+                let characters = Items::from_slice(alloc, word.as_slice())?;
+                tokens.go_to(rest);
+                Ok(Name { characters, place })
+            }
+            _ => Err(tokens.refuse()),
+        },
+        [] => Err(tokens.refuse()),
+    }
+}

@@ -1,0 +1,108 @@
+-- Programs and what they do.
+use Rattle.std.proofs.Common.{◌≡◌, ℕ, true, false, List, [], ◌∷◌, ◌++◌, None, Some, refl}
+use Rattle.std.specs.Prelude.{map}
+use Rattle.station.specs.State.{Shown}
+use Rattle.source_tree.specs.declared.place.Place.{Place}
+use Rattle.source_tree.specs.declared.literal.Sign.TheVariants as sign
+use Rattle.source_tree.specs.declared.literal.LiteralValue.TheVariants.{Numeric, Nonnumeric}
+use Rattle.source_tree.specs.declared.statement.Operand.TheVariants as operand
+use Rattle.source_tree.specs.declared.statement.Operand.{Operand}
+use Rattle.source_tree.specs.declared.statement.Statement.{Statement}
+use Rattle.source_tree.specs.declared.statement.Statement.TheVariants.{Display, StopRun}
+use Rattle.source_tree.specs.declared.program.Paragraph.{Paragraph}
+use Rattle.source_tree.specs.declared.program.Program.{Program}
+use Rattle.source_tree.specs.State.{Stopped, Budget, Done}
+use Rattle.source_tree.specs.Display.{shown_literal, shown_display, line_feed}
+use Rattle.source_tree.specs.Meaning.{Run, meaning, exec, start}
+
+abbrev pub at : ℕ → ℕ → Place
+at line column = record { line = line; column = column }
+
+abbrev pub text : List ℕ → Operand
+text bytes = operand.Literal (record { value = Nonnumeric bytes; place = at 5 20 })
+
+abbrev pub number : List ℕ → List ℕ → Operand
+number whole decimals = operand.Literal (record { value = Numeric (record { sign = sign.Unsigned; whole = whole; decimals = decimals }); place = at 5 24 })
+
+-- HELLO
+abbrev pub hello_bytes : List ℕ
+hello_bytes = 72 ∷ 69 ∷ 76 ∷ 76 ∷ 79 ∷ []
+
+-- IDENTIFICATION DIVISION. / PROGRAM-ID. HELLO. / PROCEDURE DIVISION. / MAIN-PARA. / DISPLAY "HELLO". / STOP RUN.
+abbrev pub show_hello : Statement
+show_hello = Display (at 5 12) (text hello_bytes ∷ []) true
+
+abbrev pub stop : Statement
+stop = StopRun (at 6 12)
+
+abbrev pub hello : Program
+hello = record {
+  name = record { characters = hello_bytes; place = at 2 20 };
+  sections = record {
+    name = None;
+    paragraphs = record {
+      name = Some (record { characters = 77 ∷ 65 ∷ 73 ∷ 78 ∷ 45 ∷ 80 ∷ 65 ∷ 82 ∷ 65 ∷ []; place = at 4 8 });
+      sentences = record { statements = show_hello ∷ [] } ∷ record { statements = stop ∷ [] } ∷ [];
+    } ∷ [];
+  } ∷ [];
+}
+
+abbrev pub shows_hello : Run
+shows_hello = record { events = map Shown (hello_bytes ++ line_feed ∷ []); end = Stopped }
+
+-- with budget 2 all of it
+hello_with_two : meaning hello 2 ≡ shows_hello
+hello_with_two = refl
+
+-- with budget 1 STOP RUN has none left
+hello_with_one : meaning hello 1 ≡ record shows_hello { end = Budget }
+hello_with_one = refl
+
+-- with budget 0 nothing is shown
+hello_with_none : meaning hello 0 ≡ record { events = []; end = Budget }
+hello_with_none = refl
+
+-- paragraphs without names and STOP RUN, one statement each
+abbrev pub plain : List (List Statement) → Program
+plain all = record { name = record { characters = 80 ∷ []; place = at 2 20 }; sections = record { name = None; paragraphs = each all } ∷ [] }
+  where
+    each : List (List Statement) → List Paragraph
+    each [] = []
+    each (one ∷ more) = record { name = None; sentences = record { statements = one } ∷ [] } ∷ each more
+
+-- the end of the last paragraph stops, and uses none of the budget
+end_stops : meaning (plain ((show_hello ∷ []) ∷ [])) 1 ≡ shows_hello
+end_stops = refl
+
+-- nothing runs after STOP RUN
+stop_is_last : meaning (plain ((stop ∷ show_hello ∷ []) ∷ (show_hello ∷ []) ∷ [])) 9 ≡ record { events = []; end = Stopped }
+stop_is_last = refl
+
+-- paragraphs follow one another, and one without sentences uses none of the budget
+in_order : meaning (plain ((Display (at 1 12) (text (65 ∷ []) ∷ []) false ∷ []) ∷ [] ∷ (Display (at 3 12) (text (66 ∷ []) ∷ []) false ∷ []) ∷ [])) 2
+    ≡ record { events = map Shown (65 ∷ 66 ∷ []); end = Stopped }
+in_order = refl
+
+-- a program without paragraphs has stopped
+nothing_to_do : meaning (plain []) 0 ≡ record { events = []; end = Stopped }
+nothing_to_do = refl
+
+-- DISPLAY "A" 12.50 'it''s' WITH NO ADVANCING
+three_operands : shown_display (text (65 ∷ []) ∷ number (49 ∷ 50 ∷ []) (53 ∷ 48 ∷ []) ∷ text (105 ∷ 116 ∷ 39 ∷ 115 ∷ []) ∷ []) false
+    ≡ 65 ∷ 49 ∷ 50 ∷ 46 ∷ 53 ∷ 48 ∷ 105 ∷ 116 ∷ 39 ∷ 115 ∷ []
+three_operands = refl
+
+-- the same line ended
+line_ended : shown_display (text (65 ∷ []) ∷ []) true ≡ 65 ∷ 10 ∷ []
+line_ended = refl
+
+-- -.50, +007 and 5 are shown as they were written
+negative_fraction : shown_literal (Numeric (record { sign = sign.Minus; whole = []; decimals = 53 ∷ 48 ∷ [] })) ≡ 45 ∷ 46 ∷ 53 ∷ 48 ∷ []
+negative_fraction = refl
+
+leading_zeros : shown_literal (Numeric (record { sign = sign.Plus; whole = 48 ∷ 48 ∷ 55 ∷ []; decimals = [] })) ≡ 43 ∷ 48 ∷ 48 ∷ 55 ∷ []
+leading_zeros = refl
+
+-- the line of the statement that last used one of the budget
+last_line : exec 1 show_hello (start 3) ≡ Done (record { budget = 2; line = 5; events = map Shown (hello_bytes ++ line_feed ∷ []) })
+last_line = refl

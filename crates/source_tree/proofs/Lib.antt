@@ -1,0 +1,4 @@
+pub mod Runs
+pub mod Depth
+pub mod Programs
+pub mod Examples

@@ -1,0 +1,115 @@
+-- What holds of each run of a stretch: the budget never rises, output only grows, and with more budget a stretch that
+-- doesn't end for want of it does the same and has so much more left.
+use Rattle.std.proofs.Common.{◌≡◌, ℕ, zero, suc, ◌+◌, ◌≤◌, List, [], ◌∷◌, ◌++◌, refl, sym, ap, ◌∙◌, subst, arith}
+use Rattle.std.specs.Prelude.{map}
+use Rattle.std.proofs.lemmas.List.{append-nil, append_assoc}
+use Rattle.station.specs.State.{Event, Shown}
+use Rattle.source_tree.specs.declared.statement.Statement.{Statement}
+use Rattle.source_tree.specs.declared.statement.Statement.TheVariants.{Display, StopRun}
+use Rattle.source_tree.specs.declared.program.Paragraph.{Paragraph}
+use Rattle.source_tree.specs.Places.{place_of}
+use Rattle.source_tree.specs.State.{State, Stopped, Budget, Outcome, Done, Over, showing, then_do, spend_from, spend, outcome_events}
+use Rattle.source_tree.specs.Meaning.{in_turn, step, exec, sentence, paragraph, range}
+use Rattle.source_tree.specs.Laws.{Begins}
+
+pub itself : (es : List Event) → Begins es es
+itself es = record { rest = []; whole_is = sym (append-nil es) }
+
+pub onward : (es fs gs : List Event) → Begins es fs → Begins fs gs → Begins es gs
+onward es fs gs a b = record { rest = a.rest ++ b.rest; whole_is = b.whole_is ∙ ap (λ events. events ++ b.rest) a.whole_is ∙ append_assoc es a.rest b.rest }
+
+-- what goes on has no more than this left
+abbrev pub Within : ℕ → Outcome → Type 0
+Within n (Done s) = s.budget ≤ n
+Within n (Over end s) = Unit {0}
+
+-- the same state with so much more left
+abbrev pub richer : ℕ → State → State
+richer k s = record s { budget = s.budget + k }
+
+-- what comes out of a stretch with so much more budget
+abbrev pub Alike : ℕ → Outcome → Outcome → Type 0
+Alike k (Done s) other = other ≡ Done (richer k s)
+Alike k (Over Stopped s) other = other ≡ Over Stopped (richer k s)
+Alike k (Over Budget s) other = Begins s.events (outcome_events other)
+
+pub record IsRun (go : State → Outcome) : Type 0 where
+  pub falls : (s : State) → Within s.budget (go s)
+  pub grows : (s : State) → Begins s.events (outcome_events (go s))
+  pub alike : (k : ℕ) (s : State) → Alike k (go s) (go (richer k s))
+
+pub wider : (n m : ℕ) (o : Outcome) → n ≤ m → Within n o → Within m o
+wider n m (Done s) le w = omega arith
+wider n m (Over end s) le w = tt
+
+then_within : (n : ℕ) (o : Outcome) (go : State → Outcome) → IsRun go → Within n o → Within n (then_do o go)
+then_within n (Done s) go r w = wider s.budget n (go s) w (r.falls s)
+then_within n (Over end s) go r w = tt
+
+then_grows : (es : List Event) (o : Outcome) (go : State → Outcome) → IsRun go → Begins es (outcome_events o) → Begins es (outcome_events (then_do o go))
+then_grows es (Done s) go r b = onward es s.events (outcome_events (go s)) b (r.grows s)
+then_grows es (Over end s) go r b = b
+
+then_alike : (k : ℕ) (o other : Outcome) (go : State → Outcome) → IsRun go → Alike k o other → Alike k (then_do o go) (then_do other go)
+then_alike k (Done s) other go r a = subst (λ x. Alike k (go s) (then_do x go)) (sym a) (r.alike k s)
+then_alike k (Over Stopped s) other go r a = ap (λ x. then_do x go) a
+then_alike k (Over Budget s) other go r a = then_grows s.events other go r a
+
+pub then_runs : (first go : State → Outcome) → IsRun first → IsRun go → IsRun (λ s. then_do (first s) go)
+then_runs first go f r = record {
+  falls = λ s. then_within s.budget (first s) go r (f.falls s);
+  grows = λ s. then_grows s.events (first s) go r (f.grows s);
+  alike = λ k s. then_alike k (first s) (first (richer k s)) go r (f.alike k s);
+}
+
+spend_within : (b line : ℕ) (s : State) (go : State → Outcome) → IsRun go → Within b (spend_from b line s go)
+spend_within zero line s go r = tt
+spend_within (suc n) line s go r = wider n (suc n) (go (record s { budget = n; line = line })) (omega arith) (r.falls (record s { budget = n; line = line }))
+
+spend_grows : (b line : ℕ) (s : State) (go : State → Outcome) → IsRun go → Begins s.events (outcome_events (spend_from b line s go))
+spend_grows zero line s go r = itself s.events
+spend_grows (suc n) line s go r = r.grows (record s { budget = n; line = line })
+
+spend_alike : (k b total line : ℕ) (s : State) (go : State → Outcome) → IsRun go → total ≡ b + k
+    → Alike k (spend_from b line s go) (spend_from total line (richer k s) go)
+spend_alike k zero total line s go r e = spend_grows total line (richer k s) go r
+spend_alike k (suc n) zero line s go r e = absurd (omega arith)
+spend_alike k (suc n) (suc total) line s go r e =
+    let e : total ≡ n + k = omega arith in
+    subst (λ m. Alike k (go (record s { budget = n; line = line })) (go (record s { budget = m; line = line }))) (sym e) (r.alike k (record s { budget = n; line = line }))
+
+pub spend_runs : (line : ℕ) (go : State → Outcome) → IsRun go → IsRun (λ s. spend line s go)
+spend_runs line go r = record {
+  falls = λ s. spend_within s.budget line s go r;
+  grows = λ s. spend_grows s.budget line s go r;
+  alike = λ k s. spend_alike k s.budget (s.budget + k) line s go r refl;
+}
+
+pub done_runs : IsRun Done
+done_runs = record { falls = λ s. omega arith; grows = λ s. itself s.events; alike = λ k s. refl }
+
+pub stop_runs : IsRun (Over Stopped)
+stop_runs = record { falls = λ s. tt; grows = λ s. itself s.events; alike = λ k s. refl }
+
+pub show_runs : (bytes : List ℕ) → IsRun (λ s. Done (showing bytes s))
+show_runs bytes = record { falls = λ s. omega arith; grows = λ s. record { rest = map Shown bytes; whole_is = refl }; alike = λ k s. refl }
+
+pub in_turn_runs : {A : Type 0} (run : A → State → Outcome) → ((one : A) → IsRun (run one)) → (all : List A) → IsRun (in_turn run all)
+in_turn_runs run r [] = done_runs
+in_turn_runs run r (one ∷ more) = then_runs (run one) (in_turn run more) (r one) (in_turn_runs run r more)
+
+step_runs : (run : Statement → State → Outcome) → ((one : Statement) → IsRun (run one)) → (one : Statement) → IsRun (step run one)
+step_runs run r (Display place operands advancing) = show_runs _
+step_runs run r (StopRun place) = stop_runs
+
+pub exec_runs : (depth : ℕ) (one : Statement) → IsRun (exec depth one)
+exec_runs zero one = record { falls = λ s. tt; grows = λ s. itself s.events; alike = λ k s. itself s.events }
+exec_runs (suc depth) one = spend_runs (place_of one).line (step (exec depth) one) (step_runs (exec depth) (exec_runs depth) one)
+
+pub paragraph_runs : (depth : ℕ) (one : Paragraph) → IsRun (paragraph (exec depth) one)
+paragraph_runs depth one = in_turn_runs (sentence (exec depth)) (λ some. in_turn_runs (exec depth) (exec_runs depth) some.statements) one.sentences
+
+pub range_runs : (depth : ℕ) (all : List Paragraph) (more : ℕ) → IsRun (range (exec depth) all more)
+range_runs depth [] more = stop_runs
+range_runs depth (one ∷ rest) zero = paragraph_runs depth one
+range_runs depth (one ∷ rest) (suc more) = then_runs (paragraph (exec depth) one) (range (exec depth) rest more) (paragraph_runs depth one) (range_runs depth rest more)

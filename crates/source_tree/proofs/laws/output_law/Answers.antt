@@ -1,0 +1,5 @@
+use Rattle.source_tree.proofs.Programs.{more_tells_more}
+use Rattle.source_tree.proofs.laws.output_law.Goals as goal
+
+pub returns-clause-program : goal.returns-clause-program
+returns-clause-program c = more_tells_more

@@ -1,0 +1,55 @@
+-- The bytes that DISPLAY shows (COBOL-85, Nucleus, "The DISPLAY statement").
+use Rattle.std.specs.Prelude.{ℕ, Bool, true, false, List, [], ◌∷◌, ◌++◌}
+use Rattle.source_tree.specs.declared.literal.Sign.{Sign}
+use Rattle.source_tree.specs.declared.literal.Sign.TheVariants as sign
+use Rattle.source_tree.specs.declared.literal.NumericLiteral.{NumericLiteral}
+use Rattle.source_tree.specs.declared.literal.LiteralValue.{LiteralValue}
+use Rattle.source_tree.specs.declared.literal.LiteralValue.TheVariants.{Numeric, Nonnumeric}
+use Rattle.source_tree.specs.declared.statement.Operand.{Operand}
+use Rattle.source_tree.specs.declared.statement.Operand.TheVariants as operand
+
+-- in ASCII
+abbrev pub line_feed : ℕ
+line_feed = 10
+
+abbrev pub plus_sign : ℕ
+plus_sign = 43
+
+abbrev pub minus_sign : ℕ
+minus_sign = 45
+
+abbrev pub point : ℕ
+point = 46
+
+abbrev pub shown_sign : Sign → List ℕ
+shown_sign sign.Unsigned = []
+shown_sign sign.Plus = plus_sign ∷ []
+shown_sign sign.Minus = minus_sign ∷ []
+
+-- decimals with their point; without any there is no point
+abbrev pub shown_decimals : List ℕ → List ℕ
+shown_decimals [] = []
+shown_decimals (digit ∷ digits) = point ∷ digit ∷ digits
+
+-- A number is shown as it was written (own choice, but for unsigned integers).
+abbrev pub shown_number : NumericLiteral → List ℕ
+shown_number n = shown_sign n.sign ++ n.whole ++ shown_decimals n.decimals
+
+abbrev pub shown_literal : LiteralValue → List ℕ
+shown_literal (Numeric number) = shown_number number
+shown_literal (Nonnumeric bytes) = bytes
+
+abbrev pub shown_operand : Operand → List ℕ
+shown_operand (operand.Literal literal) = shown_literal literal.value
+
+abbrev pub shown_operands : List Operand → List ℕ
+shown_operands [] = []
+shown_operands (one ∷ more) = shown_operand one ++ shown_operands more
+
+abbrev pub line_end : Bool → List ℕ
+line_end true = line_feed ∷ []
+line_end false = []
+
+-- The operands follow one another with nothing between, and the line ends unless NO ADVANCING was written.
+abbrev pub shown_display : List Operand → Bool → List ℕ
+shown_display operands advancing = shown_operands operands ++ line_end advancing

@@ -1,0 +1,70 @@
+-- What a program does, told on its tree. Control runs from the first statement to the end of the last paragraph, which
+-- acts as STOP RUN and uses none of the budget (own choice; COBOL-85, Nucleus, "Procedure division execution").
+use Rattle.std.specs.Prelude.{ℕ, zero, suc, List, [], ◌∷◌, ◌++◌, length}
+use Rattle.station.specs.State.{Event}
+use Rattle.source_tree.specs.declared.statement.Statement.{Statement}
+use Rattle.source_tree.specs.declared.statement.Statement.TheVariants.{Display, StopRun}
+use Rattle.source_tree.specs.declared.program.Sentence.{Sentence}
+use Rattle.source_tree.specs.declared.program.Paragraph.{Paragraph}
+use Rattle.source_tree.specs.declared.program.Section.{Section}
+use Rattle.source_tree.specs.declared.program.Program.{Program}
+use Rattle.source_tree.specs.Places.{place_of}
+use Rattle.source_tree.specs.State.{State, End, Stopped, Budget, Outcome, Done, Over, showing, then_do, spend}
+use Rattle.source_tree.specs.Display.{shown_display}
+
+-- one after the other, as long as each is done
+abbrev pub in_turn : {A : Type 0} → (A → State → Outcome) → List A → State → Outcome
+in_turn run [] s = Done s
+in_turn run (one ∷ more) s = then_do (run one s) (in_turn run more)
+
+-- One statement after it has used one of the budget. `run` runs the statements that stand in it.
+abbrev pub step : (Statement → State → Outcome) → Statement → State → Outcome
+step run (Display place operands advancing) s = Done (showing (shown_display operands advancing) s)
+step run (StopRun place) s = Over Stopped s
+
+-- A statement, with at most `depth` statements in one another, itself among them. Each of these has used one of the
+-- budget, so that a depth above the budget is never used up.
+abbrev pub exec : ℕ → Statement → State → Outcome
+exec zero one s = Over Budget s
+exec (suc depth) one s = spend (place_of one).line s (step (exec depth) one)
+
+abbrev pub sentence : (Statement → State → Outcome) → Sentence → State → Outcome
+sentence run one s = in_turn run one.statements s
+
+abbrev pub paragraph : (Statement → State → Outcome) → Paragraph → State → Outcome
+paragraph run one s = in_turn (sentence run) one.sentences s
+
+-- paragraphs from the first of the list on: that one and so many more; the end of the last one of all stops
+abbrev pub range : (Statement → State → Outcome) → List Paragraph → ℕ → State → Outcome
+range run [] more s = Over Stopped s
+range run (one ∷ rest) zero s = paragraph run one s
+range run (one ∷ rest) (suc more) s = then_do (paragraph run one s) (range run rest more)
+
+abbrev pub paragraphs_in : List Section → List Paragraph
+paragraphs_in [] = []
+paragraphs_in (one ∷ more) = one.paragraphs ++ paragraphs_in more
+
+-- all paragraphs of a program, in order
+abbrev pub paragraphs : Program → List Paragraph
+paragraphs program = paragraphs_in program.sections
+
+abbrev pub start : ℕ → State
+start budget = record { budget = budget; line = 0; events = [] }
+
+-- a run of the program from this state, with nesting up to `depth`
+abbrev pub run_from : ℕ → Program → State → Outcome
+run_from depth program s = range (exec depth) (paragraphs program) (length (paragraphs program)) s
+
+-- What is told of a run: its events and its end.
+pub record Run : Type 0 where
+  pub events : List Event
+  pub end : End
+
+-- a program that is done has stopped
+abbrev pub told : Outcome → Run
+told (Done s) = record { events = s.events; end = Stopped }
+told (Over end s) = record { events = s.events; end = end }
+
+-- the program's run with this budget
+abbrev pub meaning : Program → ℕ → Run
+meaning program budget = told (run_from (suc budget) program (start budget))

@@ -1,0 +1,85 @@
+//! Statements in one another. The rules that hold statements take the reader of those as a parameter, so that each is
+//! proved by itself.
+
+ghost use Rattle.std.specs.Prelude.{◌≡◌};
+ghost use Rattle.grammar.specs.Reading.{Reads};
+ghost use Rattle.statements.specs.Reading as spec;
+ghost use Rattle.statements.specs.Nests.{Nests};
+
+use crate::display::display;
+use crate::stop::stop_run;
+use crate::verb::begins_statement;
+use grammar::{Halt, ReadFault, Tokens};
+use source_tree::Statement;
+use sqlite_items::Items;
+use std::alloc::Global;
+use tokens::Reserved;
+
+#[derive(Clone, Copy)]
+pub struct Nesting<F> {
+    pub alloc: Global,
+    /// How deep statements may still nest.
+    pub depth: usize,
+    /// Reads a statement of at most that depth.
+    pub statement: F,
+}
+
+impl<F: Fn(Global, &mut Tokens<'_>, usize) -> Result<Statement, ReadFault>> Nesting<F> {
+    fn statement(&self, tokens: &mut Tokens<'_>) -> Result<Statement, ReadFault>
+        requires { Nests self.now.depth (F.pre self.now.statement) (F.post self.now.statement) }
+        ensures { Reads (spec.statement self.now.depth tokens.old) result tokens.new }
+    {
+        (self.statement)(self.alloc, tokens, self.depth)
+    }
+
+    /// One or more statements, up to where no more can begin.
+    #[tactic(auto, unfolding(crate::specs::Reading::statements))]
+    pub fn statements(&self, tokens: &mut Tokens<'_>) -> Result<Items<Statement>, ReadFault>
+        requires { Nests self.now.depth (F.pre self.now.statement) (F.post self.now.statement) }
+        ensures { Reads (spec.statements (spec.statement self.now.depth) tokens.old) result tokens.new }
+    {
+        let mut found = Items::new(self.alloc);
+        for _turn in 0..tokens.len() {
+            found.push(self.statement(tokens)?)?;
+            if !begins_statement(tokens) {
+                return Ok(found);
+            }
+        }
+        Err(tokens.refuse())
+    }
+
+    /// A statement, by its verb.
+    #[tactic(auto, unfolding(crate::specs::Reading::line))]
+    fn line(&self, tokens: &mut Tokens<'_>) -> Result<Statement, ReadFault>
+        requires { Nests self.now.depth (F.pre self.now.statement) (F.post self.now.statement) }
+        ensures { Reads (spec.line (spec.statement self.now.depth) tokens.old) result tokens.new }
+    {
+        if tokens.at_word(Reserved::Display) {
+            display(self.alloc, tokens)
+        } else if tokens.at_word(Reserved::Stop) {
+            stop_run(tokens)
+        } else {
+            Err(tokens.refuse())
+        }
+    }
+}
+
+/// A statement with at most this many statements in one another, itself among them.
+#[tactic(auto, unfolding(crate::specs::Reading::statement))]
+pub fn statement(
+    alloc: Global,
+    tokens: &mut Tokens<'_>,
+    depth: usize,
+) -> Result<Statement, ReadFault>
+    ensures { Reads (spec.statement depth tokens.old) result tokens.new }
+{
+    if depth == 0 {
+        return Err(ReadFault::Halted(Halt::TooDeep(tokens.len())));
+    }
+    Nesting {
+        alloc,
+        depth: depth - 1,
+        statement,
+    }
+    .line(tokens)
+}
