@@ -1,0 +1,7 @@
+pub mod Entries
+pub mod Forms
+pub mod Images
+pub mod Fine
+pub mod Once
+pub mod Halts
+pub mod Examples

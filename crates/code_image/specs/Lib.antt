@@ -1,0 +1,6 @@
+pub mod Faults
+pub mod Spelling
+pub mod Reading
+pub mod Demands
+pub mod Table
+pub use Rattle.answers.specs.Answer

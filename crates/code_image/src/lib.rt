@@ -1,0 +1,23 @@
+//! Code, its bytes in an image, and the test that a machine can run it: each code has one spelling, and code that
+//! passed the test never leaves the machine without an instruction or an operand.
+#![tactic(auto)]
+
+mod code;
+mod fault;
+mod instruction;
+mod laws;
+mod literal;
+mod number;
+mod reading;
+mod table;
+mod verified;
+mod writing;
+
+pub use code::Code;
+pub use fault::{ImageError, ImageFault};
+pub use instruction::Instruction;
+pub use laws::run_law;
+pub use literal::LiteralIndex;
+pub use reading::from_bytes;
+pub use verified::{Verified, verify};
+pub use writing::to_bytes;

@@ -1,0 +1,84 @@
+//! Code that a machine can run.
+
+ghost use Rattle.std.specs.Prelude.{◌≡◌, ◌-◌, ◌↔◌, IsTrue, All, length, slice_get, Some, IfOk, IfErr};
+ghost use Rattle.code_image.specs.declared.instruction.Instruction.TheVariants.{Stop};
+ghost use Rattle.code_image.specs.Demands.{IsVerified, Refuses, NamesLiteral, IsPlace};
+
+use crate::code::Code;
+use crate::fault::ImageFault;
+use crate::instruction::Instruction;
+use std::marker::Model;
+
+/// Code that meets the demands of a machine.
+#[derive(Debug, Drop)]
+pub struct Verified {
+    code: Code,
+}
+
+impl Model for Verified {
+    ghost use Rattle.code_image.specs.declared.code.Code.{Code};
+    ghost use Rattle.code_image.specs.Demands.{IsVerified};
+
+    ghost Value = { Code };
+
+    ghost view = { λ verified. verified.code };
+
+    ghost invariant = { λ verified. IsVerified verified.code };
+}
+
+impl Verified {
+    pub fn code(&self) -> &Code
+        ensures same { result.now ≡ self.now }
+        ensures verified { IsVerified self.now }
+    {
+        &self.code
+    }
+}
+
+fn name_literals(instructions: &[Instruction], count: usize) -> bool
+    ensures { IsTrue result ↔ All (NamesLiteral count) instructions.now }
+{
+    for instruction in instructions {
+        if !instruction.names_literal(count) {
+            return false;
+        }
+    }
+    true
+}
+
+fn are_places(starts: &[usize], count: usize) -> bool
+    ensures { IsTrue result ↔ All (IsPlace count) starts.now }
+{
+    for start in starts {
+        if *start >= count {
+            return false;
+        }
+    }
+    true
+}
+
+fn stops_last(instructions: &[Instruction]) -> bool
+    ensures { IsTrue result ↔ (slice_get instructions.now (length instructions.now - 1) ≡ Some Stop) }
+{
+    matches!(instructions.last(), Some(Instruction::Stop))
+}
+
+/// Tests that a machine can run the code: each literal that it shows and each start of a paragraph is a place in its
+/// table, and `stop` comes last. It answers 73 and 74 alone, each where that demand is broken.
+pub fn verify(code: Code) -> Result<Verified, ImageFault>
+    ensures value { IfOk result (λ verified. verified ≡ code) }
+    ensures verified { IfOk result (λ _. IsVerified code) }
+    ensures refused { IfErr result (Refuses code) }
+{
+    let instructions = code.instructions.as_slice();
+    if !name_literals(instructions, code.literals.len()) {
+        return Err(ImageFault::Place);
+    }
+    if !are_places(code.starts.as_slice(), instructions.len()) {
+        return Err(ImageFault::Place);
+    }
+    if !stops_last(instructions) {
+        return Err(ImageFault::Shape);
+    }
+    Ok(Verified { code })
+}

@@ -1,0 +1,4 @@
+pub mod Pieces
+pub mod Standing
+pub mod Simulation
+pub mod Sound

@@ -1,0 +1,143 @@
+-- The machine follows the meaning.
+use Rattle.std.proofs.Common.{◌≡◌, ℕ, zero, suc, ◌+◌, List, [], ◌∷◌, length, Some, refl, sym, ap, ◌∙◌, subst, arith, length-append}
+use Rattle.std.specs.Prelude.{slice_get}
+use Rattle.source_tree.specs.declared.statement.Statement.{Statement}
+use Rattle.source_tree.specs.declared.statement.Statement.TheVariants as statement
+use Rattle.source_tree.specs.declared.program.Paragraph.{Paragraph}
+use Rattle.source_tree.specs.declared.program.Program.{Program}
+use Rattle.source_tree.specs.Display.{shown_display}
+use Rattle.source_tree.specs.State.{State, Stopped, Outcome, Done, Over, showing, then_do, spend_from, spend}
+use Rattle.source_tree.specs.Meaning.{start, told, in_turn, step, exec, sentence, paragraph, range, paragraphs, meaning}
+use Rattle.code_image.specs.declared.code.Code.{Code}
+use Rattle.code_image.specs.declared.instruction.Instruction.{Instruction}
+use Rattle.code_image.specs.declared.instruction.Instruction.TheVariants.{Tick, Show, Stop}
+use Rattle.code_image.specs.Table.{over, tick_from, show_from, act, exec_code, Runs}
+use Rattle.codegen.specs.Layout.{Piece, nothing, joined, in_order, display_piece, stop_run_piece, statement_piece, sentence_piece, start_piece, paragraph_piece, end_piece, code_of}
+use Rattle.codegen.proofs.Pieces.{joined_assoc, joined_nothing, flat}
+use Rattle.codegen.proofs.Standing.{Stands, front, back, first_stands, second_stands, literal_stands}
+
+-- the place after a code
+abbrev pub end_of : Code → ℕ
+end_of code = length code.instructions
+
+-- the machine goes from one place and state to another
+pub record Comes (whole : Code) (place : ℕ) (s : State) (next : ℕ) (t : State) : Type 0 where
+  pub by : (k : ℕ) → (j : ℕ) × (exec_code whole j place s ≡ exec_code whole k next t)
+
+-- the machine does what an outcome says: it comes to the place, or its run ends so
+abbrev pub Does : Code → ℕ → State → ℕ → Outcome → Type 0
+Does whole place s next (Done t) = Comes whole place s next t
+Does whole place s next (Over end t) = (j : ℕ) × (exec_code whole j place s ≡ Some (over end t))
+
+module _ (whole : Code) where
+  after : (place mid next : ℕ) (s t : State) (o : Outcome) → Comes whole place s mid t → Does whole mid t next o → Does whole place s next o
+  after place mid next s t (Done u) c d = record { by = λ k. let b = d.by k in let a = c.by b.0 in (a.0, a.1 ∙ b.1) }
+  after place mid next s t (Over end u) c d = let a = c.by d.0 in (a.0, a.1 ∙ d.1)
+
+  -- one part after another
+  then_does : (place mid next : ℕ) (s : State) (o : Outcome) (go : State → Outcome) → Does whole place s mid o → ((t : State) → Does whole mid t next (go t)) → Does whole place s next (then_do o go)
+  then_does place mid next s (Done t) go d h = after place mid next s t (go t) d (h t)
+  then_does place mid next s (Over end t) go d h = d
+
+  moved : (place mid next : ℕ) (s : State) (o : Outcome) → mid ≡ next → Does whole place s mid o → Does whole place s next o
+  moved place mid next s o e d = subst (λ p. Does whole place s p o) e d
+
+  moved_from : (place other next : ℕ) (s : State) (o : Outcome) → other ≡ place → Does whole other s next o → Does whole place s next o
+  moved_from place other next s o e d = subst (λ p. Does whole p s next o) e d
+
+  -- one instruction
+  one_step : (place : ℕ) (s : State) (i : Instruction) → slice_get whole.instructions place ≡ Some i → (k : ℕ) → exec_code whole (suc k) place s ≡ act whole (Some i) (exec_code whole k) place s
+  one_step place s i here k = ap (λ o. act whole o (exec_code whole k) place s) here
+
+  steps_to : (place next : ℕ) (s t : State) → ((k : ℕ) → exec_code whole (suc k) place s ≡ exec_code whole k next t) → Comes whole place s next t
+  steps_to place next s t h = record { by = λ k. (suc k, h k) }
+
+  -- one of the budget
+  tick_from_does : (left line place next : ℕ) (s : State) (go : State → Outcome) → ((k : ℕ) → exec_code whole (suc k) place s ≡ tick_from left line (exec_code whole k (place + 1)) s)
+      → ((t : State) → Does whole (place + 1) t next (go t)) → Does whole place s next (spend_from left line s go)
+  tick_from_does zero line place next s go st h = (1, st 0)
+  tick_from_does (suc n) line place next s go st h =
+      let t : State = record s { budget = n; line = line } in
+      after place (place + 1) next s t (go t) (steps_to place (place + 1) s t st) (h t)
+
+  tick_does : (line place next : ℕ) (s : State) (go : State → Outcome) → slice_get whole.instructions place ≡ Some (Tick line)
+      → ((t : State) → Does whole (place + 1) t next (go t)) → Does whole place s next (spend line s go)
+  tick_does line place next s go here h = tick_from_does s.budget line place next s go (λ k. one_step place s (Tick line) here k) h
+
+  stop_does : (place next : ℕ) (s : State) → slice_get whole.instructions place ≡ Some Stop → Does whole place s next (Over Stopped s)
+  stop_does place next s here = (1, one_step place s Stop here 0)
+
+  show_does : (place number : ℕ) (bytes : List ℕ) (s : State) → slice_get whole.instructions place ≡ Some (Show (record { number = number })) → slice_get whole.literals number ≡ Some bytes → Does whole place s (place + 1) (Done (showing bytes s))
+  show_does place number bytes s here found =
+      steps_to place (place + 1) s (showing bytes s) (λ k. one_step place s (Show (record { number = number })) here k ∙ ap (λ b. show_from b (exec_code whole k (place + 1)) s) found)
+
+  two_more : (before : Code) (one two : Instruction) (part : Code) → part.instructions ≡ one ∷ two ∷ [] → end_of before + 1 + 1 ≡ end_of (joined before part)
+  two_more before one two part is = let n : length (one ∷ two ∷ []) ≡ 2 = refl in omega (arith, ap length is, length-append before.instructions part.instructions)
+
+  statement_does : (depth : ℕ) (one : Statement) (before : Code) (s : State) → Stands whole before (statement_piece one before) → Does whole (end_of before) s (end_of (joined before (statement_piece one before))) (exec (suc depth) one s)
+  statement_does depth (statement.Display place operands advancing) before s st =
+      let bytes = shown_display operands advancing in
+      let part = display_piece place.line bytes before in
+      let show = Show (record { number = length before.literals }) in
+      tick_does place.line (end_of before) (end_of (joined before part)) s (step (exec depth) (statement.Display place operands advancing)) (first_stands whole before part (Tick place.line) (show ∷ []) refl st) (λ t.
+      moved (end_of before + 1) (end_of before + 1 + 1) (end_of (joined before part)) t (Done (showing bytes t)) (two_more before (Tick place.line) show part refl)
+      (show_does (end_of before + 1) (length before.literals) bytes t (second_stands whole before part (Tick place.line) show [] refl st) (literal_stands whole before part bytes [] refl st)))
+  statement_does depth (statement.StopRun place) before s st =
+      let part = stop_run_piece place.line before in
+      tick_does place.line (end_of before) (end_of (joined before part)) s (step (exec depth) (statement.StopRun place)) (first_stands whole before part (Tick place.line) (Stop ∷ []) refl st) (λ t.
+      stop_does (end_of before + 1) (end_of (joined before part)) t (second_stands whole before part (Tick place.line) Stop [] refl st))
+
+  -- what is known of the parts of a list
+  record Follows {A : Type 0} (run : A → State → Outcome) (piece : A → Piece) : Type 0 where
+    by : (one : A) (before : Code) (s : State) → Stands whole before (piece one before) → Does whole (end_of before) s (end_of (joined before (piece one before))) (run one s)
+
+  in_order_does : {A : Type 0} (run : A → State → Outcome) (piece : A → Piece) → Follows run piece → (all : List A) (before : Code) (s : State) → Stands whole before (in_order piece all before)
+      → Does whole (end_of before) s (end_of (joined before (in_order piece all before))) (in_turn run all s)
+  in_order_does run piece f [] before s st = record { by = λ k. (k, ap (λ (c : Code). exec_code whole k (end_of c) s) (sym (joined_nothing before))) }
+  in_order_does run piece f (one ∷ more) before s st =
+      let a = piece one before in
+      let b = in_order piece more (joined before a) in
+      then_does (end_of before) (end_of (joined before a)) (end_of (joined before (joined a b))) s (run one s) (in_turn run more) (f.by one before s (front whole before a b st)) (λ t.
+      moved (end_of (joined before a)) (end_of (joined (joined before a) b)) (end_of (joined before (joined a b))) t (in_turn run more t) (ap end_of (joined_assoc before a b))
+      (in_order_does run piece f more (joined before a) t (back whole before a b st)))
+
+  sentences_follow : (depth : ℕ) → Follows (sentence (exec (suc depth))) sentence_piece
+  sentences_follow depth = record { by = λ one before s st. in_order_does (exec (suc depth)) statement_piece (record { by = statement_does depth }) one.statements before s st }
+
+  -- the start of a code paragraph is no instruction
+  paragraph_does : (depth : ℕ) (one : Paragraph) (before : Code) (s : State) → Stands whole before (paragraph_piece one before) → Does whole (end_of before) s (end_of (joined before (paragraph_piece one before))) (paragraph (exec (suc depth)) one s)
+  paragraph_does depth one before s st =
+      let a = start_piece before in
+      let b = in_order sentence_piece one.sentences (joined before a) in
+      let same : end_of (joined before a) ≡ end_of before = omega (arith, length-append before.instructions a.instructions) in
+      moved_from (end_of before) (end_of (joined before a)) (end_of (joined before (joined a b))) s (paragraph (exec (suc depth)) one s) same
+      (moved (end_of (joined before a)) (end_of (joined (joined before a) b)) (end_of (joined before (joined a b))) s (paragraph (exec (suc depth)) one s) (ap end_of (joined_assoc before a b))
+      (in_order_does (sentence (exec (suc depth))) sentence_piece (sentences_follow depth) one.sentences (joined before a) s (back whole before a b st)))
+
+  -- the machine's run is over as an outcome is told
+  abbrev Ends : ℕ → State → Outcome → Type 0
+  Ends place s o = (j : ℕ) × (exec_code whole j place s ≡ Some (told o))
+
+  then_ends : (place mid : ℕ) (s : State) (o : Outcome) (go : State → Outcome) → Does whole place s mid o → ((t : State) → Ends mid t (go t)) → Ends place s (then_do o go)
+  then_ends place mid s (Done t) go d h = let e = h t in let c = d.by e.0 in (c.0, c.1 ∙ e.1)
+  then_ends place mid s (Over end t) go d h = d
+
+  -- the end of the last paragraph stops
+  range_ends : (depth : ℕ) (all : List Paragraph) (before : Code) (s : State) → Stands whole before (joined (in_order paragraph_piece all before) end_piece) → Ends (end_of before) s (range (exec (suc depth)) all (length all) s)
+  range_ends depth [] before s st = stop_does (end_of before) 0 s (first_stands whole before (joined nothing end_piece) Stop [] refl st)
+  range_ends depth (one ∷ more) before s st =
+      let a = paragraph_piece one before in
+      let b = in_order paragraph_piece more (joined before a) in
+      let st2 = subst (Stands whole before) (joined_assoc a b end_piece) st in
+      then_ends (end_of before) (end_of (joined before a)) s (paragraph (exec (suc depth)) one s) (range (exec (suc depth)) more (length more)) (paragraph_does depth one before s (front whole before a (joined b end_piece) st2)) (λ t.
+      range_ends depth more (joined before a) t (back whole before a (joined b end_piece) st2))
+
+-- the whole stands in itself, after nothing
+all_stands : (code : Code) → Stands code nothing code
+all_stands code = record { rest = nothing; is = sym (joined_nothing code) }
+
+laid : (program : Program) → Stands (code_of program) nothing (joined (in_order paragraph_piece (paragraphs program) nothing) end_piece)
+laid program = subst (Stands (code_of program) nothing) (ap (λ (c : Code). joined c end_piece) (flat program.sections nothing)) (all_stands (code_of program))
+
+pub runs : (program : Program) (budget : ℕ) → Runs (code_of program) budget (meaning program budget)
+runs program budget = range_ends (code_of program) budget (paragraphs program) nothing (start budget) (laid program)

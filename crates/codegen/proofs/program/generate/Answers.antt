@@ -1,0 +1,27 @@
+use Rattle.std.proofs.Common.{rules, ◌≡◌, sym, subst, arith}
+use Rattle.std.proofs.lemmas.Grind.{common_steps}
+use Rattle.source_tree.specs.Meaning.{meaning}
+use Rattle.code_image.specs.declared.code.Code.{Code}
+use Rattle.code_image.specs.Demands.{IsVerified}
+use Rattle.code_image.specs.Table.{Runs}
+use Rattle.code_image.proofs.Once.{one_run}
+use Rattle.codegen.specs.Layout.{code_of}
+use Rattle.codegen.proofs.Simulation.{runs}
+use Rattle.codegen.proofs.Sound.{verified}
+use Rattle.codegen.proofs.program.generate.Goals as goal
+
+pub returns-clause-ends : goal.returns-clause-ends
+returns-clause-ends c =
+    let e : c.emit_end.new.code ≡ code_of c.args.program.now = first_of (search rules, grind (arith, common_steps)) in
+    λ budget. subst (λ (code : Code). Runs code budget (meaning c.args.program.now budget)) (sym e) (runs c.args.program.now budget)
+
+pub returns-clause-ends_only : goal.returns-clause-ends_only
+returns-clause-ends_only c =
+    let e : c.emit_end.new.code ≡ code_of c.args.program.now = first_of (search rules, grind (arith, common_steps)) in
+    λ budget run r. one_run c.emit_end.new.code budget run (meaning c.args.program.now budget) r
+    (subst (λ (code : Code). Runs code budget (meaning c.args.program.now budget)) (sym e) (runs c.args.program.now budget))
+
+pub returns-clause-verified : goal.returns-clause-verified
+returns-clause-verified c =
+    let e : c.emit_end.new.code ≡ code_of c.args.program.now = first_of (search rules, grind (arith, common_steps)) in
+    subst IsVerified (sym e) (verified c.args.program.now)

@@ -1,0 +1,61 @@
+-- The layout of a program's code (own choice).
+use Rattle.std.specs.Prelude.{ℕ, List, [], ◌∷◌, ◌++◌, length}
+use Rattle.source_tree.specs.declared.statement.Statement.{Statement}
+use Rattle.source_tree.specs.declared.statement.Statement.TheVariants.{Display, StopRun}
+use Rattle.source_tree.specs.declared.program.Sentence.{Sentence}
+use Rattle.source_tree.specs.declared.program.Paragraph.{Paragraph}
+use Rattle.source_tree.specs.declared.program.Section.{Section}
+use Rattle.source_tree.specs.declared.program.Program.{Program}
+use Rattle.source_tree.specs.Display.{shown_display}
+use Rattle.code_image.specs.declared.code.Code.{Code}
+use Rattle.code_image.specs.declared.instruction.Instruction.TheVariants.{Tick, Show, Stop}
+
+-- What a part of a program adds to the code that stands before it.
+abbrev pub Piece : Type 0
+Piece = Code → Code
+
+abbrev pub nothing : Code
+nothing = record { literals = []; starts = []; instructions = [] }
+
+-- one code after another
+abbrev pub joined : Code → Code → Code
+joined a b = record { literals = a.literals ++ b.literals; starts = a.starts ++ b.starts; instructions = a.instructions ++ b.instructions }
+
+abbrev pub in_order : {A : Type 0} → (A → Piece) → List A → Piece
+in_order piece [] before = nothing
+in_order piece (one ∷ more) before = joined (piece one before) (in_order piece more (joined before (piece one before)))
+
+-- all that a DISPLAY shows is one literal
+abbrev pub display_piece : ℕ → List ℕ → Piece
+display_piece line bytes before = record {
+  literals = bytes ∷ [];
+  starts = [];
+  instructions = Tick line ∷ Show (record { number = length before.literals }) ∷ [];
+}
+
+abbrev pub stop_run_piece : ℕ → Piece
+stop_run_piece line before = record { literals = []; starts = []; instructions = Tick line ∷ Stop ∷ [] }
+
+abbrev pub statement_piece : Statement → Piece
+statement_piece (Display place operands advancing) = display_piece place.line (shown_display operands advancing)
+statement_piece (StopRun place) = stop_run_piece place.line
+
+abbrev pub sentence_piece : Sentence → Piece
+sentence_piece sentence = in_order statement_piece sentence.statements
+
+-- a code paragraph starts
+abbrev pub start_piece : Piece
+start_piece before = record { literals = []; starts = length before.instructions ∷ []; instructions = [] }
+
+abbrev pub paragraph_piece : Paragraph → Piece
+paragraph_piece paragraph before = joined (start_piece before) (in_order sentence_piece paragraph.sentences (joined before (start_piece before)))
+
+abbrev pub section_piece : Section → Piece
+section_piece section = in_order paragraph_piece section.paragraphs
+
+-- the end of the last paragraph
+abbrev pub end_piece : Code
+end_piece = record { literals = []; starts = []; instructions = Stop ∷ [] }
+
+abbrev pub code_of : Program → Code
+code_of program = joined (in_order section_piece program.sections nothing) end_piece

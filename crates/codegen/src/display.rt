@@ -1,0 +1,80 @@
+//! The bytes that a DISPLAY shows.
+
+ghost use Rattle.std.specs.Prelude.{◌≡◌, ◌++◌, OnOk, IfOk};
+ghost use Rattle.source_tree.specs.Display.{shown_sign, shown_decimals, shown_number, shown_operand, shown_operands, shown_display};
+
+use source_tree::{LiteralValue, NumericLiteral, Operand, Sign};
+use sqlite_items::Items;
+use std::alloc::{AllocError, Global};
+
+const LINE_FEED: u8 = b'\n';
+
+const PLUS: u8 = b'+';
+
+const MINUS: u8 = b'-';
+
+const POINT: u8 = b'.';
+
+fn put_sign(out: &mut Vec<u8>, sign: Sign) -> Result<(), AllocError>
+    ensures { OnOk result (out.new.items ≡ out.old.items ++ shown_sign sign) }
+{
+    match sign {
+        Sign::Unsigned => {}
+        Sign::Plus => out.push(PLUS)?,
+        Sign::Minus => out.push(MINUS)?,
+    }
+    Ok(())
+}
+
+fn put_decimals(out: &mut Vec<u8>, decimals: &[u8]) -> Result<(), AllocError>
+    ensures { OnOk result (out.new.items ≡ out.old.items ++ shown_decimals decimals.now) }
+{
+    if decimals.is_empty() {
+        return Ok(());
+    }
+    out.push(POINT)?;
+    out.extend_from_slice(decimals)
+}
+
+fn put_number(out: &mut Vec<u8>, number: &NumericLiteral) -> Result<(), AllocError>
+    ensures { OnOk result (out.new.items ≡ out.old.items ++ shown_number number.now) }
+{
+    put_sign(out, number.sign)?;
+    out.extend_from_slice(number.whole.as_slice())?;
+    put_decimals(out, number.decimals.as_slice())
+}
+
+fn put_operand(out: &mut Vec<u8>, operand: &Operand) -> Result<(), AllocError>
+    ensures { OnOk result (out.new.items ≡ out.old.items ++ shown_operand operand.now) }
+{
+    let Operand::Literal(literal) = operand;
+    match &literal.value {
+        LiteralValue::Numeric(number) => put_number(out, number),
+        LiteralValue::Nonnumeric(bytes) => out.extend_from_slice(bytes.as_slice()),
+    }
+}
+
+fn put_operands(out: &mut Vec<u8>, operands: &[Operand]) -> Result<(), AllocError>
+    ensures { OnOk result (out.new.items ≡ out.old.items ++ shown_operands operands.now) }
+{
+    for operand in operands {
+        put_operand(out, operand)?;
+    }
+    Ok(())
+}
+
+/// All that a DISPLAY shows, with the end of its line where it ends one.
+pub(crate) fn display_bytes(
+    alloc: Global,
+    operands: &[Operand],
+    advancing: bool,
+) -> Result<Items<u8>, AllocError>
+    ensures { IfOk result (λ bytes. bytes ≡ shown_display operands.now advancing) }
+{
+    let mut out = Vec::new(alloc);
+    put_operands(&mut out, operands)?;
+    if advancing {
+        out.push(LINE_FEED)?;
+    }
+    Ok(Items::from_vec(out))
+}

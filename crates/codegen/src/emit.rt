@@ -1,0 +1,112 @@
+//! The code of each part of a program, added to the code that stands before it.
+
+ghost use Rattle.std.specs.Prelude.{◌≡◌, OnOk};
+ghost use Rattle.source_tree.specs.Display.{shown_display};
+ghost use Rattle.codegen.specs.Layout.{joined, display_piece, stop_run_piece, statement_piece, sentence_piece, start_piece, paragraph_piece, section_piece, in_order, end_piece};
+
+use crate::display::display_bytes;
+use code_image::{Code, Instruction, LiteralIndex};
+use source_tree::{Operand, Paragraph, Section, Sentence, Statement};
+use std::alloc::{AllocError, Global};
+
+fn emit_display(
+    alloc: Global,
+    code: &mut Code,
+    line: u32,
+    operands: &[Operand],
+    advancing: bool,
+) -> Result<(), AllocError>
+    ensures { OnOk result (code.new ≡ joined code.old (display_piece line (shown_display operands.now advancing) code.old)) }
+{
+    let number = code.literals.len();
+    let bytes = display_bytes(alloc, operands, advancing)?;
+    code.literals.push(bytes)?;
+    code.instructions.push(Instruction::Tick { line })?;
+    let literal = LiteralIndex { number };
+    code.instructions.push(Instruction::Show { literal })?;
+    Ok(())
+}
+
+fn emit_stop_run(code: &mut Code, line: u32) -> Result<(), AllocError>
+    ensures { OnOk result (code.new ≡ joined code.old (stop_run_piece line code.old)) }
+{
+    code.instructions.push(Instruction::Tick { line })?;
+    code.instructions.push(Instruction::Stop)?;
+    Ok(())
+}
+
+fn emit_statement(alloc: Global, code: &mut Code, statement: &Statement) -> Result<(), AllocError>
+    ensures { OnOk result (code.new ≡ joined code.old (statement_piece statement.now code.old)) }
+{
+    match statement {
+        Statement::Display {
+            place,
+            operands,
+            advancing,
+        } => emit_display(alloc, code, place.line, operands.as_slice(), *advancing),
+        Statement::StopRun { place } => emit_stop_run(code, place.line),
+    }
+}
+
+fn emit_sentence(alloc: Global, code: &mut Code, sentence: &Sentence) -> Result<(), AllocError>
+    ensures { OnOk result (code.new ≡ joined code.old (sentence_piece sentence.now code.old)) }
+{
+    for statement in sentence.statements.as_slice() {
+        emit_statement(alloc, code, statement)?;
+    }
+    Ok(())
+}
+
+fn emit_sentences(alloc: Global, code: &mut Code, sentences: &[Sentence]) -> Result<(), AllocError>
+    ensures { OnOk result (code.new ≡ joined code.old (in_order sentence_piece sentences.now code.old)) }
+{
+    for sentence in sentences {
+        emit_sentence(alloc, code, sentence)?;
+    }
+    Ok(())
+}
+
+fn emit_start(code: &mut Code) -> Result<(), AllocError>
+    ensures { OnOk result (code.new ≡ joined code.old (start_piece code.old)) }
+{
+    let start = code.instructions.len();
+    code.starts.push(start)?;
+    Ok(())
+}
+
+fn emit_paragraph(alloc: Global, code: &mut Code, paragraph: &Paragraph) -> Result<(), AllocError>
+    ensures { OnOk result (code.new ≡ joined code.old (paragraph_piece paragraph.now code.old)) }
+{
+    emit_start(code)?;
+    emit_sentences(alloc, code, paragraph.sentences.as_slice())
+}
+
+fn emit_section(alloc: Global, code: &mut Code, section: &Section) -> Result<(), AllocError>
+    ensures { OnOk result (code.new ≡ joined code.old (section_piece section.now code.old)) }
+{
+    for paragraph in section.paragraphs.as_slice() {
+        emit_paragraph(alloc, code, paragraph)?;
+    }
+    Ok(())
+}
+
+pub(crate) fn emit_sections(
+    alloc: Global,
+    code: &mut Code,
+    sections: &[Section],
+) -> Result<(), AllocError>
+    ensures { OnOk result (code.new ≡ joined code.old (in_order section_piece sections.now code.old)) }
+{
+    for section in sections {
+        emit_section(alloc, code, section)?;
+    }
+    Ok(())
+}
+
+// The end of the last paragraph.
+pub(crate) fn emit_end(code: &mut Code) -> Result<(), AllocError>
+    ensures { OnOk result (code.new ≡ joined code.old end_piece) }
+{
+    code.instructions.push(Instruction::Stop)?;
+    Ok(())
+}

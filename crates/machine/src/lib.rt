@@ -1,0 +1,10 @@
+//! The machine that runs verified code: on an honest station a run tells what the machine's table says, a beginning of
+//! it at each moment, and only a failed device keeps it from its end.
+#![tactic(auto)]
+
+mod ended;
+mod machine;
+mod show;
+
+pub use ended::{Ended, Refusal};
+pub use machine::Machine;

@@ -1,0 +1,22 @@
+//! Shown bytes.
+
+ghost use Rattle.std.specs.Prelude.{◌≡◌, ◌↔◌, OnOk};
+ghost use Rattle.station.specs.State.{shown};
+ghost use Rattle.station.specs.History.{Through, Telling};
+ghost use Rattle.station.specs.Failures.{CountsFailure};
+
+use crate::ended::Refusal;
+use station::Station;
+
+/// Shows bytes. Where that fails, some of them may have been shown.
+pub(crate) fn show<S: Station>(station: &mut S, bytes: &[u8]) -> Result<(), Refusal>
+    ensures sectors { S.sectors station.new ≡ S.sectors station.old }
+    ensures honest { S.is_honest station.old ↔ S.is_honest station.new }
+    ensures failures { CountsFailure result (S.failures station.old) (S.failures station.new) }
+    ensures shown { S.is_honest station.old → OnOk result (S.state station.new ≡ shown (S.state station.old) bytes.now) }
+    ensures moments { S.is_honest station.old →
+        Through (S.history station.old) (S.history station.new) (S.state station.new) (Telling (S.state station.old) bytes.now) }
+{
+    station.show(bytes)?;
+    Ok(())
+}
