@@ -1,0 +1,6 @@
+       IDENTIFICATION DIVISION.
+       PROGRAM-ID. ROW.
+       PROCEDURE DIVISION.
+       ONE.
+       TWO.
+           DISPLAY "2".

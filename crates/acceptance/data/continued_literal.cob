@@ -1,0 +1,6 @@
+       IDENTIFICATION DIVISION.
+       PROGRAM-ID. ROW.
+       PROCEDURE DIVISION.
+           DISPLAY "AB
+      -    "CD".
+           STOP RUN.

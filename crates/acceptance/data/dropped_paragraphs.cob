@@ -1,0 +1,8 @@
+       IDENTIFICATION DIVISION.
+       PROGRAM-ID. ROW.
+       AUTHOR. SOMEBODY "WHO ASKS.
+           AND ANSWERS.
+       DATE-WRITTEN. TODAY.
+       PROCEDURE DIVISION.
+           DISPLAY "ONE".
+           STOP RUN.

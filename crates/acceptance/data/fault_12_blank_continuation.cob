@@ -1,0 +1,7 @@
+       IDENTIFICATION DIVISION.
+       PROGRAM-ID. ROW.
+       PROCEDURE DIVISION.
+       MAIN.
+           DISPLAY
+      -
+           "A".

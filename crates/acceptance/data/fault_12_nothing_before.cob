@@ -1,0 +1,1 @@
+      -    IDENTIFICATION DIVISION.

@@ -1,0 +1,6 @@
+       IDENTIFICATION DIVISION.
+       PROGRAM-ID. ROW.
+       PROCEDURE DIVISION.
+           STOP RUN.
+       END PROGRAM ROW.
+       MORE.

@@ -1,0 +1,5 @@
+       IDENTIFICATION DIVISION.
+       PROGRAM-ID. ROW.
+       PROCEDURE DIVISION.
+           DISPLAY "A" 12.50 'it''s' WITH NO ADVANCING.
+           STOP RUN.

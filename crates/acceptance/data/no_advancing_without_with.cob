@@ -1,0 +1,6 @@
+       IDENTIFICATION DIVISION.
+       PROGRAM-ID. ROW.
+       PROCEDURE DIVISION.
+           DISPLAY "A" NO ADVANCING.
+           DISPLAY "B".
+           STOP RUN.

@@ -1,0 +1,6 @@
+       IDENTIFICATION DIVISION.
+       PROGRAM-ID. ROW.
+       PROCEDURE DIVISION.
+           DISPLAY "0".
+       ONE.
+           DISPLAY "1".

@@ -1,0 +1,40 @@
+//! A row: a program, and what is to be seen of it.
+
+use std::rt::Files;
+use std::{fs, io};
+
+/// The budget of a row that names none.
+const BUDGET: u64 = 1_000_000_000;
+
+#[derive(Drop)]
+pub struct Row {
+    pub source: Vec<u8>,
+    /// What it shows.
+    pub shown: Vec<u8>,
+    /// How it ends, in words.
+    pub end: String,
+    pub budget: u64,
+}
+
+/// Reads the files of a row: `NAME.cob`, `NAME.out`, `NAME.end` and, where there is one, `NAME.budget`.
+pub fn read_row<R: Files + AllocGlobal>(rt: &R, name: &str) -> io::Result<Row> {
+    let alloc = rt.alloc();
+    let end = fs::read_to_string(rt, format!(in alloc; "{name}.end")?)?;
+    Ok(Row {
+        source: fs::read(rt, format!(in alloc; "{name}.cob")?)?,
+        shown: fs::read(rt, format!(in alloc; "{name}.out")?)?,
+        end: end.as_str().trim_end().to_string(alloc)?,
+        budget: read_budget(rt, name)?,
+    })
+}
+
+fn read_budget<R: Files + AllocGlobal>(rt: &R, name: &str) -> io::Result<u64> {
+    match fs::read_to_string(rt, format!(in rt.alloc(); "{name}.budget")?) {
+        Ok(text) => match text.as_str().trim_end().parse() {
+            Ok(budget) => Ok(budget),
+            Err(_) => Err(io::Error::from(io::ErrorKind::InvalidData)),
+        },
+        Err(error) if error.kind() == io::ErrorKind::NotFound => Ok(BUDGET),
+        Err(error) => Err(error),
+    }
+}

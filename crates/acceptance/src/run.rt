@@ -1,0 +1,75 @@
+//! Running a row in both ways.
+
+use crate::ending::Ending;
+use crate::row::Row;
+use run_unit::{compile, run_image, run_source};
+use station::MemoryStation;
+use std::alloc::{AllocError, Global};
+
+/// The day that each row is run on, YYMMDD.
+const DAY: [u8; 6] = *b"000000";
+
+/// What is seen of a run.
+#[derive(Drop)]
+struct Seen {
+    shown: Vec<u8>,
+    end: String,
+}
+
+/// How a row differs from what its files say, if it does.
+pub fn check_row(alloc: Global, row: &Row) -> Result<Option<String>, AllocError> {
+    let by_source = see_source(alloc, row)?;
+    if let Some(difference) = difference(alloc, row, &by_source)? {
+        return Ok(Some(format!(in alloc; "by run_source: {difference}")?));
+    }
+    let by_image = see_image(alloc, row)?;
+    if let Some(difference) = difference(alloc, row, &by_image)? {
+        return Ok(Some(format!(in alloc; "by compile and run_image: {difference}")?));
+    }
+    Ok(None)
+}
+
+fn difference(alloc: Global, row: &Row, seen: &Seen) -> Result<Option<String>, AllocError> {
+    let end = seen.end.as_str();
+    if end != row.end.as_str() {
+        return Ok(Some(format!(in alloc; "it ended as {end}")?));
+    }
+    if seen.shown.as_slice() != row.shown.as_slice() {
+        let count = seen.shown.len();
+        return Ok(Some(format!(in alloc; "it showed other {count} bytes")?));
+    }
+    Ok(None)
+}
+
+/// A station without sectors and console lines.
+fn plain_station(alloc: Global) -> Result<MemoryStation, AllocError> {
+    MemoryStation::new(alloc, Vec::new(alloc), Vec::new(alloc))
+}
+
+fn see_source(alloc: Global, row: &Row) -> Result<Seen, AllocError> {
+    let mut station = plain_station(alloc)?;
+    let ending = match run_source(alloc, row.source.as_slice(), &mut station, DAY, row.budget) {
+        Ok(ended) => Ending::Run(ended),
+        Err(fault) => Ending::Compile(fault),
+    };
+    told(alloc, &station, ending)
+}
+
+fn see_image(alloc: Global, row: &Row) -> Result<Seen, AllocError> {
+    let mut station = plain_station(alloc)?;
+    let ending = match compile(alloc, row.source.as_slice()) {
+        Ok(image) => {
+            let ended = run_image(alloc, image.as_slice(), &mut station, DAY, row.budget);
+            Ending::Run(ended)
+        }
+        Err(fault) => Ending::Compile(fault),
+    };
+    told(alloc, &station, ending)
+}
+
+fn told(alloc: Global, station: &MemoryStation, ending: Ending) -> Result<Seen, AllocError> {
+    Ok(Seen {
+        shown: station.shown()?,
+        end: format!(in alloc; "{ending}")?,
+    })
+}

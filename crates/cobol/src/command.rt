@@ -1,0 +1,108 @@
+//! A command: from its words to an exit status.
+
+use crate::host_station::HostStation;
+use crate::source_file::{MEMORY, read_source};
+use crate::verdict::Verdict;
+use crate::words::{Request, read_words};
+use run_unit::{CompileFault, Ended, compile, run_image};
+use std::alloc::Global;
+use std::convert::AsStr;
+use std::io::{BufRead, Write};
+use std::rt::Files;
+
+/// The steps that a run is given.
+const BUDGET: u64 = 1_000_000_000;
+/// The day that a program is told, YYMMDD.
+const DAY: [u8; 6] = *b"000000";
+/// The number of output that fails.
+const DEVICE: u8 = 80;
+
+/// Does what the words ask for; the first is the program's name. Console lines come from `console`, shown bytes go to `out`,
+/// and why a command was refused to `err`. The answer is the exit status.
+pub fn command<R, C, O, E>(rt: &R, words: &[String], console: C, mut out: O, mut err: E) -> u8
+where
+    R: Files + AllocGlobal,
+    C: BufRead + Drop,
+    O: Write + Drop,
+    E: Write + Drop,
+{
+    let verdict = match read_words(rt.alloc(), words) {
+        Ok(Request::Run(path)) => run(rt, path, console, out),
+        Ok(Request::Tell(text)) => tell(&mut out, text.as_str()),
+        Ok(Request::Wrong(text)) => {
+            let _ = err.write_all(text.as_str().as_bytes());
+            Verdict::WrongCommand
+        }
+        Err(_) => Verdict::Refused(MEMORY),
+    };
+    explain(&mut err, verdict);
+    verdict.status()
+}
+
+/// Compiles a source file and runs it.
+fn run<R, C, O>(rt: &R, path: &str, console: C, out: O) -> Verdict
+where
+    R: Files + AllocGlobal,
+    C: BufRead + Drop,
+    O: Write + Drop,
+{
+    match image_of(rt, path) {
+        Ok(image) => run_on_host(rt.alloc(), image.as_slice(), console, out),
+        Err(verdict) => verdict,
+    }
+}
+
+fn image_of<R: Files + AllocGlobal>(rt: &R, path: &str) -> Result<Vec<u8>, Verdict> {
+    let source = read_source(rt, path)?;
+    compile(rt.alloc(), source.as_slice()).map_err(refusal)
+}
+
+fn refusal(fault: CompileFault) -> Verdict {
+    match fault {
+        CompileFault::Memory => Verdict::Refused(MEMORY),
+        CompileFault::Refused(fault) => {
+            let place = fault.place();
+            Verdict::SourceFault {
+                line: place.line,
+                column: place.column,
+                number: fault.number(),
+            }
+        }
+    }
+}
+
+fn run_on_host<C: BufRead + Drop, O: Write + Drop>(
+    alloc: Global,
+    image: &[u8],
+    console: C,
+    out: O,
+) -> Verdict {
+    let Ok(mut station) = HostStation::new(alloc, console, out) else {
+        return Verdict::Refused(MEMORY);
+    };
+    let ended = run_image(alloc, image, &mut station, DAY, BUDGET);
+    if station.flush().is_err() {
+        return Verdict::Refused(DEVICE);
+    }
+    match ended {
+        Ended::Stopped => Verdict::Done,
+        Ended::Budget => Verdict::Budget,
+        Ended::Refused(refusal) => Verdict::Refused(refusal.number()),
+    }
+}
+
+/// Shows a text that was asked for.
+fn tell<O: Write>(out: &mut O, text: &str) -> Verdict {
+    if out.write_all(text.as_bytes()).is_err() || out.flush().is_err() {
+        return Verdict::Refused(DEVICE);
+    }
+    Verdict::Done
+}
+
+/// Writes the line of a verdict that has one. Where even that fails, the exit status still tells.
+pub fn explain<E: Write>(err: &mut E, verdict: Verdict) {
+    if !matches!(verdict, Verdict::Done | Verdict::WrongCommand) {
+        let _ = err.writeln(verdict);
+    }
+    let _ = err.flush();
+}

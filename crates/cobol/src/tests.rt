@@ -1,0 +1,137 @@
+//! Rows of the command: what it shows, what it says, and its exit status.
+
+use crate::command::command;
+use std::alloc::{AllocError, Global};
+use std::io::Write;
+use std::test::Fail;
+use std::{fs, io};
+
+/// What can be seen of a command.
+#[derive(Drop)]
+struct Seen {
+    status: u8,
+    out: Vec<u8>,
+    err: Vec<u8>,
+}
+
+fn words_of(alloc: Global, words: &[&str]) -> Result<Vec<String>, AllocError> {
+    let mut all = Vec::new(alloc);
+    all.push("cobol".to_string(alloc)?)?;
+    for word in words {
+        all.push(word.to_string(alloc)?)?;
+    }
+    Ok(all)
+}
+
+fn see(rt: &HostRuntime, words: &[&str]) -> Result<Seen, Fail> {
+    let alloc = rt.alloc();
+    let mut out = Vec::new(alloc);
+    let mut err = Vec::new(alloc);
+    let words = words_of(alloc, words)?;
+    let status = command(rt, words.as_slice(), io::empty(), &mut out, &mut err);
+    Ok(Seen { status, out, err })
+}
+
+/// A program of this many DISPLAY statements.
+fn displays(alloc: Global, count: u32) -> Result<String, AllocError> {
+    let mut source = String::new(alloc);
+    source.push_str(
+        "       IDENTIFICATION DIVISION.\n       PROGRAM-ID. MANY.\n       PROCEDURE DIVISION.\n",
+    )?;
+    for _ in 0..count {
+        source.push_str("           DISPLAY \"A\" NO ADVANCING.\n")?;
+    }
+    Ok(source)
+}
+
+#[test]
+fn a_file_that_is_not_there(rt: HostRuntime) -> Result<(), Fail> {
+    let seen = see(&rt, &["nothing.cob"])?;
+    assert_eq!(rt; seen.status, 4);
+    assert_eq!(rt; seen.err.as_slice(), b"refused 85\n".as_slice());
+    Ok(())
+}
+
+#[test]
+fn no_argument(rt: HostRuntime) -> Result<(), Fail> {
+    let seen = see(&rt, &[])?;
+    assert_eq!(rt; seen.status, 2);
+    assert!(rt; !seen.err.is_empty());
+    Ok(())
+}
+
+#[test]
+fn help_and_version(rt: HostRuntime) -> Result<(), Fail> {
+    let version = see(&rt, &["--version"])?;
+    assert_eq!(rt; version.status, 0);
+    assert_eq!(rt; version.out.as_slice(), b"cobol 0.1.0\n".as_slice());
+    let help = see(&rt, &["--help"])?;
+    assert_eq!(rt; help.status, 0);
+    assert!(rt;
+        help.out
+            .as_slice()
+            .starts_with(b"Compiles a COBOL-85 program and runs it\n".as_slice())
+    );
+    Ok(())
+}
+
+#[test]
+fn a_source_with_a_fault(rt: HostRuntime) -> Result<(), Fail> {
+    let head =
+        "       IDENTIFICATION DIVISION.\n       PROGRAM-ID. ROW.\n       PROCEDURE DIVISION.\n       MAIN.\n";
+    let mut source = head.as_bytes().to_vec(rt.alloc())?;
+    source.extend_from_slice(b"           DISPLAY \xe9.\n")?;
+    fs::write(&rt, "fault.cob", source.as_slice())?;
+    let seen = see(&rt, &["fault.cob"])?;
+    fs::remove_file(&rt, "fault.cob")?;
+    assert_eq!(rt; seen.status, 1);
+    assert_eq!(rt; seen.err.as_slice(), b"5:20: fault 10\n".as_slice());
+    Ok(())
+}
+
+#[test]
+fn ten_thousand_statements(rt: HostRuntime) -> Result<(), Fail> {
+    fs::write(&rt, "many.cob", displays(rt.alloc(), 10_000)?)?;
+    let seen = see(&rt, &["many.cob"])?;
+    fs::remove_file(&rt, "many.cob")?;
+    assert_eq!(rt; seen.status, 0);
+    assert_eq!(rt; seen.out.len(), 10_000);
+    assert!(rt; seen.out.iter().all(|byte| *byte == b'A'));
+    Ok(())
+}
+
+#[test]
+fn a_source_that_is_too_large(rt: HostRuntime) -> Result<(), Fail> {
+    fs::write(&rt, "large.cob", vec![in rt.alloc(); b' '; 8_000_001]?)?;
+    let seen = see(&rt, &["large.cob"])?;
+    fs::remove_file(&rt, "large.cob")?;
+    assert_eq!(rt; seen.status, 1);
+    assert_eq!(rt; seen.err.as_slice(), b"1:1: fault 13\n".as_slice());
+    Ok(())
+}
+
+/// A writer that takes nothing.
+#[derive(Drop)]
+struct Full;
+
+impl Write for Full {
+    fn write(&mut self, _buf: &[u8]) -> io::Result<usize> {
+        Err(io::Error::from(io::ErrorKind::StorageFull))
+    }
+
+    fn flush(&mut self) -> io::Result<()> {
+        Ok(())
+    }
+}
+
+#[test]
+fn output_that_fails(rt: HostRuntime) -> Result<(), Fail> {
+    fs::write(&rt, "shown.cob", displays(rt.alloc(), 1)?)?;
+    let mut err = Vec::new(rt.alloc());
+    let words = words_of(rt.alloc(), &["shown.cob"])?;
+    let status = command(&rt, words.as_slice(), io::empty(), Full, &mut err);
+    fs::remove_file(&rt, "shown.cob")?;
+    assert_eq!(rt; status, 4);
+    assert_eq!(rt; err.as_slice(), b"refused 80\n".as_slice());
+    Ok(())
+}

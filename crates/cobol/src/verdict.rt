@@ -1,0 +1,54 @@
+//! What a command answers: a line on standard error, and an exit status.
+
+ghost use Rattle.std.specs.Prelude.{◌≡◌};
+ghost use Rattle.cobol.specs.Status.{status_of};
+
+use std::fmt;
+
+/// How a command ended.
+#[derive(Clone, Copy, Debug, PartialEq, Eq)]
+pub enum Verdict {
+    /// It has done what it was asked.
+    Done,
+    /// The source is refused at this place. Lines and columns count from 1.
+    SourceFault { line: u32, column: u8, number: u8 },
+    /// The words are no command. What is wrong with them was told already.
+    WrongCommand,
+    /// A word of the command isn't text.
+    NotText,
+    /// The device, memory, an image or a host file refused something, by this number.
+    Refused(u8),
+    /// The budget was used up.
+    Budget,
+}
+
+impl Verdict {
+    /// The exit status.
+    pub fn status(self) -> u8
+        ensures { result ≡ status_of self }
+    {
+        match self {
+            Verdict::Done => 0,
+            Verdict::SourceFault { .. } => 1,
+            Verdict::WrongCommand | Verdict::NotText => 2,
+            Verdict::Refused(_) => 4,
+            Verdict::Budget => 5,
+        }
+    }
+}
+
+impl fmt::Display for Verdict {
+    fn fmt<W: fmt::Write>(&self, f: &mut fmt::Formatter<W>) -> fmt::Result {
+        match self {
+            Verdict::Done | Verdict::WrongCommand => Ok(()),
+            Verdict::NotText => write!(f, "error: an argument isn't text"),
+            Verdict::SourceFault {
+                line,
+                column,
+                number,
+            } => write!(f, "{line}:{column}: fault {number}"),
+            Verdict::Refused(number) => write!(f, "refused {number}"),
+            Verdict::Budget => write!(f, "budget"),
+        }
+    }
+}

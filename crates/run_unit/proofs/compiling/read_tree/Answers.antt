@@ -1,0 +1,28 @@
+use Rattle.std.proofs.Common.{sym, subst}
+use Rattle.std.proofs.lemmas.Result.{err_from_is_err_and}
+use Rattle.tokens.specs.Tokens.{TokensOf}
+use Rattle.statements.specs.Spelling.{max_nesting}
+use Rattle.divisions.specs.Spelling.{Spells}
+use Rattle.run_unit.proofs.Stages.{spelled_by, tree_refusal}
+use Rattle.run_unit.proofs.compiling.read_tree.Goals as goal
+
+pub returns-in_err-tree-clause-only : goal.returns-in_err-tree-clause-only
+returns-in_err-tree-clause-only c =
+    let p = err_from_is_err_and c.from_residual-in_err-tree.result c.from_residual-in_err-tree.ensures.1 in
+    rw (p.1, p.2) (λ tree is. tree_refusal tree c.in_err-tree.field-0.0 (c.in_err-tree.ensures.only max_nesting tree
+    (subst (λ t. Spells max_nesting tree t) (sym c.as_slice.ensures)
+    (spelled_by c.reference_format.ensures.only c.laws.ensures.only c.args.source.now tree is c.in_ok-lines.lines c.in_ok-tokens.tokens c.in_ok-lines.ensures c.in_ok-tokens.ensures))))
+
+pub returns-clause-tree : goal.returns-clause-tree
+returns-clause-tree c = record {
+  characters = c.in_ok-lines.lines;
+  tokens = c.as_slice.result.now;
+  format = c.reference_format.ensures.answered c.args.source.now c.in_ok-lines.lines c.in_ok-lines.ensures;
+  scanned = subst (λ t. TokensOf c.in_ok-lines.lines t) (sym c.as_slice.ensures) (c.laws.ensures.answered c.in_ok-lines.lines c.in_ok-tokens.tokens c.in_ok-tokens.ensures);
+  spelled = c.in_ok-tree.ensures.spelled;
+}
+
+pub returns-clause-only : goal.returns-clause-only
+returns-clause-only c = λ tree is. c.in_ok-tree.ensures.only max_nesting tree
+    (subst (λ t. Spells max_nesting tree t) (sym c.as_slice.ensures)
+    (spelled_by c.reference_format.ensures.only c.laws.ensures.only c.args.source.now tree is c.in_ok-lines.lines c.in_ok-tokens.tokens c.in_ok-lines.ensures c.in_ok-tokens.ensures))

@@ -1,0 +1,9 @@
+use Rattle.run_unit.proofs.Stages.{one}
+use Rattle.run_unit.proofs.Loading.{one_run}
+use Rattle.run_unit.proofs.laws.one_meaning.Goals as goal
+
+pub returns-clause-tree : goal.returns-clause-tree
+returns-clause-tree c = one c.reference_format.ensures.only c.laws.ensures.only c.one_tree.ensures
+
+pub returns-clause-run : goal.returns-clause-run
+returns-clause-run c = one_run c.run_law.ensures.one

@@ -1,0 +1,8 @@
+use Rattle.std.proofs.lemmas.Result.{err_from_is_err_and}
+use Rattle.run_unit.proofs.Stages.{memory_alone}
+use Rattle.run_unit.proofs.source.run_source.Goals as goal
+
+pub returns-in_err-image-clause-only : goal.returns-in_err-image-clause-only
+returns-in_err-image-clause-only g c =
+    let p = err_from_is_err_and c.from_residual.result c.from_residual.ensures.1 in
+    rw (p.1, p.2) (λ tree is. memory_alone tree c.in_err-image.field-0.0 (c.in_err-image.ensures.only tree is))

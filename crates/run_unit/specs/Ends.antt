@@ -1,0 +1,74 @@
+-- What is so after a run.
+use Rattle.std.specs.Prelude.{◌≡◌, ◌≤◌, ◌<◌, ◌⊎◌, ◌-◌, ◌^◌, ℕ, List, Result, Ok, Err}
+use Rattle.station.specs.State.{State}
+use Rattle.source_tree.specs.State as end
+use Rattle.source_tree.specs.Meaning.{Run}
+use Rattle.code_image.specs.declared.fault.ImageFault.{ImageFault}
+use Rattle.code_image.specs.Faults as image
+use Rattle.code_image.specs.declared.fault.ImageError.{ImageError}
+use Rattle.code_image.specs.declared.fault.ImageError.TheVariants as in_image
+use Rattle.machine.specs.declared.ended.Ended.{Ended as MachineEnded}
+use Rattle.machine.specs.declared.ended.Ended.TheVariants as machine
+use Rattle.machine.specs.declared.ended.Refusal.TheVariants as refused
+use Rattle.code_image.specs.declared.code.Code.{Code}
+use Rattle.machine.specs.declared.machine.Machine.{Machine}
+use Rattle.machine.specs.Ends.{code_of, Finished}
+use Rattle.run_unit.specs.Images.{IsImageOf, RefusesImage}
+use Rattle.run_unit.specs.declared.fault.CompileFault.{CompileFault}
+use Rattle.run_unit.specs.declared.ended.Refusal.{Refusal}
+use Rattle.run_unit.specs.declared.ended.Refusal.TheVariants.{Image, Device, Memory}
+use Rattle.run_unit.specs.declared.ended.Ended.{Ended}
+use Rattle.run_unit.specs.declared.ended.Ended.TheVariants.{Stopped, Budget, Refused}
+
+-- the number that the product prints (own choice)
+abbrev pub number_of : Refusal → ℕ
+number_of (Image fault) = image.number_of fault
+number_of Device = 80
+number_of Memory = 83
+
+-- the refusal that an error becomes
+abbrev pub from_image : ImageError → Refusal
+from_image in_image.Memory = Memory
+from_image (in_image.Refused fault) = Image fault
+
+-- how a machine's run ended
+abbrev pub ended_of : MachineEnded → Ended
+ended_of machine.Stopped = Stopped
+ended_of machine.Budget = Budget
+ended_of (machine.Refused refused.Device) = Refused Device
+
+-- What is so after each end, where this is the run. Its image is never refused, and want of memory comes before anything was
+-- done. A device fault may come at any moment.
+abbrev pub EndsAs : Run → State → Ended → State → Type 0
+EndsAs run old Stopped now = Finished run end.Stopped old now
+EndsAs run old Budget now = Finished run end.Budget old now
+EndsAs run old (Refused (Image fault)) now = ⊥
+EndsAs run old (Refused Memory) now = now ≡ old
+EndsAs run old (Refused Device) now = Unit {0}
+
+-- The count of failures never falls. A run is refused for the device only where it rose, or stood at its last value.
+pub record HasCause (ended : Ended) (old new : ℕ) : Type 0 where
+  pub no_fewer : old ≤ new
+  pub failed : ended ≡ Refused Device → (old < new) ⊎ (2 ^ 64 - 1 ≤ new)
+
+-- An image is refused by its number where that number says so.
+abbrev pub IsCauseOf : Refusal → List ℕ → Type 0
+IsCauseOf (Image fault) image = RefusesImage image fault
+IsCauseOf Device image = ⊥
+IsCauseOf Memory image = Unit {0}
+
+abbrev pub ForImage : Ended → List ℕ → Type 0
+ForImage (Refused (Image fault)) image = RefusesImage image fault
+ForImage _ image = Unit {0}
+
+-- What loading an image may answer where it is of that code.
+abbrev pub IsLoaded : Code → Result Machine Refusal → Type 0
+IsLoaded code (Ok machine) = code_of machine ≡ code
+IsLoaded code (Err Memory) = Unit {0}
+IsLoaded code (Err (Image fault)) = ⊥
+IsLoaded code (Err Device) = ⊥
+
+-- the same of a call that may refuse its source text
+abbrev pub ForSource : Result Ended CompileFault → ℕ → ℕ → Type 0
+ForSource (Ok ended) old new = HasCause ended old new
+ForSource (Err fault) old new = new ≡ old

@@ -1,0 +1,39 @@
+-- Images of programs, and their runs.
+use Rattle.std.specs.Prelude.{◌≡◌, ◌⊎◌, ℕ, List, Vec, Result, Ok, Err}
+use Rattle.std.specs.declared.alloc.Global.{Global}
+use Rattle.source_tree.specs.declared.program.Program.{Program}
+use Rattle.source_tree.specs.Meaning.{Run, meaning}
+use Rattle.code_image.specs.declared.code.Code.{Code}
+use Rattle.code_image.specs.declared.fault.ImageFault.{ImageFault}
+use Rattle.code_image.specs.Spelling.{spelling, HasSpelling}
+use Rattle.code_image.specs.Reading.{code_at}
+use Rattle.code_image.specs.Demands.{IsVerified, Refuses}
+use Rattle.code_image.specs.Table.{Runs}
+use Rattle.run_unit.specs.declared.fault.CompileFault.{CompileFault}
+use Rattle.run_unit.specs.declared.fault.CompileFault.TheVariants.{Memory, Refused}
+
+-- The bytes spell code that a machine can run.
+pub record IsImageOf (image : List ℕ) (code : Code) : Type 0 where
+  pub bytes : image ≡ spelling code
+  pub spelt : HasSpelling code
+  pub verified : IsVerified code
+
+-- The bytes are an image, and this is its run with the budget.
+pub record HasRun (image : List ℕ) (budget : ℕ) (run : Run) : Type 0 where
+  pub code : Code
+  pub is : IsImageOf image code
+  pub runs : Runs code budget run
+
+-- With each budget the run of the image is what the tree means.
+abbrev pub MeansAs : Program → List ℕ → Type 0
+MeansAs tree image = (budget : ℕ) → HasRun image budget (meaning tree budget)
+
+-- What `compile` may answer where this is the tree of the source text: an image that means the same, or that memory ran out.
+abbrev pub IsImageAnswer : Program → Result (Vec ℕ Global) CompileFault → Type 0
+IsImageAnswer tree (Ok image) = MeansAs tree image.items
+IsImageAnswer tree (Err Memory) = Unit {0}
+IsImageAnswer tree (Err (Refused fault)) = ⊥
+
+-- Why bytes are refused as an image: they spell no code, or code that breaks a demand of the machine.
+abbrev pub RefusesImage : List ℕ → ImageFault → Type 0
+RefusesImage image fault = (code_at image ≡ Err fault) ⊎ ((code : Code) × (image ≡ spelling code) × Refuses code fault)

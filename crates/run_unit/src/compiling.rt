@@ -1,0 +1,55 @@
+//! From a source text to its image.
+
+ghost use Rattle.std.specs.Prelude.{◌≡◌, ℕ, IfOk, IfErr};
+ghost use Rattle.answers.specs.Answer.{Fails};
+ghost use Rattle.source_tree.specs.declared.program.Program.{Program};
+ghost use Rattle.source_tree.specs.Meaning.{meaning};
+ghost use Rattle.run_unit.specs.Faults.{fault_of};
+ghost use Rattle.run_unit.specs.Trees.{IsTreeOf, IsTreeAnswer, tree_of};
+ghost use Rattle.run_unit.specs.Images.{MeansAs, IsImageAnswer};
+
+use crate::fault::CompileFault;
+use code_image::to_bytes;
+use codegen::generate;
+use divisions::parse;
+use source_lines::{logical, reference_format};
+use source_tree::Program;
+use std::alloc::{AllocError, Global};
+use tokens::{laws, scan};
+
+/// The tree of a source text, by the stages in order.
+fn read_tree(alloc: Global, source: &[u8]) -> Result<Program, CompileFault>
+    ensures tree { IfOk result (λ tree. IsTreeOf source.now tree) }
+    ensures only { (tree : Program) → IsTreeOf source.now tree → IsTreeAnswer tree result }
+    ensures fault { IfErr result (λ e. Fails (fault_of e) (tree_of source.now)) }
+{
+    reference_format();
+    laws();
+    let lines = logical(alloc, source)?;
+    let tokens = scan(alloc, &lines)?;
+    let tree = parse(alloc, tokens.as_slice())?;
+    Ok(tree)
+}
+
+/// The image of a tree. It is refused for want of memory alone.
+fn make_image(alloc: Global, tree: &Program) -> Result<Vec<u8>, AllocError>
+    ensures { IfOk result (λ image. MeansAs tree.now image.items) }
+{
+    let code = generate(alloc, tree)?;
+    to_bytes(alloc, &code)
+}
+
+/// The image of a source text.
+///
+/// `Refused` with the first fault that a stage meets: 10 to 14 for its lines, 15 to 18 for its tokens, 30 and 31 for its tree.
+pub fn compile(alloc: Global, source: &[u8]) -> Result<Vec<u8>, CompileFault>
+    // What is answered is an image of the source text's tree: with each budget its run is what the tree means.
+    ensures image { IfOk result (λ image. (tree : Program) × IsTreeOf source.now tree × MeansAs tree image.items) }
+    // A source text with a tree is answered with such an image, unless memory runs out.
+    ensures only { (tree : Program) → IsTreeOf source.now tree → IsImageAnswer tree result }
+    // Else the answer is the first fault of its stages.
+    ensures fault { IfErr result (λ e. Fails (fault_of e) (tree_of source.now)) }
+{
+    let tree = read_tree(alloc, source)?;
+    Ok(make_image(alloc, &tree)?)
+}

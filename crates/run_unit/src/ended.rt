@@ -1,0 +1,100 @@
+//! How a run ends.
+
+ghost use Rattle.std.specs.Prelude.{◌≡◌};
+ghost use Rattle.run_unit.specs.Ends.{number_of, ended_of};
+
+use code_image::{ImageError, ImageFault};
+use std::alloc::AllocError;
+use thiserror::Error;
+
+/// What ended a run that its program didn't end.
+#[derive(Clone, Copy, Debug, PartialEq, Eq, Error)]
+pub enum Refusal {
+    /// 70 to 74: the bytes are no image that can be run.
+    #[error("the bytes are no image that can be run")]
+    Image(ImageFault),
+    /// 80.
+    #[error("the device failed")]
+    Device,
+    /// 83.
+    #[error("out of memory")]
+    Memory,
+}
+
+// The numbers that the product prints.
+const DEVICE: u8 = 80;
+
+const MEMORY: u8 = 83;
+
+impl Refusal {
+    /// The number that the product prints.
+    pub fn number(self) -> u8
+        ensures { result ≡ number_of self }
+    {
+        match self {
+            Refusal::Image(fault) => fault.number(),
+            Refusal::Device => DEVICE,
+            Refusal::Memory => MEMORY,
+        }
+    }
+}
+
+impl From<ImageError> for Refusal {
+    ghost use Rattle.std.specs.Prelude.{◌≡◌};
+    ghost use Rattle.run_unit.specs.Ends.{from_image};
+
+    ghost from_gives = { λ error refusal. refusal ≡ from_image error };
+
+    fn from(error: ImageError) -> Refusal {
+        match error {
+            ImageError::Memory => Refusal::Memory,
+            ImageError::Refused(fault) => Refusal::Image(fault),
+        }
+    }
+}
+
+impl From<ImageFault> for Refusal {
+    ghost use Rattle.std.specs.Prelude.{◌≡◌};
+    ghost use Rattle.run_unit.specs.declared.ended.Refusal.TheVariants.{Image};
+
+    ghost from_gives = { λ fault refusal. refusal ≡ Image fault };
+
+    fn from(fault: ImageFault) -> Refusal {
+        Refusal::Image(fault)
+    }
+}
+
+impl From<AllocError> for Refusal {
+    ghost use Rattle.std.specs.Prelude.{◌≡◌};
+    ghost use Rattle.run_unit.specs.declared.ended.Refusal.TheVariants.{Memory};
+
+    ghost from_gives = { λ _ refusal. refusal ≡ Memory };
+
+    fn from(_: AllocError) -> Refusal {
+        Refusal::Memory
+    }
+}
+
+/// How a run ended.
+#[derive(Clone, Copy, Debug, PartialEq, Eq)]
+pub enum Ended {
+    /// By STOP RUN, or after the last paragraph.
+    Stopped,
+    /// A statement was to begin, and the budget was used up.
+    Budget,
+    /// The run was given up, or never began.
+    Refused(Refusal),
+}
+
+impl Ended {
+    /// How a machine's run ended.
+    pub(crate) fn of(ended: machine::Ended) -> Ended
+        ensures { result ≡ ended_of ended }
+    {
+        match ended {
+            machine::Ended::Stopped => Ended::Stopped,
+            machine::Ended::Budget => Ended::Budget,
+            machine::Ended::Refused(machine::Refusal::Device) => Ended::Refused(Refusal::Device),
+        }
+    }
+}

@@ -1,0 +1,18 @@
+//! The run unit: a source text is compiled to an image, and an image is run.
+//!
+//! Promise: what is shown at any moment of a run is a beginning of what the text means, and all of it at the end.
+#![tactic(auto)]
+
+mod compiling;
+mod ended;
+mod fault;
+mod image;
+mod laws;
+mod source;
+
+pub use compiling::compile;
+pub use ended::{Ended, Refusal};
+pub use fault::{CompileFault, Fault};
+pub use image::run_image;
+pub use laws::one_meaning;
+pub use source::run_source;

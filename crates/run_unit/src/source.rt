@@ -1,0 +1,48 @@
+//! Compiling and running in one call.
+
+ghost use Rattle.std.specs.Prelude.{◌≡◌, ◌↔◌, All, OnErr, IfOk, IfErr};
+ghost use Rattle.answers.specs.Answer.{Fails};
+ghost use Rattle.station.specs.History.{Through};
+ghost use Rattle.source_tree.specs.declared.program.Program.{Program};
+ghost use Rattle.source_tree.specs.Meaning.{meaning};
+ghost use Rattle.machine.specs.Ends.{IsDigit, Told};
+ghost use Rattle.run_unit.specs.Faults.{fault_of};
+ghost use Rattle.run_unit.specs.Trees.{IsTreeOf, tree_of};
+ghost use Rattle.run_unit.specs.Ends.{EndsAs, HasCause, ForSource};
+ghost use Rattle.run_unit.specs.declared.fault.CompileFault.TheVariants.{Memory};
+
+use crate::compiling::compile;
+use crate::ended::Ended;
+use crate::fault::CompileFault;
+use crate::image::run_image;
+use station::Station;
+use std::alloc::Global;
+
+/// Compiles a source text and runs its image. It is refused as `compile` refuses, before any call on the station.
+pub fn run_source<S: Station>(
+    alloc: Global,
+    source: &[u8],
+    station: &mut S,
+    day: [u8; 6],
+    budget: u64,
+) -> Result<Ended, CompileFault>
+    requires { All IsDigit day }
+    ensures sectors { S.sectors station.new ≡ S.sectors station.old }
+    ensures honest { S.is_honest station.old ↔ S.is_honest station.new }
+    ensures cause { ForSource result (S.failures station.old) (S.failures station.new) }
+    // A refused source text leaves the station as it was, and the answer is the first fault of its stages.
+    ensures untouched { OnErr result (station.new ≡ station.old) }
+    ensures fault { IfErr result (λ e. Fails (fault_of e) (tree_of source.now)) }
+    // A source text is run only if it has a tree. One with a tree is refused for want of memory alone.
+    ensures accepted { IfOk result (λ _. (tree : Program) × IsTreeOf source.now tree) }
+    ensures only { (tree : Program) → IsTreeOf source.now tree → IfErr result (λ e. e ≡ Memory) }
+    // At each moment of the call a beginning of what the tree means was shown, and nothing else was done.
+    ensures moments { S.is_honest station.old → (tree : Program) → IsTreeOf source.now tree →
+        Through (S.history station.old) (S.history station.new) (S.state station.new) (Told (meaning tree budget) (S.state station.old)) }
+    // At the end all of it was, and the end is the meaning's.
+    ensures ends { S.is_honest station.old → (tree : Program) → IsTreeOf source.now tree →
+        IfOk result (λ ended. EndsAs (meaning tree budget) (S.state station.old) ended (S.state station.new)) }
+{
+    let image = compile(alloc, source)?;
+    Ok(run_image(alloc, image.as_slice(), station, day, budget))
+}
