@@ -1,0 +1,16 @@
+pub mod Words
+pub mod Roots
+pub mod Frame
+pub mod Naming
+pub mod Staging
+pub mod Drafts
+pub mod Payloads
+pub mod Plans
+pub mod Committed
+pub mod Marking
+pub mod Tables
+pub mod Opened
+pub mod Edits
+pub mod Formatted
+pub mod Counted
+pub mod One

@@ -1,0 +1,52 @@
+use Rattle.std.proofs.Common.{◌≡◌, ◌<◌, inl, inr, List, length, refl, sym, ◌∙◌, ap, subst, arith}
+use Rattle.std.specs.Prelude.{Option}
+use Rattle.std.specs.List.{HoldsAt}
+use Rattle.std.proofs.lemmas.List.{map_push}
+use Rattle.station.specs.Disk.{Sector}
+use Rattle.pages.specs.Image.{NamesOnce}
+use Rattle.pages.specs.Changes.{changed, touched}
+use Rattle.pages.specs.declared.change.Change.{Change}
+use Rattle.pages.proofs.Edits.{Away, is_only, only_set, same_touched, push_touched, away_touched, touched_at}
+use Rattle.pages.proofs.Staging.{applied_more}
+use Rattle.pages.proofs.change.set_change.Goals as goal
+
+pub returns-in-Some-clause-changed : goal.returns-in-Some-clause-changed
+returns-in-Some-clause-changed c = λ once pages.
+    let old = c.args.changes.now.items in
+    let low : c.in-Some.i < length old = subst (λ (l : List Change). c.in-Some.i < length l) c.deref.ensures.value c.in-Some.ensures.found.0 in
+    let here : HoldsAt (λ (x : Change). x.page ≡ c.args.page) old c.in-Some.i = subst (λ (l : List Change). HoldsAt (λ (x : Change). x.page ≡ c.args.page) l c.in-Some.i) c.deref.ensures.value c.in-Some.ensures.found.1 in
+    let new : Change = record { page = c.args.page; bytes = c.args.bytes } in
+    only_set (λ (o : Option Sector). o) pages old c.args.page c.in-Some.i new (is_only old c.args.page c.in-Some.i once (λ e. omega (arith, e, c.requires)) low here) refl
+
+pub returns-in-Some-clause-once : goal.returns-in-Some-clause-once
+returns-in-Some-clause-once c = λ once.
+    let old = c.args.changes.now.items in
+    let low : c.in-Some.i < length old = subst (λ (l : List Change). c.in-Some.i < length l) c.deref.ensures.value c.in-Some.ensures.found.0 in
+    let here : HoldsAt (λ (x : Change). x.page ≡ c.args.page) old c.in-Some.i = subst (λ (l : List Change). HoldsAt (λ (x : Change). x.page ≡ c.args.page) l c.in-Some.i) c.deref.ensures.value c.in-Some.ensures.found.1 in
+    let new : Change = record { page = c.args.page; bytes = c.args.bytes } in
+    subst NamesOnce (sym (same_touched old c.in-Some.i new new low (sym (here new)))) once
+
+pub returns-in-Some-clause-touches : goal.returns-in-Some-clause-touches
+returns-in-Some-clause-touches c =
+    let old = c.args.changes.now.items in
+    let low : c.in-Some.i < length old = subst (λ (l : List Change). c.in-Some.i < length l) c.deref.ensures.value c.in-Some.ensures.found.0 in
+    let here : HoldsAt (λ (x : Change). x.page ≡ c.args.page) old c.in-Some.i = subst (λ (l : List Change). HoldsAt (λ (x : Change). x.page ≡ c.args.page) l c.in-Some.i) c.deref.ensures.value c.in-Some.ensures.found.1 in
+    let new : Change = record { page = c.args.page; bytes = c.args.bytes } in
+    inl (touched_at old c.in-Some.i c.args.page new low (here new), same_touched old c.in-Some.i new new low (sym (here new)))
+
+pub returns-in_ok-push-in-None-clause-changed : goal.returns-in_ok-push-in-None-clause-changed
+returns-in_ok-push-in-None-clause-changed c = λ once pages.
+    let new : Change = record { page = c.args.page; bytes = c.args.bytes } in
+    ap (changed pages) c.in_ok-push-in-None.ensures.items ∙ applied_more (λ (o : Option Sector). o) pages c.args.changes.now.items new
+
+pub returns-in_ok-push-in-None-clause-once : goal.returns-in_ok-push-in-None-clause-once
+returns-in_ok-push-in-None-clause-once c = λ once.
+    let new : Change = record { page = c.args.page; bytes = c.args.bytes } in
+    let away : Away c.args.page c.args.changes.now.items = subst (Away c.args.page) c.deref.ensures.value c.in-None.ensures.absent in
+    subst (λ (l : List Change). NamesOnce (touched l)) (sym c.in_ok-push-in-None.ensures.items) (push_touched c.args.changes.now.items new once away)
+
+pub returns-in_ok-push-in-None-clause-touches : goal.returns-in_ok-push-in-None-clause-touches
+returns-in_ok-push-in-None-clause-touches c =
+    let new : Change = record { page = c.args.page; bytes = c.args.bytes } in
+    let away : Away c.args.page c.args.changes.now.items = subst (Away c.args.page) c.deref.ensures.value c.in-None.ensures.absent in
+    inr (away_touched c.args.changes.now.items c.args.page away, ap touched c.in_ok-push-in-None.ensures.items ∙ map_push (λ (x : Change). x.page) c.args.changes.now.items new)

@@ -1,0 +1,61 @@
+use Rattle.std.proofs.Common.{◌≡◌, ◌<◌, ◌+◌, ◌*◌, ◌/◌, ◌∙◌, ℕ, List, [], ◌++◌, length, get_or, ap, sym, subst, arith, ⊎_elim}
+use Rattle.std.specs.List.{All}
+use Rattle.std.proofs.lemmas.List.Elements.{All-from_get_or, Contains-get_or}
+use Rattle.std.proofs.lemmas.List.{get_or_read}
+use Rattle.station.specs.State.{State}
+use Rattle.pages.specs.Image.{map_at, map_part}
+use Rattle.pages.specs.Marked.{IsMarked}
+use Rattle.pages.specs.declared.volume.VolumeMap.{VolumeMap}
+use Rattle.pages.proofs.Opened.{reads_now, sound_now}
+use Rattle.pages.proofs.open.read_volume.Goals as goal
+
+pub read_table-requires : goal.read_table-requires
+read_table-requires g c =
+    let root = c.in_ok-root.root in
+    let within = c.in_ok-root.ensures.within in
+    let marked : IsMarked root.maps.items c.mark_names.new.used.items = subst (λ (l : List ℕ). IsMarked l c.mark_names.new.used.items) c.deref.ensures.value (c.mark_names.ensures.marked c.if-not-mark_names.false [] c.in_ok-used.ensures.marked) in
+    subst (All (λ (m : ℕ). m < g.D.Device.sectors c.read_root.new.device)) (sym c.deref-2.ensures.value)
+    (All-from_get_or (λ (m : ℕ). m < g.D.Device.sectors c.read_root.new.device) root.maps.items 0 (λ i lt. ⊎_elim
+    (λ none. omega (arith, none, within.least, within.there, c.in_ok-root.ensures.sectors))
+    (λ place. omega (arith, place.1, c.mark_names.ensures.count, c.in_ok-used.ensures.count, within.there, c.in_ok-root.ensures.sectors))
+    (marked.names.places (get_or root.maps.items i 0) (Contains-get_or root.maps.items i 0 lt))))
+
+pub index-first-requires : goal.index-first-requires
+index-first-requires g c =
+    let within = c.in_ok-root.ensures.within in
+    let maps : length c.in_ok-root.root.maps.items ≡ (c.in_ok-root.root.sectors + 1023) / 1024 = within.maps in
+    let count : length c.in_ok-table.table.items ≡ 1024 * length c.in_ok-root.root.maps.items = c.in_ok-table.ensures.count ∙ ap (λ (l : List ℕ). 1024 * length l) c.deref-2.ensures.value in
+    omega (arith, maps, count, within.least, c.in_ok-table.table.ok)
+
+pub returns-clause-reads : goal.returns-clause-reads
+returns-clause-reads g c = λ honest.
+    let root = c.in_ok-root.root in
+    let table = c.in_ok-table.table in
+    let within = c.in_ok-root.ensures.within in
+    let present = (g.D.Device.state c.args.device.now).disk.present in
+    let m : VolumeMap = record { generation = root.generation; sectors = root.sectors; catalog = root.catalog; maps = root.maps; table = table; used = c.mark_names-2.new.used } in
+    let honest' = c.in_ok-root.ensures.honest.0 honest in
+    let maps : length root.maps.items ≡ (root.sectors + 1023) / 1024 = within.maps in
+    let count : length table.items ≡ 1024 * length root.maps.items = c.in_ok-table.ensures.count ∙ ap (λ (l : List ℕ). 1024 * length l) c.deref-2.ensures.value in
+    let marked : IsMarked root.maps.items c.mark_names.new.used.items = subst (λ (l : List ℕ). IsMarked l c.mark_names.new.used.items) c.deref.ensures.value (c.mark_names.ensures.marked c.if-not-mark_names.false [] c.in_ok-used.ensures.marked) in
+    let all_marked : IsMarked (root.maps.items ++ table.items) c.mark_names-2.new.used.items = subst (λ (l : List ℕ). IsMarked (root.maps.items ++ l) c.mark_names-2.new.used.items) c.deref-3.ensures.value (c.mark_names-2.ensures.marked c.if-not-mark_names-2.false root.maps.items marked) in
+    let some : 0 < length table.items = omega (arith, maps, count, within.least) in
+    reads_now present m c.mark_names-2.new.used.items (c.in_ok-root.ensures.root honest) count
+    (subst (λ (l : List ℕ). (i : ℕ) → i < length l → map_at present (get_or l i 0) ≡ map_part table.items i) c.deref-2.ensures.value
+    (subst (λ (s : State). (i : ℕ) → i < length c.deref-2.result.now → map_at s.disk.present (get_or c.deref-2.result.now i 0) ≡ map_part table.items i) (c.in_ok-root.ensures.state honest) (c.in_ok-table.ensures.entries honest')))
+    all_marked (c.mark_names-2.ensures.count ∙ c.mark_names.ensures.count ∙ c.in_ok-used.ensures.count)
+    (sym (get_or_read table.items 0 c.index-first.result.now some c.index-first.ensures 0) ∙ c.if-first-ne0.false)
+
+pub returns-clause-sound : goal.returns-clause-sound
+returns-clause-sound g c =
+    let root = c.in_ok-root.root in
+    let table = c.in_ok-table.table in
+    let within = c.in_ok-root.ensures.within in
+    let m : VolumeMap = record { generation = root.generation; sectors = root.sectors; catalog = root.catalog; maps = root.maps; table = table; used = c.mark_names-2.new.used } in
+    let maps : length root.maps.items ≡ (root.sectors + 1023) / 1024 = within.maps in
+    let count : length table.items ≡ 1024 * length root.maps.items = c.in_ok-table.ensures.count ∙ ap (λ (l : List ℕ). 1024 * length l) c.deref-2.ensures.value in
+    let marked : IsMarked root.maps.items c.mark_names.new.used.items = subst (λ (l : List ℕ). IsMarked l c.mark_names.new.used.items) c.deref.ensures.value (c.mark_names.ensures.marked c.if-not-mark_names.false [] c.in_ok-used.ensures.marked) in
+    let all_marked : IsMarked (root.maps.items ++ table.items) c.mark_names-2.new.used.items = subst (λ (l : List ℕ). IsMarked (root.maps.items ++ l) c.mark_names-2.new.used.items) c.deref-3.ensures.value (c.mark_names-2.ensures.marked c.if-not-mark_names-2.false root.maps.items marked) in
+    let some : 0 < length table.items = omega (arith, maps, count, within.least) in
+    sound_now m within.generation within.least within.most within.maps count all_marked (c.mark_names-2.ensures.count ∙ c.mark_names.ensures.count ∙ c.in_ok-used.ensures.count)
+    (sym (get_or_read table.items 0 c.index-first.result.now some c.index-first.ensures 0) ∙ c.if-first-ne0.false)

@@ -1,0 +1,41 @@
+use Rattle.std.proofs.Common.{◌≡◌, ◌<◌, ⊎_elim, ℕ, List, length, get_or, sym, ◌∙◌, ap, subst, arith}
+use Rattle.std.specs.Prelude.{Option, None, IfOk}
+use Rattle.std.specs.List.{All, HoldsAt}
+use Rattle.std.proofs.lemmas.List.{length-map}
+use Rattle.std.proofs.lemmas.List.Elements.{Contains-append_right, Contains-get_or}
+use Rattle.station.specs.Disk.{Sector}
+use Rattle.pages.specs.Image.{pages_in, page_at}
+use Rattle.pages.specs.declared.change.Change.{Change}
+use Rattle.pages.proofs.Edits.{Away, is_only, only_same, away_same}
+use Rattle.pages.proofs.page_map.PageMap.read.Goals as goal
+
+pub read_page-requires : goal.read_page-requires
+read_page-requires g c =
+    let ready = c.requires.open c.if-self.false in
+    let table = c.args.self.now.volume.table.items in
+    subst (All (λ (s : ℕ). s < g.D.Device.sectors c.args.device.now)) (sym c.deref-in-None.ensures.value)
+    (λ k d lt. ⊎_elim (λ none. omega (arith, none, ready.sound.least, c.requires.sectors)) (λ place. omega (arith, place.1, c.requires.sectors))
+    (ready.sound.places (get_or table k d) (Contains-append_right c.args.self.now.volume.maps.items table (get_or table k d) (Contains-get_or table k d lt))))
+
+pub returns-in-Some-clause-page : goal.returns-in-Some-clause-page
+returns-in-Some-clause-page g c = λ honest.
+    let ready = c.requires.open c.if-self.false in
+    let changes = c.args.self.now.changes.items in
+    let pages = pages_in (g.D.Device.state c.args.device.now).disk.present c.args.self.now.volume.table.items in
+    let i = c.in-Some.i in
+    let low : i < length changes = subst (λ (l : List Change). i < length l) c.deref.ensures.value c.in-Some.ensures.found.0 in
+    let here : HoldsAt (λ (x : Change). x.page ≡ c.args.page) changes i = subst (λ (l : List Change). HoldsAt (λ (x : Change). x.page ≡ c.args.page) l i) c.deref.ensures.value c.in-Some.ensures.found.1 in
+    let bounds = ready.pages i c.index.result.now low in
+    let only = is_only changes c.args.page i ready.once (λ e. omega (arith, e, bounds.0, here c.index.result.now)) low here in
+    ap (λ (x : Change). x.bytes) c.index.ensures
+    ∙ sym (only_same (λ (o : Option Sector). o) pages changes c.args.page i None c.index.result.now only (omega (arith, bounds.1, here c.index.result.now, length-map c.args.self.now.volume.table.items (page_at (g.D.Device.state c.args.device.now).disk.present))))
+
+pub returns-in-None-clause-page : goal.returns-in-None-clause-page
+returns-in-None-clause-page g c = λ honest.
+    let present = (g.D.Device.state c.args.device.now).disk.present in
+    let table = c.args.self.now.volume.table.items in
+    let away : Away c.args.page c.args.self.now.changes.items = subst (Away c.args.page) c.deref.ensures.value c.in-None.ensures.absent in
+    subst (λ (o : Option Sector). IfOk c.read_page.result (λ bytes. bytes ≡ o))
+    (ap (λ (l : List ℕ). get_or (pages_in present l) c.args.page None) c.deref-in-None.ensures.value
+    ∙ sym (away_same (λ (o : Option Sector). o) (pages_in present table) c.args.self.now.changes.items c.args.page None away))
+    (c.read_page.ensures.page honest)

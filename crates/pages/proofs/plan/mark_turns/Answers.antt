@@ -1,0 +1,16 @@
+use Rattle.std.proofs.Common.{◌∙◌, [], ◌∷◌, Bool, false, List, get_or, set, take, ap, sym, arith, length-set}
+use Rattle.std.proofs.lemmas.List.{take_more}
+use Rattle.pages.specs.Use.{turned}
+use Rattle.pages.specs.declared.draft.Turn.{Turn}
+use Rattle.pages.proofs.Naming.{turned_more}
+use Rattle.pages.proofs.plan.mark_turns.Goals as goal
+
+pub loop-turn-preserved : goal.loop-turn-preserved
+loop-turn-preserved c =
+    let i = c.loop-turn.turn-index in
+    let turns = c.args.turns.now in
+    let t : Turn = get_or turns i (record { sector = 0; used = false }) in
+    record {
+      count = length-set c.loop-turn.used.items t.sector t.used ∙ c.loop-turn.invariant.count;
+      marked = ap (λ (l : List Bool). set l t.sector t.used) c.loop-turn.invariant.marked ∙ sym (ap (turned c.args.used.now.items) (take_more turns i (record { sector = 0; used = false }) (omega arith)) ∙ turned_more c.args.used.now.items (take i turns) (t ∷ []));
+    }

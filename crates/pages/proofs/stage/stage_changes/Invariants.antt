@@ -1,0 +1,12 @@
+use Rattle.std.proofs.Common.{◌≡◌, length, take, []}
+use Rattle.pages.specs.Image.{Volume}
+use Rattle.pages.specs.Volumes.{IsDraft, SameSize}
+use Rattle.pages.proofs.stage.stage_changes.Given as goal
+
+abbrev pub invariant-loop-change : goal.invariant-loop-change
+invariant-loop-change l = record {
+  size : SameSize l.initial.volume l.volume;
+  maps : l.volume.maps ≡ l.initial.volume.maps;
+  dirty : length l.draft.dirty.items ≡ length l.initial.draft.dirty.items;
+  staged : (v : Volume) → IsDraft v l.initial.volume l.initial.draft [] → IsDraft v l.volume l.draft (take l.change-index l.changes);
+}

@@ -1,0 +1,25 @@
+use Rattle.std.proofs.Common.{◌≡◌, ℕ, false, List, sym, ◌∙◌, ap}
+use Rattle.std.proofs.Common.{rules}
+use Rattle.std.proofs.lemmas.List.{get_or_read}
+use Rattle.station.proofs.Puts.{on_ok}
+use Rattle.pages.specs.Image.{map_part}
+use Rattle.pages.proofs.Drafts.{kept_mapped, blank_mapped, written_mapped, placed_in}
+use Rattle.pages.proofs.Words.{all_zeros}
+use Rattle.pages.proofs.stage.stage_map.Goals as goal
+
+pub returns-then-not-index-clause-mapped : goal.returns-then-not-index-clause-mapped
+returns-then-not-index-clause-mapped c = λ v changes draft.
+    kept_mapped v c.args.volume.now c.args.draft.now changes c.args.map draft c.requires.map (sym (get_or_read c.args.draft.now.dirty.items c.args.map c.index.result.now c.requires.dirty c.index.ensures false) ∙ c.if-not-index.true)
+
+pub returns-then-is_blank-clause-mapped : goal.returns-then-is_blank-clause-mapped
+returns-then-is_blank-clause-mapped c = λ v changes draft.
+    let entries : c.map_entries-entries.result ≡ map_part c.args.volume.now.table.items c.args.map = c.map_entries-entries.ensures ∙ ap (λ (t : List ℕ). map_part t c.args.map) c.deref.ensures.value in
+    on_ok c.set_map.result (λ sets. blank_mapped v c.args.volume.now c.args.draft.now changes c.args.map draft c.requires.map c.set_map.new.draft c.set_map.new.volume
+    (sym entries ∙ all_zeros c.map_entries-entries.result (search rules) (sym c.is_blank.ensures ∙ c.if-is_blank.true)) sets) c.set_map.ensures.set
+
+pub returns-clause-mapped : goal.returns-clause-mapped
+returns-clause-mapped c = λ v changes draft.
+    let entries : c.map_entries-entries.result ≡ map_part c.args.volume.now.table.items c.args.map = c.map_entries-entries.ensures ∙ ap (λ (t : List ℕ). map_part t c.args.map) c.deref.ensures.value in
+    on_ok c.set_map-2.result (λ sets. written_mapped v c.args.volume.now c.args.draft.now changes c.args.map draft c.requires.map c.spelled_numbers-bytes.result c.place_block.new.draft c.set_map-2.new.draft c.set_map-2.new.volume c.in_ok-sector.sector
+    (c.spelled_numbers-bytes.ensures.reads ∙ entries)
+    (placed_in c.deref-2.ensures.value c.in_ok-sector.ensures.placed) sets) c.set_map-2.ensures.set

@@ -1,0 +1,21 @@
+use Rattle.std.proofs.Common.{◌≡◌, ◌∙◌, ℕ, Bool, length, ap, subst, arith}
+use Rattle.std.specs.Prelude.{Vec}
+use Rattle.std.specs.declared.alloc.Global.{Global}
+use Rattle.pages.specs.Volumes.{IsMappedDraft}
+use Rattle.pages.proofs.Drafts.{same_size_then}
+use Rattle.pages.proofs.stage.stage_maps.Goals as goal
+
+pub loop-map-preserved : goal.loop-map-preserved
+loop-map-preserved c =
+    let before = c.loop-map.invariant in
+    let here = c.in_ok-stage_map.ensures in
+    record {
+      size = same_size_then c.args.volume.now c.loop-map.volume c.stage_map.new.volume before.size here.size;
+      dirty = ap (λ (x : Vec Bool Global). length x.items) here.dirty ∙ before.dirty;
+      mapped = λ v changes draft. here.mapped v changes (before.mapped v changes draft);
+    }
+
+pub returns-clause-mapped : goal.returns-clause-mapped
+returns-clause-mapped c = λ v changes draft.
+    let all : c.loop-map.map ≡ length c.args.volume.now.maps.items = omega (arith, c.loop-map-test.false, c.loop-map.auto.map-end, c.len-map-end.ensures) in
+    subst (λ (n : ℕ). IsMappedDraft v c.loop-map.volume c.loop-map.draft changes n) all (c.loop-map.invariant.mapped v changes draft)

@@ -1,0 +1,13 @@
+pub mod Layout
+pub mod Image
+pub mod Changes
+pub mod Plan
+pub mod Use
+pub mod Draft
+pub mod Errors
+pub mod Volumes
+pub mod Payload
+pub mod Found
+pub mod Marked
+pub mod Empty
+pub mod Pages

@@ -1,0 +1,112 @@
+-- A volume in memory.
+use Rattle.std.specs.List.{All}
+use Rattle.std.specs.Prelude.{◌≡◌, ◌<◌, ◌≤◌, ◌+◌, ◌*◌, ◌^◌, ◌/◌, replicate, Bool, true, false, ℕ, List, [], ◌∷◌, ◌++◌, length, slice_index, slice_index_or, slice_set, Contains}
+use Rattle.station.specs.Disk.{Sector}
+use Rattle.pages.specs.Layout.{map_count}
+use Rattle.pages.specs.Image.{Volume, names, IsPlace, NamesOnce}
+use Rattle.pages.specs.Use.{IsUse, turned, turns_of}
+use Rattle.pages.specs.Draft.{Naming, IsStaged, IsMapped}
+use Rattle.pages.specs.declared.volume.VolumeMap.{VolumeMap}
+use Rattle.pages.specs.declared.draft.Draft.{Draft}
+use Rattle.pages.specs.declared.draft.Turn.{Turn}
+use Rattle.pages.specs.declared.change.Change.{Change}
+
+abbrev pub volume_of : VolumeMap → Volume
+volume_of m = record { root = record { generation = m.generation; sectors = m.sectors; catalog = m.catalog; maps = m.maps.items }; table = m.table.items }
+
+-- what is named is within the volume, each sector once, and the use is right
+pub record IsSound (m : VolumeMap) : Type 0 where
+  pub generation : m.generation < 2 ^ 63
+  pub least : 1024 ≤ m.sectors
+  pub most : m.sectors ≤ 921600
+  pub maps_count : length m.maps.items ≡ map_count m.sectors
+  pub count : length m.table.items ≡ 1024 * length m.maps.items
+  pub places : (s : ℕ) → Contains (names (volume_of m)) s → IsPlace m.sectors s
+  pub once : NamesOnce (names (volume_of m))
+  pub unused : slice_index m.table.items 0 ≡ 0
+  pub in_use : IsUse m.sectors (names (volume_of m)) m.used.items
+
+-- the next volume after v, with these changes
+pub record IsDraft (v : Volume) (m : VolumeMap) (d : Draft) (changes : List Change) : Type 0 where
+  pub in_use : IsUse v.root.sectors (names v) m.used.items
+  pub some : 0 < v.root.sectors
+  pub staged : IsStaged v m.maps.items m.table.items d.dirty.items d.blocks.items changes
+  pub naming : Naming v m.used.items (m.maps.items ++ m.table.items) d.turns.items d.next
+
+-- the first maps of it are on their way too
+pub record IsMappedDraft (v : Volume) (m : VolumeMap) (d : Draft) (changes : List Change) (next : ℕ) : Type 0 where
+  pub draft : IsDraft v m d changes
+  pub mapped : IsMapped v m.maps.items m.table.items d.blocks.items next
+
+-- nothing but the two lists of names changed, and not their lengths
+pub record SameSize (old new : VolumeMap) : Type 0 where
+  pub generation : new.generation ≡ old.generation
+  pub sectors : new.sectors ≡ old.sectors
+  pub catalog : new.catalog ≡ old.catalog
+  pub maps : length new.maps.items ≡ length old.maps.items
+  pub table : length new.table.items ≡ length old.table.items
+  pub used : new.used ≡ old.used
+
+-- a block for a sector that isn't used, behind the others
+pub record PlacesBlock (used : List Bool) (old new : Draft) (sector : ℕ) (bytes : Sector) : Type 0 where
+  pub later : old.next ≤ sector
+  pub low : sector < length used
+  pub free : slice_index_or used sector false ≡ false
+  pub blocks : new.blocks.items ≡ old.blocks.items ++ record { sector = sector; bytes = bytes } ∷ []
+  pub dirty : new.dirty ≡ old.dirty
+  pub turns : new.turns ≡ old.turns
+  pub next : new.next ≡ sector + 1
+
+-- a page has another sector, or none
+pub record SetsPage (m after : VolumeMap) (old new : Draft) (page sector : ℕ) : Type 0 where
+  pub size : SameSize m after
+  pub maps : after.maps ≡ m.maps
+  pub table : after.table.items ≡ slice_set m.table.items page sector
+  pub blocks : new.blocks ≡ old.blocks
+  pub dirty : new.dirty.items ≡ slice_set old.dirty.items (page / 1024) true
+  pub turns : new.turns.items ≡ old.turns.items ++ turns_of (slice_index m.table.items page) sector
+  pub next : new.next ≡ old.next
+
+-- a map has another sector, or none
+pub record SetsMap (m after : VolumeMap) (old new : Draft) (map sector : ℕ) : Type 0 where
+  pub size : SameSize m after
+  pub maps : after.maps.items ≡ slice_set m.maps.items map sector
+  pub table : after.table ≡ m.table
+  pub blocks : new.blocks ≡ old.blocks
+  pub dirty : new.dirty ≡ old.dirty
+  pub turns : new.turns.items ≡ old.turns.items ++ turns_of (slice_index m.maps.items map) sector
+  pub next : new.next ≡ old.next
+
+-- a page has no sector
+pub data ReleasesPage (m after : VolumeMap) (old new : Draft) (page : ℕ) : Type 0 where
+  HadNone : slice_index m.table.items page ≡ 0 → after ≡ m → new ≡ old → ReleasesPage m after old new page
+  HadOne : SetsPage m after old new page 0 → ReleasesPage m after old new page
+
+-- a draft of a volume with so many maps, with nothing in it
+pub record IsFresh (maps : ℕ) (d : Draft) : Type 0 where
+  pub blocks : d.blocks.items ≡ []
+  pub dirty : d.dirty.items ≡ replicate maps false
+  pub turns : d.turns.items ≡ []
+  pub next : d.next ≡ 2
+
+-- the next generation, with this page of the catalog's root
+pub record IsNext (old new : VolumeMap) (page : ℕ) : Type 0 where
+  pub generation : new.generation ≡ old.generation + 1
+  pub sectors : new.sectors ≡ old.sectors
+  pub catalog : new.catalog ≡ page
+  pub maps : length new.maps.items ≡ length old.maps.items
+  pub table : length new.table.items ≡ length old.table.items
+  pub used : new.used ≡ old.used
+
+-- sound, once these turns are marked
+pub record IsSoundAfter (m : VolumeMap) (turns : List Turn) : Type 0 where
+  pub generation : m.generation < 2 ^ 63
+  pub least : 1024 ≤ m.sectors
+  pub most : m.sectors ≤ 921600
+  pub maps_count : length m.maps.items ≡ map_count m.sectors
+  pub count : length m.table.items ≡ 1024 * length m.maps.items
+  pub places : (s : ℕ) → Contains (names (volume_of m)) s → IsPlace m.sectors s
+  pub once : NamesOnce (names (volume_of m))
+  pub unused : slice_index m.table.items 0 ≡ 0
+  pub in_use : IsUse m.sectors (names (volume_of m)) (turned m.used.items turns)
+  pub turns_low : All (λ (t : Turn). t.sector < length m.used.items) turns

@@ -1,0 +1,65 @@
+//! A volume's next generation is put on the disk.
+ghost use Rattle.std.specs.Prelude.{◌≡◌, ◌<◌, ◌≤◌, ◌↔◌, Err, length, OnOk};
+ghost use Rattle.std.specs.List.{All};
+ghost use Rattle.station.specs.State.{SameConsole};
+ghost use Rattle.station.specs.History.{Through};
+ghost use Rattle.station.specs.Failures.{Blames};
+ghost use Rattle.station.specs.Blocks.{Amid};
+ghost use Rattle.pages.specs.Image.{IsCommitted, map_of};
+ghost use Rattle.pages.specs.Changes.{next_map, BeforeOrAfter};
+ghost use Rattle.pages.specs.Errors.{IsCommitError};
+ghost use Rattle.pages.specs.Volumes.{volume_of, IsSound};
+
+use crate::change::Change;
+use crate::error::PagesError;
+use crate::payload::root_bytes_of;
+use crate::plan::{mark_turns, next_volume};
+use crate::volume::VolumeMap;
+use station::{Device, put};
+use std::alloc::Global;
+
+/// Puts the volume with these changes, and this page of the catalog's root, on the disk: its blocks, a sync, its root, a sync.
+/// Where it is refused, the volume in memory is of no more use.
+pub(crate) fn commit_volume<D: Device>(
+    alloc: Global,
+    device: &mut D,
+    volume: &mut VolumeMap,
+    changes: &[Change],
+    catalog: u32,
+) -> Result<(), PagesError>
+    requires sound { IsSound volume.old }
+    requires sectors { volume.old.sectors ≤ D.sectors device.old }
+    requires pages { All (λ c. (0 < c.page) × (c.page < length volume.old.table.items)) changes.now }
+    ensures honest { D.is_honest device.old ↔ D.is_honest device.new }
+    ensures sectors { D.sectors device.new ≡ D.sectors device.old }
+    ensures failures { Blames (result ≡ Err PagesError.Device) (D.failures device.old) (D.failures device.new) }
+    ensures cause { IsCommitError result }
+    ensures console { D.is_honest device.old → SameConsole (D.state device.old) (D.state device.new) }
+
+    // At each moment a crash leaves the map before, or the one after.
+    ensures moments { D.is_honest device.old → IsCommitted (volume_of volume.old) (D.state device.old).disk →
+        Through (D.history device.old) (D.history device.new) (D.state device.new)
+        (Amid (D.state device.old).events (BeforeOrAfter (map_of (D.state device.old).disk.present (volume_of volume.old))
+        (next_map (map_of (D.state device.old).disk.present (volume_of volume.old)) changes.now catalog))) }
+
+    // After `Ok` it is the one after.
+    ensures committed { D.is_honest device.old → IsCommitted (volume_of volume.old) (D.state device.old).disk → OnOk result (IsCommitted (volume_of volume.new) (D.state device.new).disk) }
+    ensures map { D.is_honest device.old → IsCommitted (volume_of volume.old) (D.state device.old).disk → OnOk result (map_of (D.state device.new).disk.present (volume_of volume.new)
+        ≡ next_map (map_of (D.state device.old).disk.present (volume_of volume.old)) changes.now catalog) }
+    ensures sound { OnOk result (IsSound volume.new) }
+    ensures same_sectors { OnOk result (volume.new.sectors ≡ volume.old.sectors) }
+
+    // Nothing was done where the volume is full.
+    ensures full { result ≡ Err PagesError.Full → D.is_honest device.old → (D.state device.new ≡ D.state device.old) × (D.history device.new ≡ D.history device.old) }
+{
+    let draft = next_volume(alloc, volume, changes, catalog)?;
+    let bytes = root_bytes_of(volume);
+    put(
+        device,
+        &draft.blocks,
+        (volume.generation % 2) as u32,
+        &bytes,
+    )?;
+    mark_turns(&mut volume.used, &draft.turns);
+    Ok(())
+}

@@ -1,0 +1,118 @@
+//! The next volume, while its blocks are chosen.
+ghost use Rattle.std.specs.Prelude.{◌≡◌, ◌<◌, ◌≤◌, ◌^◌, ◌++◌, length, slice_index_or, false, IfOk, OnOk, IfSome, ◌/◌};
+ghost use Rattle.pages.specs.Errors.{IsPlanError};
+ghost use Rattle.pages.specs.Use.{turns_of};
+ghost use Rattle.pages.specs.Volumes.{PlacesBlock, SetsPage, SetsMap};
+
+use crate::error::PagesError;
+use crate::volume::{MAP_ENTRIES, VolumeMap};
+use station::Block;
+use std::alloc::AllocError;
+
+/// A sector that becomes used, or is used no longer.
+#[derive(Clone, Copy, Debug, PartialEq, Eq)]
+pub(crate) struct Turn {
+    pub sector: u32,
+    pub used: bool,
+}
+
+/// What the next volume has other than the volume.
+#[derive(Drop)]
+pub(crate) struct Draft {
+    pub blocks: Vec<Block>,
+    /// The maps whose entries changed.
+    pub dirty: Vec<bool>,
+    /// The sectors whose use changed.
+    pub turns: Vec<Turn>,
+    /// No sector from here on is taken yet.
+    pub next: u32,
+}
+
+/// The first sector from here on that isn't used.
+pub(crate) fn next_unused(used: &[bool], from: u32) -> Option<u32>
+    requires { length used.now < 2 ^ 32 }
+    ensures { IfSome result (λ s. (from ≤ s) × (s < length used.now) × (slice_index_or used.now s false ≡ false)) }
+{
+    for i in from as usize..used.len() {
+        if !used[i] {
+            return Some(i as u32);
+        }
+    }
+    None
+}
+
+/// Notes that a name was replaced by another.
+pub(crate) fn note_turns(turns: &mut Vec<Turn>, old: u32, new: u32) -> Result<(), AllocError>
+    ensures { OnOk result (turns.new.items ≡ turns.old.items ++ turns_of old new) }
+{
+    if old != 0 {
+        turns.push(Turn {
+            sector: old,
+            used: false,
+        })?;
+    }
+    if new != 0 {
+        turns.push(Turn {
+            sector: new,
+            used: true,
+        })?;
+    }
+    Ok(())
+}
+
+/// Places a block in the next sector that isn't used.
+pub(crate) fn place_block(
+    used: &[bool],
+    draft: &mut Draft,
+    bytes: &[u8; 4096],
+) -> Result<u32, PagesError>
+    requires { length used.now < 2 ^ 32 }
+    ensures placed { IfOk result (λ sector. PlacesBlock used.now draft.old draft.new sector bytes.now) }
+    ensures cause { IsPlanError result }
+{
+    let sector = match next_unused(used, draft.next) {
+        Some(sector) => sector,
+        None => return Err(PagesError::Full),
+    };
+    let block = Block {
+        sector,
+        bytes: *bytes,
+    };
+    draft.blocks.push(block)?;
+    draft.next = sector + 1;
+    Ok(sector)
+}
+
+/// Gives a page another sector, or none.
+pub(crate) fn set_page(
+    volume: &mut VolumeMap,
+    draft: &mut Draft,
+    page: usize,
+    sector: u32,
+) -> Result<(), PagesError>
+    requires page { page < length volume.old.table.items }
+    requires dirty { page / 1024 < length draft.old.dirty.items }
+    ensures set { OnOk result (SetsPage volume.old volume.new draft.old draft.new page sector) }
+    ensures cause { IsPlanError result }
+{
+    note_turns(&mut draft.turns, volume.table[page], sector)?;
+    volume.table[page] = sector;
+    draft.dirty[page / MAP_ENTRIES] = true;
+    Ok(())
+}
+
+/// Gives a map another sector, or none.
+pub(crate) fn set_map(
+    volume: &mut VolumeMap,
+    draft: &mut Draft,
+    map: usize,
+    sector: u32,
+) -> Result<(), PagesError>
+    requires { map < length volume.old.maps.items }
+    ensures set { OnOk result (SetsMap volume.old volume.new draft.old draft.new map sector) }
+    ensures cause { IsPlanError result }
+{
+    note_turns(&mut draft.turns, volume.maps[map], sector)?;
+    volume.maps[map] = sector;
+    Ok(())
+}

@@ -1,0 +1,26 @@
+//! A finite map of pages of 4,096 bytes on a device, kept by commits.
+//!
+//! Promise: at each moment a crash leaves the map of the last commit, or of the one in progress, whole.
+#![tactic(auto)]
+
+mod change;
+mod commit;
+mod draft;
+mod empty;
+mod error;
+mod laws;
+mod marks;
+mod numbers;
+mod open;
+mod page_map;
+mod payload;
+mod plan;
+mod reading;
+mod root;
+mod stage;
+mod volume;
+
+pub use empty::format;
+pub use error::PagesError;
+pub use laws::one_map;
+pub use page_map::PageMap;

@@ -1,0 +1,25 @@
+//! A sector as 1,024 numbers of four bytes.
+ghost use Rattle.std.specs.Prelude.{◌≡◌, length};
+ghost use Rattle.pages.specs.Layout.{words, spelled};
+
+use byteorder::{BigEndian, ByteOrder};
+
+/// The numbers in a sector.
+pub(crate) fn numbers_in(bytes: &[u8; 4096]) -> [u32; 1024]
+    ensures { result ≡ words bytes.now }
+{
+    let mut numbers = [0; 1024];
+    BigEndian::read_u32_into(bytes, &mut numbers);
+    numbers
+}
+
+/// A sector of these numbers.
+pub(crate) fn spelled_numbers(numbers: &[u32]) -> [u8; 4096]
+    requires { length numbers.now ≡ 1024 }
+    ensures bytes { result ≡ spelled numbers.now }
+    ensures reads { words result ≡ numbers.now }
+{
+    let mut bytes = [0; 4096];
+    BigEndian::write_u32_into(numbers, &mut bytes);
+    bytes
+}

@@ -1,0 +1,117 @@
+//! The newest root of a volume of pages.
+ghost use Rattle.std.specs.Prelude.{◌≡◌, ◌<◌, ◌≤◌, ◌+◌, ◌*◌, ◌^◌, ◌↔◌, Err, length, IfOk, option_map, IfSome, IsTrue, ◌==◌, true, Option, Some};
+ghost use Rattle.std.specs.List.{list_all};
+ghost use Rattle.station.specs.Failures.{Blames};
+ghost use Rattle.pages.specs.Layout.{IsForeign, words, map_count, newest, volume_root, beside, VolumeRoot};
+ghost use Rattle.pages.specs.Found.{found_root, IsWithin, IsFoundWithin};
+
+use crate::error::PagesError;
+use crate::payload::{FOREIGN_MARK, MARK};
+use byteorder::{BigEndian, ByteOrder};
+use roots::{GENERATIONS, LEAST_SECTORS, MOST_SECTORS, Root, Roots, read_roots};
+use station::Device;
+use std::alloc::{AllocError, Global};
+
+/// A root that was read.
+#[derive(Drop)]
+pub(crate) struct FoundRoot {
+    pub generation: u64,
+    pub sectors: u32,
+    pub catalog: u32,
+    pub maps: Vec<u32>,
+}
+
+/// The numbers of a payload.
+fn payload_words_of(payload: &[u8; 4076]) -> [u32; 1019]
+    ensures { result ≡ words payload.now }
+{
+    let mut numbers = [0; 1019];
+    BigEndian::read_u32_into(payload, &mut numbers);
+    numbers
+}
+
+/// How many map sectors a volume of so many sectors has.
+pub(crate) fn map_count_of(sectors: u32) -> usize
+    ensures { result ≡ map_count sectors }
+{
+    (sectors as usize + 1023) / 1024
+}
+
+/// What a root's payload spells, if it is one of a volume of pages.
+pub(crate) fn payload_root(alloc: Global, root: &Root) -> Result<Option<FoundRoot>, AllocError>
+    requires { root.now.sectors ≤ 921600 }
+    ensures found { IfOk result (λ found. option_map found_root found ≡ volume_root root.now) }
+    ensures same { IfOk result (λ found. IfSome found (λ r. (r.generation ≡ root.now.generation) × (r.sectors ≡ root.now.sectors) × (length r.maps.items ≡ map_count root.now.sectors))) }
+{
+    let numbers = payload_words_of(&root.payload);
+    let count = map_count_of(root.sectors);
+    if numbers[1] as usize != count {
+        return Ok(None);
+    }
+    if !is_zeros(&numbers[2 + count..]) {
+        return Ok(None);
+    }
+    let maps = Vec::from_slice(alloc, &numbers[2..2 + count])?;
+    Ok(Some(FoundRoot {
+        generation: root.generation,
+        sectors: root.sectors,
+        catalog: numbers[0],
+        maps,
+    }))
+}
+
+/// Whether all numbers are zero.
+fn is_zeros(numbers: &[u32]) -> bool
+    ensures { result ≡ list_all (λ word. word == 0) numbers.now }
+{
+    numbers.iter().all(|word| *word == 0)
+}
+
+/// Whether a root is within the bounds of a volume on this device.
+fn is_within(root: &Root, count: u32) -> bool
+    ensures { IsTrue result ↔ IsWithin count root.now }
+{
+    root.generation < GENERATIONS
+        && LEAST_SECTORS <= root.sectors
+        && root.sectors <= MOST_SECTORS
+        && root.sectors <= count
+}
+
+/// Whether the payload of an older root, if there is one, is that of a volume of pages.
+fn is_sound_beside(alloc: Global, older: &Option<Root>, count: u32) -> Result<bool, AllocError>
+    ensures { IfOk result (λ sound. sound ≡ true → (root : Option VolumeRoot) → beside older.now root ≡ root) }
+{
+    let root = match older {
+        Some(root) => root,
+        None => return Ok(true),
+    };
+    if !is_within(root, count) {
+        return Ok(false);
+    }
+    Ok(payload_root(alloc, root)?.is_some())
+}
+
+/// The newest root of a device.
+pub(crate) fn read_root<D: Device>(alloc: Global, device: &mut D) -> Result<FoundRoot, PagesError>
+    ensures honest { D.is_honest device.old ↔ D.is_honest device.new }
+    ensures sectors { D.sectors device.new ≡ D.sectors device.old }
+    ensures failures { Blames (result ≡ Err PagesError.Device) (D.failures device.old) (D.failures device.new) }
+    ensures state { D.is_honest device.old → D.state device.new ≡ D.state device.old }
+    ensures history { D.is_honest device.old → D.history device.new ≡ D.history device.old }
+    ensures root { D.is_honest device.old → IfOk result (λ root. newest (D.state device.old).disk.present ≡ Some (found_root root)) }
+    ensures within { IfOk result (λ root. IsFoundWithin (D.sectors device.old) root) }
+    ensures foreign { D.is_honest device.old → result ≡ Err PagesError.ForeignMark → IsForeign (D.state device.old).disk.present }
+{
+    let roots = read_roots(device, &[MARK, FOREIGN_MARK], 1)?;
+    let count = device.count();
+    if !is_within(&roots.newest, count) {
+        return Err(PagesError::Damaged);
+    }
+    if !is_sound_beside(alloc, &roots.older, count)? {
+        return Err(PagesError::Damaged);
+    }
+    match payload_root(alloc, &roots.newest)? {
+        Some(root) => Ok(root),
+        None => Err(PagesError::Damaged),
+    }
+}

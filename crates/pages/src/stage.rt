@@ -1,0 +1,136 @@
+//! The blocks of the next volume: its pages, and then its maps.
+ghost use Rattle.std.specs.Prelude.{◌≡◌, ◌<◌, ◌≤◌, ◌+◌, ◌*◌, ◌^◌, ◌/◌, ◌++◌, [], ◌∷◌, ℕ, List, length, OnOk, ◌==◌};
+ghost use Rattle.std.specs.List.{All, list_all};
+ghost use Rattle.pages.specs.declared.change.Change.{Change};
+ghost use Rattle.pages.specs.Image.{Volume, map_part};
+ghost use Rattle.pages.specs.Errors.{IsPlanError};
+ghost use Rattle.pages.specs.Volumes.{IsDraft, IsMappedDraft, SameSize, ReleasesPage};
+
+use crate::change::Change;
+use crate::draft::{Draft, place_block, set_map, set_page};
+use crate::error::PagesError;
+use crate::numbers::spelled_numbers;
+use crate::volume::{MAP_ENTRIES, VolumeMap};
+
+/// Stages one changed page.
+pub(crate) fn stage_change(
+    volume: &mut VolumeMap,
+    draft: &mut Draft,
+    change: &Change,
+) -> Result<(), PagesError>
+    requires few { length volume.old.used.items < 2 ^ 32 }
+    requires page { change.now.page < length volume.old.table.items }
+    requires dirty { change.now.page / 1024 < length draft.old.dirty.items }
+    ensures cause { IsPlanError result }
+    ensures size { OnOk result (SameSize volume.old volume.new) }
+    ensures maps { OnOk result (volume.new.maps ≡ volume.old.maps) }
+    ensures dirty { OnOk result (length draft.new.dirty.items ≡ length draft.old.dirty.items) }
+    ensures staged { (v : Volume) (changes : List Change) → 0 < change.now.page → IsDraft v volume.old draft.old changes → OnOk result (IsDraft v volume.new draft.new (changes ++ change.now ∷ [])) }
+{
+    let page = change.page as usize;
+    match &change.bytes {
+        Some(bytes) => {
+            let sector = place_block(&volume.used, draft, bytes)?;
+            set_page(volume, draft, page, sector)
+        }
+        None => release_page(volume, draft, page),
+    }
+}
+
+/// Takes a page's sector away, if it has one.
+pub(crate) fn release_page(
+    volume: &mut VolumeMap,
+    draft: &mut Draft,
+    page: usize,
+) -> Result<(), PagesError>
+    requires page { page < length volume.old.table.items }
+    requires dirty { page / 1024 < length draft.old.dirty.items }
+    ensures released { OnOk result (ReleasesPage volume.old volume.new draft.old draft.new page) }
+    ensures cause { IsPlanError result }
+{
+    if volume.table[page] == 0 {
+        return Ok(());
+    }
+    set_page(volume, draft, page, 0)
+}
+
+/// Stages each changed page.
+pub(crate) fn stage_changes(
+    volume: &mut VolumeMap,
+    draft: &mut Draft,
+    changes: &[Change],
+) -> Result<(), PagesError>
+    requires few { length volume.old.used.items < 2 ^ 32 }
+    requires pages { All (λ c. (0 < c.page) × (c.page < length volume.old.table.items)) changes.now }
+    requires count { length volume.old.table.items ≡ 1024 * length draft.old.dirty.items }
+    ensures cause { IsPlanError result }
+    ensures size { OnOk result (SameSize volume.old volume.new) }
+    ensures maps { OnOk result (volume.new.maps ≡ volume.old.maps) }
+    ensures dirty { OnOk result (length draft.new.dirty.items ≡ length draft.old.dirty.items) }
+    ensures staged { (v : Volume) → IsDraft v volume.old draft.old [] → OnOk result (IsDraft v volume.new draft.new changes.now) }
+{
+    for change in changes {
+        stage_change(volume, draft, change)?;
+    }
+    Ok(())
+}
+
+/// The entries of one map.
+fn map_entries(table: &[u32], map: usize) -> [u32; 1024]
+    requires { 1024 * map + 1024 ≤ length table.now }
+    ensures { result ≡ map_part table.now map }
+{
+    let mut entries = [0; 1024];
+    let start = MAP_ENTRIES * map;
+    entries.copy_from_slice(&table[start..start + MAP_ENTRIES]);
+    entries
+}
+
+/// Whether no entry of a map names a sector.
+fn is_blank(entries: &[u32; 1024]) -> bool
+    ensures { result ≡ list_all (λ entry. entry == 0) entries.now }
+{
+    entries.iter().all(|entry| *entry == 0)
+}
+
+/// Stages one map, if its entries changed.
+pub(crate) fn stage_map(
+    volume: &mut VolumeMap,
+    draft: &mut Draft,
+    map: usize,
+) -> Result<(), PagesError>
+    requires few { length volume.old.used.items < 2 ^ 32 }
+    requires map { map < length volume.old.maps.items }
+    requires dirty { map < length draft.old.dirty.items }
+    requires count { length volume.old.table.items ≡ 1024 * length volume.old.maps.items }
+    ensures cause { IsPlanError result }
+    ensures size { OnOk result (SameSize volume.old volume.new) }
+    ensures dirty { OnOk result (draft.new.dirty ≡ draft.old.dirty) }
+    ensures mapped { (v : Volume) (changes : List Change) → IsMappedDraft v volume.old draft.old changes map → OnOk result (IsMappedDraft v volume.new draft.new changes (map + 1)) }
+{
+    if !draft.dirty[map] {
+        return Ok(());
+    }
+    let entries = map_entries(&volume.table, map);
+    if is_blank(&entries) {
+        return set_map(volume, draft, map, 0);
+    }
+    let bytes = spelled_numbers(&entries);
+    let sector = place_block(&volume.used, draft, &bytes)?;
+    set_map(volume, draft, map, sector)
+}
+
+/// Stages each map whose entries changed.
+pub(crate) fn stage_maps(volume: &mut VolumeMap, draft: &mut Draft) -> Result<(), PagesError>
+    requires few { length volume.old.used.items < 2 ^ 32 }
+    requires count { length volume.old.table.items ≡ 1024 * length volume.old.maps.items }
+    requires dirty { length draft.old.dirty.items ≡ length volume.old.maps.items }
+    ensures cause { IsPlanError result }
+    ensures size { OnOk result (SameSize volume.old volume.new) }
+    ensures mapped { (v : Volume) (changes : List Change) → IsMappedDraft v volume.old draft.old changes 0 → OnOk result (IsMappedDraft v volume.new draft.new changes (length volume.old.maps.items)) }
+{
+    for map in 0..volume.maps.len() {
+        stage_map(volume, draft, map)?;
+    }
+    Ok(())
+}

@@ -1,0 +1,19 @@
+//! A volume, as memory knows it.
+
+/// Pages and map sectors that a map names.
+pub(crate) const MAP_ENTRIES: usize = 1024;
+
+/// The newest root, the sector of each page, and which sectors are used.
+#[derive(Drop)]
+pub(crate) struct VolumeMap {
+    pub generation: u64,
+    pub sectors: u32,
+    /// The page of the catalog's root, 0 for none.
+    pub catalog: u32,
+    /// The sector of each map sector, 0 for a map of zeros.
+    pub maps: Vec<u32>,
+    /// The sector of each page, 0 for none.
+    pub table: Vec<u32>,
+    /// Whether a sector is a root or is named.
+    pub used: Vec<bool>,
+}

@@ -1,0 +1,4 @@
+pub mod Root
+pub mod Pair
+pub mod Reading
+pub mod Laws

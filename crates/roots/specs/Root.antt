@@ -1,0 +1,42 @@
+-- A root sector (own choice): a mark of 8 bytes, the generation in 8, the number of sectors in 4, and the payload. Numbers are big-endian.
+use Rattle.std.specs.Prelude.{Bool, ◌&&◌, ℕ, ◌+◌, ◌%◌, ◌^◌, ◌==◌, nat_eq, nat_lt, nat_le, List, ◌++◌, length, take, drop, position, Option, Some, None, if◌then◌else◌}
+use Rattle.std.specs.List.{starts_with, list_all}
+use Rattle.byteorder.specs.Endian.{big_number, big_bytes}
+use Rattle.station.specs.Disk.{Sector}
+use Rattle.roots.specs.declared.root.Root.{Root}
+use Rattle.roots.specs.declared.root.RootSector.{RootSector}
+use Rattle.roots.specs.declared.root.RootSector.TheVariants.{Blank, Broken, Valid}
+
+-- the place of the first known mark that the sector begins with
+abbrev pub place : List (List ℕ) → Sector → Option ℕ
+place known bytes = position (λ mark. starts_with nat_eq bytes mark) known
+
+abbrev pub root_with : Sector → ℕ → Root
+root_with bytes mark = record { mark = mark; generation = big_number 8 (drop 8 bytes); sectors = big_number 4 (drop 16 bytes); payload = drop 20 bytes }
+
+-- a generation below 2^63 and of the parity of the sector's number; from 1,024 to 921,600 sectors, which the device has
+abbrev pub is_valid : ℕ → ℕ → Root → Bool
+is_valid count number root =
+    nat_lt root.generation (2 ^ 63) && (root.generation % 2 == number) && nat_le 1024 root.sectors && nat_le root.sectors 921600 && nat_le root.sectors count
+
+abbrev pub valid_at : ℕ → ℕ → Root → RootSector
+valid_at count number root = if is_valid count number root then Valid root else Broken
+
+abbrev pub marked : ℕ → ℕ → Sector → Option ℕ → RootSector
+marked count number bytes None = Broken
+marked count number bytes (Some mark) = valid_at count number (root_with bytes mark)
+
+abbrev pub is_blank : Sector → Bool
+is_blank bytes = list_all (λ byte. byte == 0) bytes
+
+-- what the root sector of this number is
+abbrev pub root_in : List (List ℕ) → ℕ → ℕ → Sector → RootSector
+root_in known count number bytes = if is_blank bytes then Blank else marked count number bytes (place known bytes)
+
+-- a sector after these bytes were put there
+abbrev pub put_at : ℕ → List ℕ → Sector → Sector
+put_at at part bytes = take at bytes ++ part ++ drop (at + length part) bytes
+
+-- the bytes of a root sector
+abbrev pub root_bytes : List ℕ → Root → Sector
+root_bytes mark root = mark ++ big_bytes 8 root.generation ++ big_bytes 4 root.sectors ++ root.payload

@@ -1,0 +1,8 @@
+//! The laws of the roots, which the crates above stand on.
+ghost use Rattle.roots.specs.Laws.{NextIsNewest, ReadsBack};
+
+/// The next root, once it stands in its sector, is the newest. A root's bytes are read as that root.
+pub fn next_is_newest()
+    ensures newest { NextIsNewest }
+    ensures reads_back { ReadsBack }
+{}

@@ -1,0 +1,59 @@
+//! The roots of a device.
+ghost use Rattle.std.specs.Prelude.{◌≡◌, ◌↔◌, ◌<◌, Err, IfOk, IfErr};
+ghost use Rattle.station.specs.Disk.{sector_at};
+ghost use Rattle.station.specs.Failures.{Blames};
+ghost use Rattle.answers.specs.Answer.{Gives};
+ghost use Rattle.roots.specs.Root.{root_in};
+ghost use Rattle.roots.specs.Reading.{roots_in, fault_of};
+
+use crate::error::RootsError;
+use crate::pair::{Roots, RootsFault, newest_of};
+use crate::root::{RootSector, read_root};
+use station::Device;
+
+/// What a root sector of a device is.
+fn root_of<D: Device>(
+    device: &mut D,
+    known: &[[u8; 8]],
+    number: u32,
+) -> Result<RootSector, RootsError>
+    requires { number < D.sectors device.old }
+    ensures honest { D.is_honest device.old ↔ D.is_honest device.new }
+    ensures sectors { D.sectors device.new ≡ D.sectors device.old }
+    ensures failures { Blames (result ≡ Err RootsError.Device) (D.failures device.old) (D.failures device.new) }
+    ensures state { D.is_honest device.old → D.state device.new ≡ D.state device.old }
+    ensures history { D.is_honest device.old → D.history device.new ≡ D.history device.old }
+    ensures root { D.is_honest device.old → IfOk result (λ root. root ≡ root_in known.now (D.sectors device.old) number (sector_at (D.state device.old).disk.present number)) }
+    ensures cause { IfErr result (λ error. error ≡ RootsError.Device) }
+{
+    let mut bytes = [0; 4096];
+    device.read(number, &mut bytes)?;
+    Ok(read_root(known, device.count(), number, &bytes))
+}
+
+/// The roots of a device, to a reader that knows these marks. Of them the first `own` are those of its own format, in the order
+/// in which they came up. Nothing is written.
+pub fn read_roots<D: Device>(
+    device: &mut D,
+    known: &[[u8; 8]],
+    own: usize,
+) -> Result<Roots, RootsError>
+    ensures honest { D.is_honest device.old ↔ D.is_honest device.new }
+    ensures sectors { D.sectors device.new ≡ D.sectors device.old }
+    ensures failures { Blames (result ≡ Err RootsError.Device) (D.failures device.old) (D.failures device.new) }
+    ensures state { D.is_honest device.old → D.state device.new ≡ D.state device.old }
+    ensures history { D.is_honest device.old → D.history device.new ≡ D.history device.old }
+
+    // The roots of the present image, or the fault that it has.
+    ensures roots { D.is_honest device.old → Gives (λ roots. roots) fault_of result (roots_in known.now own (D.state device.old).disk.present) }
+{
+    if device.count() < 2 {
+        return Err(RootsError::Roots(RootsFault::Damaged));
+    }
+    let first = root_of(device, known, 0)?;
+    let second = root_of(device, known, 1)?;
+    match newest_of(own, first, second) {
+        Ok(roots) => Ok(roots),
+        Err(fault) => Err(RootsError::Roots(fault)),
+    }
+}
