@@ -1,0 +1,23 @@
+//! Measures what is to be fast. Each word of the command line names a measurement; without any it lists them.
+#![tactic(auto)]
+
+mod decimals;
+mod sources;
+
+use std::io;
+
+fn main(rt: HostRuntime) -> io::Result<()> {
+    let mut named = false;
+    for word in std::env::args(&rt)?.skip(1) {
+        named = true;
+        match word.as_str() {
+            "sources" => sources::measure(&rt)?,
+            "decimals" => decimals::measure(&rt)?,
+            other => println!(rt; "there is no measurement {other}")?,
+        }
+    }
+    if !named {
+        println!(rt; "measurements: sources, decimals")?;
+    }
+    Ok(())
+}

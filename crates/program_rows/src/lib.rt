@@ -1,0 +1,8 @@
+//! Rows of single calls on programs as tests: trees, code, images and runs on a station, each with values from outside.
+//! Nothing here is built into the product.
+#![tactic(auto)]
+
+#[cfg(test)]
+mod code_rows;
+#[cfg(test)]
+mod tree_rows;

@@ -1,0 +1,12 @@
+//! Rows of single calls as tests: source lines, tokens, pictures and decimals, each on values from outside.
+//! Nothing here is built into the product.
+#![tactic(auto)]
+
+#[cfg(test)]
+mod decimal_rows;
+#[cfg(test)]
+mod picture_rows;
+#[cfg(test)]
+mod source_line_rows;
+#[cfg(test)]
+mod token_rows;

@@ -1,0 +1,259 @@
+//! Rows of the two root sectors of a volume: which is the newest, and what is damaged.
+use roots::{
+    GENERATIONS, Root, RootSector, RootsError, RootsFault, newest_of, read_root, read_roots,
+    root_sector,
+};
+use station::{Device, MemoryStation};
+use std::alloc::{AllocError, Global};
+use std::test::Fail;
+
+// The reader's own marks, the older first, then another format's.
+const KNOWN: [[u8; 8]; 3] = [*b"COBVOL01", *b"COBVOL02", *b"COBHALF1"];
+
+const OWN: usize = 2;
+
+const SECTORS: u32 = 2048;
+
+#[derive(Clone, Copy)]
+enum Sector {
+    Zeros,
+    Noise,
+    // The place of its mark in `KNOWN`, its generation and its number of sectors.
+    Root(usize, u64, u32),
+}
+
+#[derive(Clone, Copy, Debug, PartialEq, Eq)]
+enum Found {
+    // The newest generation, and whether there is an older root.
+    Newest(u64, bool),
+    Damaged,
+    Foreign,
+}
+
+// The bytes after the number of sectors.
+fn payload() -> [u8; 4076] {
+    [9; 4076]
+}
+
+fn filled(byte: u8) -> [u8; 4096] {
+    [byte; 4096]
+}
+
+fn bytes_of(sector: Sector) -> [u8; 4096] {
+    match sector {
+        Sector::Zeros => filled(0),
+        Sector::Noise => filled(7),
+        Sector::Root(mark, generation, sectors) => {
+            let root = Root {
+                mark,
+                generation,
+                sectors,
+                payload: payload(),
+            };
+            match KNOWN.get(mark) {
+                Some(mark) => root_sector(mark, &root),
+                None => root_sector(b"NOTKNOWN", &root),
+            }
+        }
+    }
+}
+
+fn read(number: u32, sector: Sector) -> RootSector {
+    read_root(&KNOWN, SECTORS, number, &bytes_of(sector))
+}
+
+fn pair(first: Sector, second: Sector) -> Found {
+    match newest_of(OWN, read(0, first), read(1, second)) {
+        Ok(roots) => Found::Newest(roots.newest.generation, roots.older.is_some()),
+        Err(RootsFault::Damaged) => Found::Damaged,
+        Err(RootsFault::ForeignMark) => Found::Foreign,
+    }
+}
+
+// The sectors 0 and 1 on a device of 2,048 sectors.
+const PAIRS: [(Sector, Sector, Found); 27] = [
+    // a new volume, and one after each commit
+    (
+        Sector::Root(0, 0, 1024),
+        Sector::Zeros,
+        Found::Newest(0, false),
+    ),
+    (
+        Sector::Root(0, 0, 1024),
+        Sector::Root(0, 1, 1024),
+        Found::Newest(1, true),
+    ),
+    (
+        Sector::Root(0, 2, 1024),
+        Sector::Root(0, 1, 1024),
+        Found::Newest(2, true),
+    ),
+    (
+        Sector::Zeros,
+        Sector::Root(0, 1, 1024),
+        Found::Newest(1, false),
+    ),
+    // zeros, a broken sector
+    (Sector::Zeros, Sector::Zeros, Found::Damaged),
+    (Sector::Noise, Sector::Root(0, 1, 1024), Found::Damaged),
+    (Sector::Root(0, 0, 1024), Sector::Noise, Found::Damaged),
+    (Sector::Zeros, Sector::Noise, Found::Damaged),
+    // unequal numbers of sectors
+    (
+        Sector::Root(0, 0, 1024),
+        Sector::Root(0, 1, 1025),
+        Found::Damaged,
+    ),
+    // generations that aren't adjacent
+    (
+        Sector::Root(0, 0, 1024),
+        Sector::Root(0, 3, 1024),
+        Found::Damaged,
+    ),
+    (
+        Sector::Root(0, 4, 1024),
+        Sector::Root(0, 1, 1024),
+        Found::Damaged,
+    ),
+    // a generation in the other sector
+    (Sector::Root(0, 1, 1024), Sector::Zeros, Found::Damaged),
+    (Sector::Zeros, Sector::Root(0, 2, 1024), Found::Damaged),
+    (
+        Sector::Root(0, 1, 1024),
+        Sector::Root(0, 0, 1024),
+        Found::Damaged,
+    ),
+    // the last generation and one more
+    (
+        Sector::Zeros,
+        Sector::Root(0, GENERATIONS - 1, 1024),
+        Found::Newest(GENERATIONS - 1, false),
+    ),
+    (
+        Sector::Root(0, GENERATIONS, 1024),
+        Sector::Zeros,
+        Found::Damaged,
+    ),
+    (
+        Sector::Root(0, GENERATIONS, 1024),
+        Sector::Root(0, GENERATIONS - 1, 1024),
+        Found::Damaged,
+    ),
+    // numbers of sectors: too few, more than the device has
+    (Sector::Root(0, 0, 1023), Sector::Zeros, Found::Damaged),
+    (
+        Sector::Root(0, 0, 2048),
+        Sector::Zeros,
+        Found::Newest(0, false),
+    ),
+    (Sector::Root(0, 0, 2049), Sector::Zeros, Found::Damaged),
+    // marks: a later one, an earlier one, another format's, none that is known
+    (
+        Sector::Root(0, 0, 1024),
+        Sector::Root(1, 1, 1024),
+        Found::Newest(1, true),
+    ),
+    (
+        Sector::Root(1, 0, 1024),
+        Sector::Zeros,
+        Found::Newest(0, false),
+    ),
+    (
+        Sector::Root(1, 0, 1024),
+        Sector::Root(0, 1, 1024),
+        Found::Damaged,
+    ),
+    (Sector::Root(2, 0, 1024), Sector::Zeros, Found::Foreign),
+    (
+        Sector::Root(2, 0, 1024),
+        Sector::Root(2, 1, 1024),
+        Found::Foreign,
+    ),
+    (
+        Sector::Root(0, 0, 1024),
+        Sector::Root(2, 1, 1024),
+        Found::Damaged,
+    ),
+    (Sector::Root(3, 0, 1024), Sector::Zeros, Found::Damaged),
+];
+
+#[test]
+fn pairs_of_root_sectors(rt: HostRuntime) -> Result<(), Fail> {
+    let mut row = 0u32;
+    for (first, second, expected) in PAIRS.iter() {
+        assert_eq!(rt; pair(*first, *second), *expected, "row {row}");
+        row = row.wrapping_add(1);
+    }
+    Ok(())
+}
+
+// A volume has at most 921,600 sectors, however large the device is.
+#[test]
+fn the_largest_volume(rt: HostRuntime) -> Result<(), Fail> {
+    for (sectors, valid) in [(921_600, true), (921_601, false)] {
+        let bytes = bytes_of(Sector::Root(0, 0, sectors));
+        let root = read_root(&KNOWN, 2_000_000, 0, &bytes);
+        assert_eq!(rt; matches!(root, RootSector::Valid(_)), valid, "{sectors}");
+    }
+    Ok(())
+}
+
+#[test]
+fn bytes_of_a_root(rt: HostRuntime) -> Result<(), Fail> {
+    let bytes = bytes_of(Sector::Root(0, 258, 1024));
+    let front = *b"COBVOL01\0\0\0\0\0\0\x01\x02\0\0\x04\0\x09\x09";
+    assert_eq!(rt; &bytes[..22], front.as_slice());
+    assert_eq!(rt; bytes[4095], 9);
+    match read(0, Sector::Root(0, 258, 1024)) {
+        RootSector::Valid(root) => {
+            assert_eq!(rt; (root.mark, root.generation, root.sectors), (0, 258, 1024));
+            assert_eq!(rt; root.payload.as_slice(), payload().as_slice());
+        }
+        _ => assert!(rt; false),
+    }
+    Ok(())
+}
+
+fn station_of(alloc: Global, sectors: u32) -> Result<MemoryStation, AllocError> {
+    let bytes = vec![in alloc; [0; 4096]; sectors as usize]?;
+    MemoryStation::new(alloc, bytes, Vec::new(alloc))
+}
+
+// Devices without a volume, of 0, 1, 2 and 1,024 sectors.
+#[test]
+fn devices_without_roots(rt: HostRuntime) -> Result<(), Fail> {
+    for (sectors, reads) in [(0, 0), (1, 0), (2, 2), (1024, 2)] {
+        let mut station = station_of(rt.alloc(), sectors)?;
+        let answer = read_roots(&mut station, &KNOWN, OWN);
+        assert_eq!(rt;
+            answer,
+            Err(RootsError::Roots(RootsFault::Damaged)),
+            "{sectors}"
+        );
+        assert_eq!(rt;
+            (station.reads(), station.writes(), station.syncs()),
+            (reads, 0, 0),
+            "{sectors}"
+        );
+    }
+    Ok(())
+}
+
+// The roots of a device; where the first or the second read fails, a device fault.
+#[test]
+fn roots_of_a_device(rt: HostRuntime) -> Result<(), Fail> {
+    let mut station = station_of(rt.alloc(), 1024)?;
+    assert!(rt; station.count() == 1024);
+    station.write(0, &bytes_of(Sector::Root(0, 6, 1024)))?;
+    station.write(1, &bytes_of(Sector::Root(0, 7, 1024)))?;
+    for (call, failed) in [(1, true), (2, true), (3, false)] {
+        station.fail_at(call);
+        let answer = match read_roots(&mut station, &KNOWN, OWN) {
+            Ok(roots) => (roots.newest.generation == 7 && roots.older.is_some(), false),
+            Err(error) => (true, error == RootsError::Device),
+        };
+        assert_eq!(rt; answer, (true, failed), "{call}");
+    }
+    assert_eq!(rt; station.writes(), 2);
+    Ok(())
+}
