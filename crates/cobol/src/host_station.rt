@@ -1,4 +1,4 @@
-//! A station on the host: console lines come from a reader, shown bytes go to a writer. It has no sectors.
+//! A station on the host: console lines come from a reader, shown bytes go to a writer. Without a volume it has no sectors.
 //!
 //! It is claimed of it that it counts its failures, and nothing more.
 
@@ -18,6 +18,8 @@ pub struct HostStation<R, W: Write + Drop> {
     console: R,
     out: BufWriter<W>,
     failures: u64,
+    /// The sectors of its volume.
+    sectors: u32,
 }
 
 impl<R: BufRead + Drop, W: Write + Drop> HostStation<R, W> {
@@ -26,12 +28,14 @@ impl<R: BufRead + Drop, W: Write + Drop> HostStation<R, W> {
             console,
             out: BufWriter::new(alloc, out)?,
             failures: 0,
+            sectors: 0,
         })
     }
 
     /// What was shown reaches the writer's end.
     pub fn flush(&mut self) -> Result<(), DeviceError>
-        ensures { CountsFailure result self.old.failures self.new.failures }
+        ensures failures { CountsFailure result self.old.failures self.new.failures }
+        ensures sectors { self.new.sectors ≡ self.old.sectors }
     {
         if self.out.flush().is_err() {
             return self.fail();
@@ -42,6 +46,7 @@ impl<R: BufRead + Drop, W: Write + Drop> HostStation<R, W> {
     fn fail<T>(&mut self) -> Result<T, DeviceError>
         ensures err { IsErr result }
         ensures failures { CountsFailure result self.old.failures self.new.failures }
+        ensures sectors { self.new.sectors ≡ self.old.sectors }
     {
         self.failures = self.failures.saturating_add(1);
         Err(DeviceError::Failed)
@@ -57,7 +62,7 @@ impl<R: BufRead + Drop, W: Write + Drop> Device for HostStation<R, W> {
 
     ghost failures = { λ s. s.failures };
 
-    ghost sectors = { λ _. 0 };
+    ghost sectors = { λ s. s.sectors };
 
     ghost all_present = { λ _ honest. absurd honest };
 
@@ -68,7 +73,7 @@ impl<R: BufRead + Drop, W: Write + Drop> Device for HostStation<R, W> {
     ghost possible = { λ _ honest. absurd honest };
 
     fn count(&self) -> u32 {
-        0
+        self.sectors
     }
 
     fn read(&mut self, _sector: u32, _bytes: &mut [u8; 4096]) -> Result<(), DeviceError> {
