@@ -12,12 +12,13 @@ fn main(rt: HostRuntime) -> io::Result<()> {
         named = true;
         match word.as_str() {
             "sources" => sources::measure(&rt)?,
+            "memory" => sources::measure_memory(&rt)?,
             "decimals" => decimals::measure(&rt)?,
             other => println!(rt; "there is no measurement {other}")?,
         }
     }
     if !named {
-        println!(rt; "measurements: sources, decimals")?;
+        println!(rt; "measurements: sources, memory, decimals")?;
     }
     Ok(())
 }

@@ -51,3 +51,14 @@ pub fn measure(rt: &HostRuntime) -> io::Result<()> {
     )?;
     measure_one(rt, "short lines", b"       A.\n")
 }
+
+/// Seven tabs and a letter in each line, through `logical` alone: most characters for the bytes. What memory that takes is told by
+/// the system that runs this program.
+pub fn measure_memory(rt: &HostRuntime) -> io::Result<()> {
+    let source = filled(rt.alloc(), b"\t\t\t\t\t\t\tA\n")?;
+    let count = match logical(rt.alloc(), source.as_slice()) {
+        Ok(lines) => lines.characters().len(),
+        Err(_) => 0,
+    };
+    println!(rt; "lines of tabs: {count} characters")
+}
