@@ -99,7 +99,7 @@ module _ (v : Volume) (m : VolumeMap) (d : Draft) (changes : List Change) (draft
             (page_released v maps table d.dirty.items d.blocks.items changes c draft.staged some low is d.dirty.items (inr (refl, none)));
         naming = draft.naming;
       }))
-  release_drafted last after is (HadOne sets) = record {
+  release_drafted last after is (HadOne some_there sets) = record {
     in_use = subst (λ (u : Vec Bool Global). IsUse v.root.sectors (names v) u.items) (sym sets.size.used) draft.in_use;
     some = draft.some;
     staged = staged_as v maps after.maps.items (set table c.page 0) after.table.items (set d.dirty.items (c.page / 1024) true) last.dirty.items d.blocks.items last.blocks.items (changes ++ c ∷ [])
@@ -176,12 +176,14 @@ same_size_then a b c first second = record {
   maps = second.maps ∙ first.maps;
   table = second.table ∙ first.table;
   used = second.used ∙ first.used;
+  free = second.free ∙ first.free;
 }
 
 pub placed_in : {used used' : List Bool} {old new : Draft} {s : ℕ} {bytes : Sector} → used ≡ used' → PlacesBlock used old new s bytes → PlacesBlock used' old new s bytes
 placed_in same placed = record {
   later = placed.later;
   low = rw (sym same) placed.low;
+  first = rw (sym same) placed.first;
   free = rw (sym same) placed.free;
   blocks = placed.blocks;
   dirty = placed.dirty;

@@ -1,20 +1,20 @@
 -- One page of the changed ones, set and read.
-use Rattle.std.proofs.Common.{◌≡◌, ◌≢◌, inr, ◌<◌, ℕ, zero, suc, List, [], ◌∷◌, ◌++◌, length, map, set, get_or, refl, sym, ◌∙◌, ap, subst, arith, get_or-set_other, get_or-set_same, length-set}
-use Rattle.std.specs.Prelude.{Option, Some, None, Contains, is_some, false}
+use Rattle.std.proofs.Common.{◌≡◌, ◌≢◌, inr, ◌<◌, ℕ, zero, suc, List, [], ◌∷◌, ◌++◌, ◌==◌, not, length, map, set, get_or, refl, sym, ◌∙◌, ap, subst, arith, get_or-set_other, get_or-set_same, length-set}
+use Rattle.std.specs.Prelude.{Option, Some, None, Contains, is_some, IfNone, false, true}
 use Rattle.std.specs.List.{All}
-use Rattle.std.proofs.lemmas.Bool.{false≢true}
+use Rattle.std.proofs.lemmas.Bool.{false≢true, ne_eqb}
 use Rattle.std.proofs.lemmas.List.{set_comm, set-set, set-get_or, map-set, map_push, get_or-map, length-map}
 use Rattle.std.proofs.lemmas.List.Elements.{All-head, All-tail}
 use Rattle.station.specs.Disk.{Sector}
 use Rattle.pages.specs.declared.change.Change.{Change}
-use Rattle.pages.specs.Image.{NamesOnce}
-use Rattle.pages.specs.Changes.{applied}
+use Rattle.pages.specs.Image.{NamesOnce, page_at, pages_in}
+use Rattle.pages.specs.Changes.{applied, kept}
 use Rattle.pages.proofs.Marking.{push_once}
 
 abbrev pub Away : ℕ → List Change → Type 0
 Away page changes = All (λ (c : Change). c.page ≢ page) changes
 
-length-applied : {X : Type 0} (f : Option Sector → X) (pages : List X) (changes : List Change) → length (applied f pages changes) ≡ length pages
+pub length-applied : {X : Type 0} (f : Option Sector → X) (pages : List X) (changes : List Change) → length (applied f pages changes) ≡ length pages
 length-applied f pages [] = refl
 length-applied f pages (c ∷ changes) = length-applied f (set pages c.page (f c.bytes)) changes ∙ length-set pages c.page (f c.bytes)
 
@@ -95,3 +95,38 @@ touched_at changes i page d low here = (i, omega (arith, low, length-map changes
 pub none_from : {T : Type 0} (o : Option T) → is_some o ≡ false → o ≡ None
 none_from None is = refl
 none_from (Some x) is = absurd (false≢true (sym is))
+
+kept_here : (image : List Sector) (s : ℕ) → is_some (page_at image s) ≡ not (s == 0)
+kept_here image zero = refl
+kept_here image (suc s) = sym (ap not (ne_eqb (suc s) 0 (λ e. omega (arith, e))))
+
+kept_before : (image : List Sector) (table : List ℕ) → map is_some (pages_in image table) ≡ map (λ s. not (s == 0)) table
+kept_before image [] = refl
+kept_before image (s ∷ table) = rw (kept_here image s) (rw (kept_before image table) refl)
+
+kept_after : (pages : List (Option Sector)) (changes : List Change) → map is_some (applied (λ o. o) pages changes) ≡ applied is_some (map is_some pages) changes
+kept_after pages [] = refl
+kept_after pages (c ∷ changes) = kept_after (set pages c.page c.bytes) changes ∙ ap (λ l. applied is_some l changes) (map-set is_some pages c.page c.bytes)
+
+some_at : (pages : List (Option Sector)) (page : ℕ) → get_or (map is_some pages) page false ≡ is_some (get_or pages page None)
+some_at [] page = refl
+some_at (x ∷ pages) zero = refl
+some_at (x ∷ pages) (suc page) = some_at pages page
+
+-- whether a page is in the map
+pub kept_at : (image : List Sector) (table : List ℕ) (changes : List Change) (page : ℕ) → get_or (kept table changes) page false ≡ is_some (get_or (applied (λ o. o) (pages_in image table) changes) page None)
+kept_at image table changes page =
+    ap (λ l. get_or l page false) (ap (λ l. applied is_some l changes) (sym (kept_before image table)) ∙ sym (kept_after (pages_in image table) changes))
+    ∙ some_at (applied (λ o. o) (pages_in image table) changes) page
+
+-- what follows where there is none
+pub if_none : {T P Q : Type 0} (o : Option T) → (P → Q) → IfNone o P → IfNone o Q
+if_none None f p = f p
+if_none (Some x) f p = p
+
+-- a page number that isn't used
+pub unused_none : (image : List Sector) (table : List ℕ) (changes : List Change) (page : ℕ) → get_or (kept table changes) page false ≡ false → get_or (applied (λ o. o) (pages_in image table) changes) page None ≡ None
+unused_none image table changes page is = none_from (get_or (applied (λ o. o) (pages_in image table) changes) page None) (sym (kept_at image table changes page) ∙ is)
+
+pub used_some : (image : List Sector) (table : List ℕ) (changes : List Change) (page : ℕ) → get_or (kept table changes) page false ≡ true → get_or (applied (λ o. o) (pages_in image table) changes) page None ≡ None → ⊥
+used_some image table changes page is none = false≢true (sym (ap is_some none) ∙ sym (kept_at image table changes page) ∙ is)

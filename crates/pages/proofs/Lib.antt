@@ -11,6 +11,10 @@ pub mod Marking
 pub mod Tables
 pub mod Opened
 pub mod Edits
+pub mod Caches
 pub mod Formatted
 pub mod Counted
+pub mod Counting
+pub mod Taking
 pub mod One
+pub mod Refused

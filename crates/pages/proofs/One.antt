@@ -8,7 +8,7 @@ use Rattle.pages.specs.Image.{map_part, map_at, pages_in, Volume, Map, map_of, R
 use Rattle.pages.proofs.Roots.{one_root}
 
 -- tables of equal parts are equal
-same_parts : (k : ℕ) (a b : List ℕ) → length a ≡ 1024 * k → length b ≡ 1024 * k → ((i : ℕ) → i < k → map_part a i ≡ map_part b i) → a ≡ b
+pub same_parts : (k : ℕ) (a b : List ℕ) → length a ≡ 1024 * k → length b ≡ 1024 * k → ((i : ℕ) → i < k → map_part a i ≡ map_part b i) → a ≡ b
 same_parts zero a b a_count b_count same = nil_from_length a (omega (arith, a_count)) ∙ sym (nil_from_length b (omega (arith, b_count)))
 same_parts (suc k) a b a_count b_count same =
     sym (take-append-drop 1024 a) ∙ ap (λ (l : List ℕ). l ++ drop 1024 a) (same 0 (omega arith))

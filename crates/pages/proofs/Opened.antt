@@ -9,7 +9,7 @@ use Rattle.pages.specs.Layout.{newest, map_count}
 use Rattle.pages.specs.Image.{map_at, map_part, Volume, IsPlace, Reads, IsCommitted}
 use Rattle.pages.specs.Use.{IsUse}
 use Rattle.pages.specs.Marked.{IsMarked}
-use Rattle.pages.specs.Volumes.{volume_of, IsSound}
+use Rattle.pages.specs.Volumes.{volume_of, IsSound, unused_count}
 use Rattle.pages.specs.declared.volume.VolumeMap.{VolumeMap}
 
 -- the roots alone are used
@@ -56,8 +56,8 @@ reads_now image m used root count entries marked all first = record {
 }
 
 pub sound_now : (m : VolumeMap) → m.generation < 2 ^ 63 → 1024 ≤ m.sectors → m.sectors ≤ 921600 → length m.maps.items ≡ map_count m.sectors → length m.table.items ≡ 1024 * length m.maps.items
-    → IsMarked (m.maps.items ++ m.table.items) m.used.items → length m.used.items ≡ m.sectors → get_or m.table.items 0 0 ≡ 0 → IsSound m
-sound_now m generation least most maps count marked all first = record {
+    → IsMarked (m.maps.items ++ m.table.items) m.used.items → length m.used.items ≡ m.sectors → get_or m.table.items 0 0 ≡ 0 → m.free ≡ unused_count m.used.items → IsSound m
+sound_now m generation least most maps count marked all first free = record {
   generation = generation;
   least = least;
   most = most;
@@ -67,6 +67,7 @@ sound_now m generation least most maps count marked all first = record {
   once = marked.names.once;
   unused = first;
   in_use = subst (λ (n : ℕ). IsUse n (m.maps.items ++ m.table.items) m.used.items) all marked.in_use;
+  free = free;
 }
 
 pub committed_now : (old : State) (mid new : State) (v : Volume) → mid ≡ synced old → new ≡ mid → Reads mid.disk.present v → IsCommitted v new.disk

@@ -15,7 +15,7 @@ use Rattle.pages.specs.Image.{Volume, names, IsPlace, IsFree, pages_in, map_at, 
 use Rattle.pages.specs.Layout.{map_count}
 use Rattle.pages.specs.Use.{IsUse, turned}
 use Rattle.pages.specs.Plan.{IsPlan}
-use Rattle.pages.specs.Volumes.{volume_of, IsSound, IsSoundAfter, IsDraft, IsMappedDraft, IsFresh, IsNext, SameSize}
+use Rattle.pages.specs.Volumes.{volume_of, IsSound, IsSoundAfter, IsDraft, IsMappedDraft, IsFresh, IsNext, SameSize, unused_count}
 
 -- nothing is staged yet
 pub started : (m : VolumeMap) (d : Draft) → IsSound m → IsFresh (length m.maps.items) d → IsDraft (volume_of m) m d []
@@ -49,7 +49,7 @@ maps_started m after d changes draft same = record {
 }
 
 module _ (m staged : VolumeMap) (after : VolumeMap) (d : Draft) (changes : List Change) (catalog : ℕ) (sound : IsSound m) (done : IsMappedDraft (volume_of m) staged d changes (length m.maps.items)) (size : SameSize m staged)
-    (same_maps : after.maps ≡ staged.maps) (same_table : after.table ≡ staged.table) (same_used : after.used ≡ staged.used) (same_sectors : after.sectors ≡ staged.sectors)
+    (same_maps : after.maps ≡ staged.maps) (same_table : after.table ≡ staged.table) (same_used : after.used ≡ staged.used) (same_free : after.free ≡ staged.free) (same_sectors : after.sectors ≡ staged.sectors)
     (generation : after.generation ≡ staged.generation + 1) (is_catalog : after.catalog ≡ catalog) where
   abbrev v : Volume
   v = volume_of m
@@ -98,6 +98,7 @@ module _ (m staged : VolumeMap) (after : VolumeMap) (d : Draft) (changes : List 
     maps = ap length maps_is ∙ size.maps;
     table = ap length table_is ∙ size.table;
     used = same_used ∙ size.used;
+    free = same_free ∙ size.free;
   }
 
   pub is_sound_after : m.generation + 1 < 2 ^ 63 → IsSoundAfter after d.turns.items
@@ -111,5 +112,6 @@ module _ (m staged : VolumeMap) (after : VolumeMap) (d : Draft) (changes : List 
     once = rw named_is done.draft.naming.once;
     unused = unused;
     in_use = rw same_used (rw named_is (rw sectors_is done.draft.naming.in_use));
+    free = same_free ∙ size.free ∙ sound.free ∙ ap (λ (x : Vec Bool Global). unused_count x.items) (sym (same_used ∙ size.used));
     turns_low = λ k d lt. omega (arith, done.draft.naming.turns_low k d lt, ap length (ap (λ (x : Vec Bool Global). x.items) (same_used ∙ size.used)), sound.in_use.count);
   }

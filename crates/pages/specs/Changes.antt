@@ -1,5 +1,9 @@
 -- Pages that were changed since the last commit.
-use Rattle.std.specs.Prelude.{◌≡◌, ◌⊎◌, ◌+◌, ℕ, List, [], ◌∷◌, ◌++◌, map, slice_set, Option, Contains}
+use Rattle.std.specs.Prelude.{◌≡◌, ◌≢◌, ◌⊎◌, ◌<◌, ◌+◌, ◌==◌, Bool, not, nat_eq, ℕ, List, [], ◌∷◌, ◌++◌, map, length, slice_set, Option, None, Some, is_some, Contains}
+use Rattle.std.specs.List.{All, HoldsAt}
+use Rattle.std.specs.declared.hash.FoldHasher.{FoldHasher}
+use Rattle.std.specs.declared.hash.BuildHasherDefault.{BuildHasherDefault}
+use Rattle.std.specs.HashMap.{HashMap, get}
 use Rattle.station.specs.Disk.{Sector}
 use Rattle.pages.specs.Image.{Map, Holds}
 use Rattle.pages.specs.declared.change.Change.{Change}
@@ -12,6 +16,10 @@ applied f pages (c ∷ changes) = applied f (slice_set pages c.page (f c.bytes))
 -- the pages after them
 abbrev pub changed : List (Option Sector) → List Change → List (Option Sector)
 changed pages changes = applied (λ bytes. bytes) pages changes
+
+-- whether each page is in the map after them, where the table names the sectors of the pages before
+abbrev pub kept : List ℕ → List Change → List Bool
+kept table changes = applied is_some (map (λ s. not (s == 0)) table) changes
 
 -- the map of the next generation
 abbrev pub next_map : Map → List Change → ℕ → Map
@@ -28,3 +36,12 @@ touched changes = map (λ c. c.page) changes
 -- one page joins those that were changed, or was among them
 abbrev pub Touches : List ℕ → ℕ → List ℕ → Type 0
 Touches old page new = (Contains old page × (new ≡ old)) ⊎ ((Contains old page → ⊥) × (new ≡ old ++ page ∷ []))
+
+-- places in a list by page number
+abbrev pub Places : Type 0
+Places = HashMap ℕ ℕ (BuildHasherDefault FoldHasher)
+
+-- each place is that of the page's change, and a page without one has no change
+pub record ArePlaced (changes : List Change) (places : Places) : Type 0 where
+  pub found : (page i : ℕ) → get nat_eq places page ≡ Some i → (i < length changes) × HoldsAt (λ (c : Change). c.page ≡ page) changes i
+  pub absent : (page : ℕ) → get nat_eq places page ≡ None → All (λ (c : Change). c.page ≢ page) changes

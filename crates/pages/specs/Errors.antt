@@ -1,9 +1,12 @@
 -- The numbers of the refusals, and what an error of the roots becomes.
-use Rattle.std.specs.Prelude.{◌≡◌, ◌⊎◌, ℕ, Result, Ok, Err}
+use Rattle.std.specs.Prelude.{◌≡◌, ◌⊎◌, ℕ, List, Result, Ok, Err}
+use Rattle.station.specs.Disk.{Sector}
 use Rattle.roots.specs.declared.error.RootsError.{RootsError}
 use Rattle.roots.specs.declared.error.RootsError.TheVariants as roots
 use Rattle.roots.specs.declared.pair.RootsFault.{RootsFault}
 use Rattle.roots.specs.declared.pair.RootsFault.TheVariants as fault
+use Rattle.pages.specs.Layout.{IsForeign}
+use Rattle.pages.specs.Image.{IsDamaged}
 use Rattle.pages.specs.declared.error.PagesError.{PagesError}
 use Rattle.pages.specs.declared.error.PagesError.TheVariants.{Device, Full, Damaged, Memory, Spent, ForeignMark}
 
@@ -28,6 +31,25 @@ abbrev pub IsReadError : {T : Type 0} → Result T PagesError → Type 0
 IsReadError (Ok x) = Unit {0}
 IsReadError (Err e) = (e ≡ Device) ⊎ (e ≡ Memory)
 
+-- What an error of opening tells of the image: `Device` and `Memory` tell nothing of it, and `Full` and `Spent` don't come.
+abbrev pub Refuses : List Sector → PagesError → Type 0
+Refuses image Device = Unit {0}
+Refuses image Full = ⊥
+Refuses image Damaged = IsDamaged image
+Refuses image Memory = Unit {0}
+Refuses image Spent = ⊥
+Refuses image ForeignMark = IsForeign image
+
+-- an error of opening alone
+abbrev pub IsOpenError : {T : Type 0} → Result T PagesError → Type 0
+IsOpenError (Ok x) = Unit {0}
+IsOpenError (Err e) = (e ≡ Device) ⊎ (e ≡ Damaged) ⊎ (e ≡ Memory) ⊎ (e ≡ ForeignMark)
+
+-- this error, unless the device or memory failed
+abbrev pub Tells : {T : Type 0} → PagesError → Result T PagesError → Type 0
+Tells fault (Ok x) = ⊥
+Tells fault (Err e) = (e ≡ fault) ⊎ (e ≡ Device) ⊎ (e ≡ Memory)
+
 -- an error of planning alone
 abbrev pub IsPlanError : {T : Type 0} → Result T PagesError → Type 0
 IsPlanError (Ok x) = Unit {0}
@@ -37,3 +59,18 @@ IsPlanError (Err e) = (e ≡ Full) ⊎ (e ≡ Memory)
 abbrev pub IsCommitError : {T : Type 0} → Result T PagesError → Type 0
 IsCommitError (Ok x) = Unit {0}
 IsCommitError (Err e) = (e ≡ Device) ⊎ (e ≡ Full) ⊎ (e ≡ Memory)
+
+-- an error of an edit
+abbrev pub IsEditRefusal : {T : Type 0} → Result T PagesError → Type 0
+IsEditRefusal (Ok x) = Unit {0}
+IsEditRefusal (Err e) = (e ≡ Memory) ⊎ (e ≡ Spent)
+
+-- an error of an allocation
+abbrev pub IsAllocateRefusal : {T : Type 0} → Result T PagesError → Type 0
+IsAllocateRefusal (Ok x) = Unit {0}
+IsAllocateRefusal (Err e) = (e ≡ Full) ⊎ (e ≡ Memory) ⊎ (e ≡ Spent)
+
+-- an error of a commit
+abbrev pub IsCommitRefusal : {T : Type 0} → Result T PagesError → Type 0
+IsCommitRefusal (Ok x) = Unit {0}
+IsCommitRefusal (Err e) = (e ≡ Device) ⊎ (e ≡ Full) ⊎ (e ≡ Memory) ⊎ (e ≡ Spent)

@@ -1,6 +1,5 @@
 -- A root that was read.
 use Rattle.std.specs.Prelude.{◌≡◌, ◌<◌, ◌≤◌, ◌^◌, ℕ, length}
-use Rattle.roots.specs.declared.root.Root.{Root}
 use Rattle.pages.specs.Layout.{VolumeRoot, map_count}
 use Rattle.pages.specs.declared.root.FoundRoot.{FoundRoot}
 
@@ -8,9 +7,6 @@ abbrev pub found_root : FoundRoot → VolumeRoot
 found_root r = record { generation = r.generation; sectors = r.sectors; catalog = r.catalog; maps = r.maps.items }
 
 -- within the bounds of a volume, on a device of so many sectors
-abbrev pub IsWithin : ℕ → Root → Type 0
-IsWithin count root = (root.generation < 2 ^ 63) × (1024 ≤ root.sectors) × (root.sectors ≤ 921600) × (root.sectors ≤ count)
-
 pub record IsFoundWithin (count : ℕ) (r : FoundRoot) : Type 0 where
   pub generation : r.generation < 2 ^ 63
   pub least : 1024 ≤ r.sectors

@@ -1,7 +1,7 @@
 -- What an image holds.
 use Rattle.std.specs.Prelude.{◌≡◌, ◌≢◌, ◌⊎◌, ◌<◌, ◌≤◌, ◌*◌, ℕ, zero, suc, List, ◌++◌, map, length, take, drop, slice_index, Option, Some, None, Contains}
 use Rattle.station.specs.Disk.{Disk, Sector, sector_at, IsSettled}
-use Rattle.pages.specs.Layout.{VolumeRoot, newest, words, zeros}
+use Rattle.pages.specs.Layout.{VolumeRoot, newest, IsForeign, words, zeros}
 
 -- the entries of the map sector with this number
 abbrev pub map_at : List Sector → ℕ → List ℕ
@@ -58,9 +58,14 @@ pub record Map : Type 0 where
 abbrev pub map_of : List Sector → Volume → Map
 map_of image v = record { generation = v.root.generation; catalog = v.root.catalog; pages = pages_in image v.table }
 
--- the image holds this map; it is damaged where it holds none
+-- the image holds this map
 abbrev pub Holds : List Sector → Map → Type 0
 Holds image m = (v : Volume) × Reads image v × (map_of image v ≡ m)
+
+-- the image holds no map, and its newest root isn't another format's
+pub record IsDamaged (image : List Sector) : Type 0 where
+  pub none : (m : Map) → Holds image m → ⊥
+  pub own : IsForeign image → ⊥
 
 -- a sector that neither the root nor its maps name
 pub record IsFree (v : Volume) (s : ℕ) : Type 0 where

@@ -1,8 +1,10 @@
 pub mod Layout
 pub mod Image
 pub mod Changes
+pub mod Cache
 pub mod Plan
 pub mod Use
+pub mod Needed
 pub mod Draft
 pub mod Errors
 pub mod Volumes

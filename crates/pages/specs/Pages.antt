@@ -1,10 +1,14 @@
 -- What the user of the pages sees.
-use Rattle.std.specs.Prelude.{◌≡◌, ◌<◌, ◌+◌, Bool, false, ℕ, List, length, Option, None, slice_index_or}
+use Rattle.std.specs.Prelude.{◌≡◌, ◌≢◌, ◌⊎◌, ◌<◌, ◌≤◌, ◌+◌, ◌*◌, ◌^◌, Bool, false, ℕ, List, [], length, Option, None, slice_index_or}
 use Rattle.std.specs.List.{All}
 use Rattle.station.specs.Disk.{Disk, Sector}
 use Rattle.pages.specs.Image.{Volume, Map, NamesOnce, pages_in, IsCommitted}
-use Rattle.pages.specs.Changes.{changed, touched}
+use Rattle.pages.specs.Changes.{changed, touched, ArePlaced}
+use Rattle.pages.specs.Use.{free_count}
+use Rattle.pages.specs.Needed.{needed}
 use Rattle.pages.specs.Volumes.{volume_of, IsSound}
+use Rattle.pages.specs.Cache.{IsCacheOf}
+use Rattle.lru.specs.LruCache.{LruCache}
 use Rattle.pages.specs.declared.change.Change.{Change}
 use Rattle.pages.specs.declared.page_map.PageMap.{PageMap}
 
@@ -41,14 +45,36 @@ page_count p = length p.volume.table.items
 abbrev pub IsPage : PageMap → ℕ → Type 0
 IsPage p page = (0 < page) × (page < page_count p)
 
--- the disk is as the last commit left it
-abbrev pub Agrees : PageMap → Disk → Type 0
-Agrees p disk = IsCommitted (committed_of p) disk
+-- the pages in memory that weren't changed, the most recently used first, and how many there may be
+abbrev pub cache_of : PageMap → LruCache ℕ Sector
+cache_of p = p.cache
+
+-- the disk is as the last commit left it, and so are the pages of the cache
+pub record Agrees (p : PageMap) (disk : Disk) : Type 0 where
+  pub committed : IsCommitted (committed_of p) disk
+  pub cache : IsCacheOf (pages_in disk.present p.volume.table.items) (touched_of p) p.cache.entries
+
+-- each page number from 1 on is in the map
+abbrev pub HasEachPage : PageMap → Type 0
+HasEachPage p = (image : List Sector) (page : ℕ) → IsPage p page → page_of (map_now p image) page ≢ None
+
+-- how many sectors the next commit needs
+abbrev pub needed_of : PageMap → ℕ
+needed_of p = needed (committed_of p) p.changes.items
+
+-- a page or the page of the catalog's root was changed
+abbrev pub HasChanges : PageMap → Type 0
+HasChanges p = (touched_of p ≡ []) × (p.catalog ≡ p.volume.catalog) → ⊥
+
+-- the next commit writes, and too few sectors are free for it, or no generation is left
+abbrev pub IsFull : PageMap → Type 0
+IsFull p = HasChanges p × ((free_count (committed_of p) < needed_of p) ⊎ (2 ^ 63 ≤ p.volume.generation + 1))
 
 pub record IsReady (p : PageMap) : Type 0 where
   pub sound : IsSound p.volume
   pub pages : All (λ (c : Change). (0 < c.page) × (c.page < length p.volume.table.items)) p.changes.items
   pub once : NamesOnce (touched p.changes.items)
+  pub placed : ArePlaced p.changes.items p.places
 
 -- what every call keeps: until it is spent, the volume in memory is sound
 abbrev pub IsOpen : PageMap → Type 0
@@ -67,3 +93,7 @@ pub record SamePages (m n : Map) : Type 0 where
 pub record SameCommitted (old new : PageMap) : Type 0 where
   pub volume : new.volume ≡ old.volume
   pub spent : new.spent ≡ old.spent
+
+-- a commit needs at most two sectors for each page that was changed
+abbrev pub FewNeeded : Type 0
+FewNeeded = (p : PageMap) → needed_of p ≤ 2 * length (touched_of p)

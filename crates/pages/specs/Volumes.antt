@@ -1,10 +1,13 @@
 -- A volume in memory.
-use Rattle.std.specs.List.{All}
-use Rattle.std.specs.Prelude.{◌≡◌, ◌<◌, ◌≤◌, ◌+◌, ◌*◌, ◌^◌, ◌/◌, replicate, Bool, true, false, ℕ, List, [], ◌∷◌, ◌++◌, length, slice_index, slice_index_or, slice_set, Contains}
+use Rattle.std.specs.List.{All, list_any}
+use Rattle.std.specs.Prelude.{◌≡◌, ◌≢◌, ◌<◌, ◌≤◌, ◌+◌, ◌*◌, ◌^◌, ◌/◌, ◌==◌, not, count_by, map, take, replicate, Bool, true, false, ℕ, List, [], ◌∷◌, ◌++◌, length, slice_index, slice_index_or, slice_set, Contains}
 use Rattle.station.specs.Disk.{Sector}
+use Rattle.station.specs.declared.blocks.Block.{Block}
 use Rattle.pages.specs.Layout.{map_count}
 use Rattle.pages.specs.Image.{Volume, names, IsPlace, NamesOnce}
-use Rattle.pages.specs.Use.{IsUse, turned, turns_of}
+use Rattle.pages.specs.Use.{IsUse, turned, turns_of, free_count}
+use Rattle.pages.specs.Changes.{kept}
+use Rattle.pages.specs.Needed.{filled, alters}
 use Rattle.pages.specs.Draft.{Naming, IsStaged, IsMapped}
 use Rattle.pages.specs.declared.volume.VolumeMap.{VolumeMap}
 use Rattle.pages.specs.declared.draft.Draft.{Draft}
@@ -13,6 +16,10 @@ use Rattle.pages.specs.declared.change.Change.{Change}
 
 abbrev pub volume_of : VolumeMap → Volume
 volume_of m = record { root = record { generation = m.generation; sectors = m.sectors; catalog = m.catalog; maps = m.maps.items }; table = m.table.items }
+
+-- how many sectors aren't marked as used
+abbrev pub unused_count : List Bool → ℕ
+unused_count used = count_by (λ u. not u) used
 
 -- what is named is within the volume, each sector once, and the use is right
 pub record IsSound (m : VolumeMap) : Type 0 where
@@ -25,6 +32,7 @@ pub record IsSound (m : VolumeMap) : Type 0 where
   pub once : NamesOnce (names (volume_of m))
   pub unused : slice_index m.table.items 0 ≡ 0
   pub in_use : IsUse m.sectors (names (volume_of m)) m.used.items
+  pub free : m.free ≡ unused_count m.used.items
 
 -- the next volume after v, with these changes
 pub record IsDraft (v : Volume) (m : VolumeMap) (d : Draft) (changes : List Change) : Type 0 where
@@ -38,6 +46,25 @@ pub record IsMappedDraft (v : Volume) (m : VolumeMap) (d : Draft) (changes : Lis
   pub draft : IsDraft v m d changes
   pub mapped : IsMapped v m.maps.items m.table.items d.blocks.items next
 
+-- each block's sector is behind those of the blocks before it
+abbrev pub AreAscending : List Block → Type 0
+AreAscending blocks = (i j : ℕ) (d e : Block) → i < j → j < length blocks → (slice_index_or blocks i d).sector < (slice_index_or blocks j e).sector
+
+-- blocks were placed in ascending sectors, one in each sector below `next` that isn't marked as used
+pub record IsTaken (used : List Bool) (next : ℕ) (blocks : List Block) : Type 0 where
+  pub start : 0 < next
+  pub count : unused_count (take next used) ≡ length blocks
+  pub low : All (λ (b : Block). b.sector < next) blocks
+  pub ascending : AreAscending blocks
+
+-- There are as many blocks as these changes with bytes, and so many maps. The table has the pages after the changes.
+pub record IsCounted (v : Volume) (m : VolumeMap) (d : Draft) (changes : List Change) (maps : ℕ) : Type 0 where
+  pub free : unused_count m.used.items ≡ free_count v
+  pub taken : IsTaken m.used.items d.next d.blocks.items
+  pub blocks : length d.blocks.items ≡ filled changes + maps
+  pub pages : map (λ s. not (s == 0)) m.table.items ≡ kept v.table changes
+  pub dirty : (i : ℕ) → i < length d.dirty.items → slice_index_or d.dirty.items i false ≡ list_any (alters v i) changes
+
 -- nothing but the two lists of names changed, and not their lengths
 pub record SameSize (old new : VolumeMap) : Type 0 where
   pub generation : new.generation ≡ old.generation
@@ -46,11 +73,13 @@ pub record SameSize (old new : VolumeMap) : Type 0 where
   pub maps : length new.maps.items ≡ length old.maps.items
   pub table : length new.table.items ≡ length old.table.items
   pub used : new.used ≡ old.used
+  pub free : new.free ≡ old.free
 
 -- a block for a sector that isn't used, behind the others
 pub record PlacesBlock (used : List Bool) (old new : Draft) (sector : ℕ) (bytes : Sector) : Type 0 where
   pub later : old.next ≤ sector
   pub low : sector < length used
+  pub first : (s : ℕ) → old.next ≤ s → s < sector → slice_index_or used s false ≡ true
   pub free : slice_index_or used sector false ≡ false
   pub blocks : new.blocks.items ≡ old.blocks.items ++ record { sector = sector; bytes = bytes } ∷ []
   pub dirty : new.dirty ≡ old.dirty
@@ -80,7 +109,7 @@ pub record SetsMap (m after : VolumeMap) (old new : Draft) (map sector : ℕ) : 
 -- a page has no sector
 pub data ReleasesPage (m after : VolumeMap) (old new : Draft) (page : ℕ) : Type 0 where
   HadNone : slice_index m.table.items page ≡ 0 → after ≡ m → new ≡ old → ReleasesPage m after old new page
-  HadOne : SetsPage m after old new page 0 → ReleasesPage m after old new page
+  HadOne : slice_index m.table.items page ≢ 0 → SetsPage m after old new page 0 → ReleasesPage m after old new page
 
 -- a draft of a volume with so many maps, with nothing in it
 pub record IsFresh (maps : ℕ) (d : Draft) : Type 0 where
@@ -97,6 +126,7 @@ pub record IsNext (old new : VolumeMap) (page : ℕ) : Type 0 where
   pub maps : length new.maps.items ≡ length old.maps.items
   pub table : length new.table.items ≡ length old.table.items
   pub used : new.used ≡ old.used
+  pub free : new.free ≡ old.free
 
 -- sound, once these turns are marked
 pub record IsSoundAfter (m : VolumeMap) (turns : List Turn) : Type 0 where
@@ -110,3 +140,4 @@ pub record IsSoundAfter (m : VolumeMap) (turns : List Turn) : Type 0 where
   pub unused : slice_index m.table.items 0 ≡ 0
   pub in_use : IsUse m.sectors (names (volume_of m)) (turned m.used.items turns)
   pub turns_low : All (λ (t : Turn). t.sector < length m.used.items) turns
+  pub free : m.free ≡ unused_count m.used.items

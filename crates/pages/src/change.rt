@@ -1,11 +1,12 @@
 //! The pages that were changed since the last commit.
-ghost use Rattle.std.specs.Prelude.{◌≡◌, ◌≢◌, ◌<◌, ℕ, List, map, length, slice_set, Option, OnOk, OnErr, IfSome, IfNone, slice_index_or, None, false, ◌^◌};
+ghost use Rattle.std.specs.Prelude.{◌≡◌, ◌≢◌, ◌<◌, ◌≤◌, ℕ, List, ◌++◌, ◌∷◌, [], length, slice_set, Option, OnOk, OnErr, IfSome, IfNone, slice_index_or, None, false, true, ◌^◌};
 ghost use Rattle.std.specs.List.{All, HoldsAt};
 ghost use Rattle.station.specs.Disk.{Sector};
-ghost use Rattle.pages.specs.Image.{NamesOnce, pages_in};
-ghost use Rattle.pages.specs.Changes.{changed, touched, Touches};
+ghost use Rattle.pages.specs.Image.{NamesOnce};
+ghost use Rattle.pages.specs.Changes.{changed, touched, kept, Touches, ArePlaced};
 
-use std::alloc::AllocFailed;
+use std::alloc::AllocError;
+use std::collections::HashMap;
 
 /// A page's new bytes, or none where it was released.
 #[derive(Drop)]
@@ -15,25 +16,47 @@ pub(crate) struct Change {
 }
 
 /// The place of a page's change.
-pub(crate) fn find_change(changes: &[Change], page: u32) -> Option<usize>
+pub(crate) fn find_change(
+    changes: &[Change],
+    places: &HashMap<u32, usize>,
+    page: u32,
+) -> Option<usize>
+    requires { ArePlaced changes.now places.now }
     ensures found { IfSome result (λ i. (i < length changes.now) × HoldsAt (λ c. c.page ≡ page) changes.now i) }
     ensures absent { IfNone result (All (λ c. c.page ≢ page) changes.now) }
 {
-    for i in 0..changes.len() {
-        if changes[i].page == page {
-            return Some(i);
-        }
-    }
-    None
+    places.get(&page).copied()
+}
+
+/// A change of a page that had none.
+fn push_change(
+    changes: &mut Vec<Change>,
+    places: &mut HashMap<u32, usize>,
+    change: Change,
+) -> Result<(), AllocError>
+    requires absent { All (λ c. c.page ≢ change.page) changes.old.items }
+    requires placed { ArePlaced changes.old.items places.old }
+    ensures placed { ArePlaced changes.new.items places.new }
+    ensures ok { OnOk result (changes.new.items ≡ changes.old.items ++ change ∷ []) }
+    ensures err { OnErr result (changes.new.items ≡ changes.old.items) }
+{
+    let page = change.page;
+    places.reserve(1)?;
+    changes.push(change)?;
+    places.insert(page, changes.len() - 1)?;
+    Ok(())
 }
 
 /// Gives a page new bytes, or none.
 pub(crate) fn set_change(
     changes: &mut Vec<Change>,
+    places: &mut HashMap<u32, usize>,
     page: u32,
     bytes: Option<[u8; 4096]>,
-) -> Result<(), AllocFailed<Change>>
-    requires { 0 < page }
+) -> Result<(), AllocError>
+    requires some { 0 < page }
+    requires placed { ArePlaced changes.old.items places.old }
+    ensures placed { ArePlaced changes.new.items places.new }
     ensures changed { NamesOnce (touched changes.old.items) → OnOk result ((pages : List (Option Sector)) → changed pages changes.new.items ≡ slice_set (changed pages changes.old.items) page bytes) }
     ensures once { NamesOnce (touched changes.old.items) → OnOk result (NamesOnce (touched changes.new.items)) }
     ensures touches { OnOk result (Touches (touched changes.old.items) page (touched changes.new.items)) }
@@ -41,44 +64,71 @@ pub(crate) fn set_change(
     ensures err { OnErr result (changes.new.items ≡ changes.old.items) }
 {
     let change = Change { page, bytes };
-    match find_change(changes, page) {
+    match find_change(changes, places, page) {
         Some(i) => {
             changes[i] = change;
+            Ok(())
         }
-        None => {
-            changes.push(change)?;
-        }
+        None => push_change(changes, places, change),
     }
-    Ok(())
 }
 
 /// Whether a page is in the map of this table and these changes.
-fn has_page(table: &[u32], changes: &[Change], page: u32) -> bool
-    requires { page < length table.now }
-    ensures { result ≡ false → 0 < page → NamesOnce (touched changes.now) → (image : List Sector) → slice_index_or (changed (pages_in image table.now) changes.now) page None ≡ None }
+fn has_page(table: &[u32], changes: &[Change], places: &HashMap<u32, usize>, page: u32) -> bool
+    requires some { 0 < page }
+    requires page { page < length table.now }
+    requires once { NamesOnce (touched changes.now) }
+    requires placed { ArePlaced changes.now places.now }
+    ensures { result ≡ slice_index_or (kept table.now changes.now) page false }
 {
-    match find_change(changes, page) {
+    match find_change(changes, places, page) {
         Some(i) => changes[i].bytes.is_some(),
-        None => {
-            if table[page as usize] == 0 {
-                return false;
-            }
-            true
-        }
+        None => table[page as usize] != 0,
     }
 }
 
-/// The first page number that isn't used.
-pub(crate) fn unused_page(table: &[u32], changes: &[Change]) -> Option<u32>
-    requires { length table.now < 2 ^ 32 }
-    ensures bounds { IfSome result (λ page. (0 < page) × (page < length table.now)) }
-    ensures unused { IfSome result (λ page. NamesOnce (touched changes.now) → (image : List Sector) → slice_index_or (changed (pages_in image table.now) changes.now) page None ≡ None) }
+/// The first page number from `start` on, below `end`, that isn't used.
+fn unused_between(
+    table: &[u32],
+    changes: &[Change],
+    places: &HashMap<u32, usize>,
+    start: usize,
+    end: usize,
+) -> Option<u32>
+    requires few { length table.now < 2 ^ 32 }
+    requires start { 0 < start }
+    requires end { end ≤ length table.now }
+    requires once { NamesOnce (touched changes.now) }
+    requires placed { ArePlaced changes.now places.now }
+    ensures found { IfSome result (λ page. (start ≤ page) × (page < end) × (slice_index_or (kept table.now changes.now) page false ≡ false)) }
+    ensures full { IfNone result ((n : ℕ) → start ≤ n → n < end → slice_index_or (kept table.now changes.now) n false ≡ true) }
 {
-    for page in 1..table.len() {
+    for page in start..end {
         let number = page as u32;
-        if !has_page(table, changes, number) {
+        if !has_page(table, changes, places, number) {
             return Some(number);
         }
     }
     None
+}
+
+/// A page number that isn't used: the first from `from` on, or else the first.
+pub(crate) fn unused_page(
+    table: &[u32],
+    changes: &[Change],
+    places: &HashMap<u32, usize>,
+    from: usize,
+) -> Option<u32>
+    requires few { length table.now < 2 ^ 32 }
+    requires once { NamesOnce (touched changes.now) }
+    requires placed { ArePlaced changes.now places.now }
+    ensures found { IfSome result (λ page. (0 < page) × (page < length table.now) × (slice_index_or (kept table.now changes.now) page false ≡ false)) }
+    ensures full { IfNone result ((n : ℕ) → 0 < n → n < length table.now → slice_index_or (kept table.now changes.now) n false ≡ true) }
+{
+    let end = table.len();
+    let start = if from == 0 { 1 } else { from };
+    match unused_between(table, changes, places, start, end) {
+        Some(page) => Some(page),
+        None => unused_between(table, changes, places, 1, start.min(end)),
+    }
 }

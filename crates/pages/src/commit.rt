@@ -1,12 +1,13 @@
 //! A volume's next generation is put on the disk.
-ghost use Rattle.std.specs.Prelude.{◌≡◌, ◌<◌, ◌≤◌, ◌↔◌, Err, length, OnOk};
+ghost use Rattle.std.specs.Prelude.{◌≡◌, ◌⊎◌, ◌<◌, ◌≤◌, ◌↔◌, Err, length, OnOk};
 ghost use Rattle.std.specs.List.{All};
 ghost use Rattle.station.specs.State.{SameConsole};
 ghost use Rattle.station.specs.History.{Through};
 ghost use Rattle.station.specs.Failures.{Blames};
 ghost use Rattle.station.specs.Blocks.{Amid};
-ghost use Rattle.pages.specs.Image.{IsCommitted, map_of};
-ghost use Rattle.pages.specs.Changes.{next_map, BeforeOrAfter};
+ghost use Rattle.pages.specs.Image.{IsCommitted, NamesOnce, map_of};
+ghost use Rattle.pages.specs.Changes.{next_map, touched, BeforeOrAfter};
+ghost use Rattle.pages.specs.Needed.{IsShort};
 ghost use Rattle.pages.specs.Errors.{IsCommitError};
 ghost use Rattle.pages.specs.Volumes.{volume_of, IsSound};
 
@@ -30,6 +31,7 @@ pub(crate) fn commit_volume<D: Device>(
     requires sound { IsSound volume.old }
     requires sectors { volume.old.sectors ≤ D.sectors device.old }
     requires pages { All (λ c. (0 < c.page) × (c.page < length volume.old.table.items)) changes.now }
+    requires once { NamesOnce (touched changes.now) }
     ensures honest { D.is_honest device.old ↔ D.is_honest device.new }
     ensures sectors { D.sectors device.new ≡ D.sectors device.old }
     ensures failures { Blames (result ≡ Err PagesError.Device) (D.failures device.old) (D.failures device.new) }
@@ -49,7 +51,9 @@ pub(crate) fn commit_volume<D: Device>(
     ensures sound { OnOk result (IsSound volume.new) }
     ensures same_sectors { OnOk result (volume.new.sectors ≡ volume.old.sectors) }
 
-    // Nothing was done where the volume is full.
+    // `Full` tells that too few sectors are free, or that no generation is left, and then nothing was done.
+    ensures short { result ≡ Err PagesError.Full → IsShort (volume_of volume.old) changes.now }
+    ensures told { IsShort (volume_of volume.old) changes.now → (result ≡ Err PagesError.Full) ⊎ (result ≡ Err PagesError.Memory) }
     ensures full { result ≡ Err PagesError.Full → D.is_honest device.old → (D.state device.new ≡ D.state device.old) × (D.history device.new ≡ D.history device.old) }
 {
     let draft = next_volume(alloc, volume, changes, catalog)?;
@@ -60,6 +64,6 @@ pub(crate) fn commit_volume<D: Device>(
         (volume.generation % 2) as u32,
         &bytes,
     )?;
-    mark_turns(&mut volume.used, &draft.turns);
+    mark_turns(&mut volume.used, &mut volume.free, &draft.turns);
     Ok(())
 }

@@ -1,5 +1,5 @@
 //! The next volume, while its blocks are chosen.
-ghost use Rattle.std.specs.Prelude.{◌≡◌, ◌<◌, ◌≤◌, ◌^◌, ◌++◌, length, slice_index_or, false, IfOk, OnOk, IfSome, ◌/◌};
+ghost use Rattle.std.specs.Prelude.{◌≡◌, ◌<◌, ◌≤◌, ◌^◌, ◌++◌, ℕ, length, slice_index_or, false, true, Err, IfOk, OnOk, IfSome, IfNone, IsOkUnless, ◌/◌};
 ghost use Rattle.pages.specs.Errors.{IsPlanError};
 ghost use Rattle.pages.specs.Use.{turns_of};
 ghost use Rattle.pages.specs.Volumes.{PlacesBlock, SetsPage, SetsMap};
@@ -31,7 +31,9 @@ pub(crate) struct Draft {
 /// The first sector from here on that isn't used.
 pub(crate) fn next_unused(used: &[bool], from: u32) -> Option<u32>
     requires { length used.now < 2 ^ 32 }
-    ensures { IfSome result (λ s. (from ≤ s) × (s < length used.now) × (slice_index_or used.now s false ≡ false)) }
+    ensures found { IfSome result (λ s. (from ≤ s) × (s < length used.now) × (slice_index_or used.now s false ≡ false)) }
+    ensures first { IfSome result (λ s. (t : ℕ) → from ≤ t → t < s → slice_index_or used.now t false ≡ true) }
+    ensures full { IfNone result ((t : ℕ) → from ≤ t → t < length used.now → slice_index_or used.now t false ≡ true) }
 {
     for i in from as usize..used.len() {
         if !used[i] {
@@ -68,6 +70,7 @@ pub(crate) fn place_block(
 ) -> Result<u32, PagesError>
     requires { length used.now < 2 ^ 32 }
     ensures placed { IfOk result (λ sector. PlacesBlock used.now draft.old draft.new sector bytes.now) }
+    ensures full { result ≡ Err PagesError.Full → (s : ℕ) → draft.old.next ≤ s → s < length used.now → slice_index_or used.now s false ≡ true }
     ensures cause { IsPlanError result }
 {
     let sector = match next_unused(used, draft.next) {
@@ -93,7 +96,7 @@ pub(crate) fn set_page(
     requires page { page < length volume.old.table.items }
     requires dirty { page / 1024 < length draft.old.dirty.items }
     ensures set { OnOk result (SetsPage volume.old volume.new draft.old draft.new page sector) }
-    ensures cause { IsPlanError result }
+    ensures cause { IsOkUnless result PagesError.Memory }
 {
     note_turns(&mut draft.turns, volume.table[page], sector)?;
     volume.table[page] = sector;
@@ -110,7 +113,7 @@ pub(crate) fn set_map(
 ) -> Result<(), PagesError>
     requires { map < length volume.old.maps.items }
     ensures set { OnOk result (SetsMap volume.old volume.new draft.old draft.new map sector) }
-    ensures cause { IsPlanError result }
+    ensures cause { IsOkUnless result PagesError.Memory }
 {
     note_turns(&mut draft.turns, volume.maps[map], sector)?;
     volume.maps[map] = sector;

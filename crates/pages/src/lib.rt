@@ -3,6 +3,7 @@
 //! Promise: at each moment a crash leaves the map of the last commit, or of the one in progress, whole.
 #![tactic(auto)]
 
+mod cache;
 mod change;
 mod commit;
 mod draft;
@@ -22,5 +23,5 @@ mod volume;
 
 pub use empty::format;
 pub use error::PagesError;
-pub use laws::one_map;
+pub use laws::{few_needed, map_is_own, one_map};
 pub use page_map::PageMap;

@@ -1,11 +1,12 @@
 //! The volume of a device is read, and made.
-ghost use Rattle.std.specs.Prelude.{◌≡◌, ◌≤◌, ◌<◌, ◌↔◌, [], Err, length, IfOk, OnOk};
+ghost use Rattle.std.specs.Prelude.{◌≡◌, ◌⊎◌, ◌≤◌, ◌<◌, ◌↔◌, [], Err, length, IfOk, IfErr, OnOk, OnErr};
 ghost use Rattle.station.specs.State.{synced};
 ghost use Rattle.station.specs.History.{Through};
 ghost use Rattle.station.specs.Failures.{Blames};
 ghost use Rattle.station.specs.Opening.{Opening};
 ghost use Rattle.pages.specs.Layout.{IsForeign};
-ghost use Rattle.pages.specs.Image.{Reads, IsCommitted};
+ghost use Rattle.pages.specs.Image.{Reads, Map, Holds, IsDamaged, IsCommitted};
+ghost use Rattle.pages.specs.Errors.{Refuses, IsOpenError, IsReadError, Tells};
 ghost use Rattle.pages.specs.Marked.{IsMarked};
 ghost use Rattle.pages.specs.Volumes.{volume_of, IsSound};
 
@@ -13,7 +14,7 @@ use crate::error::PagesError;
 use crate::marks::mark_names;
 use crate::reading::read_table;
 use crate::root::read_root;
-use crate::volume::VolumeMap;
+use crate::volume::{VolumeMap, count_free};
 use station::Device;
 use std::alloc::{AllocError, Global};
 
@@ -39,7 +40,8 @@ pub(crate) fn read_volume<D: Device>(alloc: Global, device: &mut D) -> Result<Vo
     ensures reads { D.is_honest device.old → IfOk result (λ volume. Reads (D.state device.old).disk.present (volume_of volume)) }
     ensures sound { IfOk result (λ volume. IsSound volume) }
     ensures there { IfOk result (λ volume. volume.sectors ≤ D.sectors device.old) }
-    ensures foreign { D.is_honest device.old → result ≡ Err PagesError.ForeignMark → IsForeign (D.state device.old).disk.present }
+    ensures refused { D.is_honest device.old → IfErr result (λ error. Refuses (D.state device.old).disk.present error) }
+    ensures cause { IsOpenError result }
 {
     let root = read_root(alloc, device)?;
     let mut used = fresh_use(alloc, root.sectors as usize)?;
@@ -54,6 +56,7 @@ pub(crate) fn read_volume<D: Device>(alloc: Global, device: &mut D) -> Result<Vo
     if first != 0 {
         return Err(PagesError::Damaged);
     }
+    let free = count_free(&used);
     Ok(VolumeMap {
         generation: root.generation,
         sectors: root.sectors,
@@ -61,6 +64,7 @@ pub(crate) fn read_volume<D: Device>(alloc: Global, device: &mut D) -> Result<Vo
         maps: root.maps,
         table,
         used,
+        free,
     })
 }
 
@@ -73,12 +77,19 @@ pub(crate) fn open_volume<D: Device>(alloc: Global, device: &mut D) -> Result<Vo
     // Until it has succeeded, a crash leaves what was possible before. Nothing is written.
     ensures moments { D.is_honest device.old → Through (D.history device.old) (D.history device.new) (D.state device.new) (Opening (D.state device.old)) }
     ensures state { D.is_honest device.old → OnOk result (D.state device.new ≡ synced (D.state device.old)) }
+    ensures unwritten { D.is_honest device.old → OnErr result ((D.state device.new ≡ D.state device.old) ⊎ (D.state device.new ≡ synced (D.state device.old))) }
 
     // What was read is what the disk holds, and a crash leaves it.
     ensures committed { D.is_honest device.old → IfOk result (λ volume. IsCommitted (volume_of volume) (D.state device.new).disk) }
     ensures sound { IfOk result (λ volume. IsSound volume) }
     ensures there { IfOk result (λ volume. volume.sectors ≤ D.sectors device.old) }
-    ensures foreign { D.is_honest device.old → result ≡ Err PagesError.ForeignMark → IsForeign (D.state device.new).disk.present }
+
+    // `Damaged` where the present image holds no map, `ForeignMark` where its newest root is another format's.
+    ensures refused { D.is_honest device.old → IfErr result (λ error. Refuses (D.state device.old).disk.present error) }
+    ensures opens { D.is_honest device.old → (m : Map) → Holds (D.state device.old).disk.present m → IsReadError result }
+    ensures foreign { D.is_honest device.old → IsForeign (D.state device.old).disk.present → Tells PagesError.ForeignMark result }
+    ensures damaged { D.is_honest device.old → IsDamaged (D.state device.old).disk.present → Tells PagesError.Damaged result }
+    ensures cause { IsOpenError result }
 {
     device.sync()?;
     read_volume(alloc, device)

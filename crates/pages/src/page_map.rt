@@ -1,6 +1,5 @@
 //! The pages of a volume, as their user sees them: a finite map from page numbers to pages, beside the page of the catalog's root.
-ghost use Rattle.std.specs.Prelude.{◌≡◌, ◌<◌, ◌≤◌, ◌↔◌, Err, Some, None, true, false, not, replicate, List, [], length, slice_set, map, IfOk, OnOk, OnErr};
-ghost use Rattle.std.specs.List.{count_by};
+ghost use Rattle.std.specs.Prelude.{◌≡◌, ◌⊎◌, ◌<◌, ◌≤◌, ◌↔◌, Err, Some, None, true, false, replicate, List, [], length, slice_set, map, IfOk, IfErr, OnOk, OnErr};
 ghost use Rattle.station.specs.Disk.{Sector};
 ghost use Rattle.station.specs.State.{synced, SameConsole};
 ghost use Rattle.station.specs.History.{Through};
@@ -8,18 +7,22 @@ ghost use Rattle.station.specs.Failures.{Blames};
 ghost use Rattle.station.specs.Opening.{Opening};
 ghost use Rattle.station.specs.Blocks.{Amid};
 ghost use Rattle.pages.specs.Layout.{IsForeign};
-ghost use Rattle.pages.specs.Image.{map_of};
+ghost use Rattle.pages.specs.Image.{Map, Holds, IsDamaged, map_of};
+ghost use Rattle.pages.specs.Errors.{Refuses, IsOpenError, IsReadError, Tells};
 ghost use Rattle.pages.specs.Changes.{BeforeOrAfter, Touches};
+ghost use Rattle.pages.specs.Errors.{IsEditRefusal, IsAllocateRefusal, IsCommitRefusal};
 ghost use Rattle.pages.specs.Use.{free_count};
 
+use crate::cache::{forget_page, new_cache, recall_page};
 use crate::change::{Change, find_change, set_change, unused_page};
 use crate::commit::commit_volume;
 use crate::error::PagesError;
 use crate::open::open_volume;
-use crate::reading::read_page;
 use crate::volume::VolumeMap;
+use lru::LruCache;
 use station::Device;
 use std::alloc::Global;
+use std::collections::HashMap;
 
 /// An opened volume. What is edited and not committed is part of the map and of no image.
 #[derive(Drop)]
@@ -27,15 +30,31 @@ pub struct PageMap {
     alloc: Global,
     volume: VolumeMap,
     changes: Vec<Change>,
+    /// Pages as committed. A page that was changed since isn't there.
+    cache: LruCache<u32, [u8; 4096]>,
+    /// The place of each page's change.
+    places: HashMap<u32, usize>,
+    /// Where the search for an unused page number begins.
+    next_page: u32,
     catalog: u32,
     spent: bool,
 }
 
 impl PageMap {
-    ghost use Rattle.pages.specs.Pages.{committed_of, map_now, page_of, touched_of, catalog_of, is_spent, sectors_of, page_count, IsPage, Agrees, IsOpen, advanced, SamePages, SameCommitted};
+    ghost use Rattle.pages.specs.Pages.{committed_of, map_now, page_of, touched_of, catalog_of, is_spent, sectors_of, page_count, IsPage, HasEachPage, IsFull, Agrees, IsOpen, advanced, SamePages, SameCommitted, cache_of};
+    ghost use Rattle.std.specs.Map.{lookup};
+    ghost use Rattle.std.specs.Prelude.{Ok, nat_eq, Contains, IsSome};
+    ghost use Rattle.pages.specs.Cache.{Recalls, forgotten};
+    ghost use Rattle.station.specs.Disk.{Disk};
 
-    /// Opens the volume of a device. It syncs first, and writes nothing.
-    pub fn open<D: Device>(alloc: Global, device: &mut D) -> Result<PageMap, PagesError>
+    /// Opens the volume of a device. It syncs first, and writes nothing. The cache holds at most `capacity` pages, from 1 to 4,096.
+    pub fn open<D: Device>(
+        alloc: Global,
+        device: &mut D,
+        capacity: usize,
+    ) -> Result<PageMap, PagesError>
+        requires least { 1 ≤ capacity }
+        requires most { capacity ≤ 4096 }
         ensures honest { D.is_honest device.old ↔ D.is_honest device.new }
         ensures sectors { D.sectors device.new ≡ D.sectors device.old }
         ensures failures { Blames (result ≡ Err PagesError.Device) (D.failures device.old) (D.failures device.new) }
@@ -43,21 +62,32 @@ impl PageMap {
         // Until it has succeeded, a crash leaves what was possible before.
         ensures moments { D.is_honest device.old → Through (D.history device.old) (D.history device.new) (D.state device.new) (Opening (D.state device.old)) }
         ensures state { D.is_honest device.old → OnOk result (D.state device.new ≡ synced (D.state device.old)) }
+        ensures unwritten { D.is_honest device.old → OnErr result ((D.state device.new ≡ D.state device.old) ⊎ (D.state device.new ≡ synced (D.state device.old))) }
 
         // The map is the one that the disk holds.
         ensures agrees { D.is_honest device.old → IfOk result (λ pages. Agrees pages (D.state device.new).disk) }
         ensures map { IfOk result (λ pages. (image : List Sector) → map_now pages image ≡ map_of image (committed_of pages)) }
         ensures ready { IfOk result (λ pages. IsOpen pages × (is_spent pages ≡ false) × (sectors_of pages ≤ D.sectors device.old) × (touched_of pages ≡ [])) }
+        ensures cache { IfOk result (λ pages. (cache_of pages).cap ≡ capacity) }
 
-        // `ForeignMark` comes only where the newest root is another format's.
-        ensures foreign { D.is_honest device.old → result ≡ Err PagesError.ForeignMark → IsForeign (D.state device.new).disk.present }
+        // Where neither the device nor memory fails, it opens exactly what holds a map, and answers `ForeignMark` exactly where the
+        // newest root is another format's, and `Damaged` otherwise.
+        ensures refused { D.is_honest device.old → IfErr result (λ error. Refuses (D.state device.old).disk.present error) }
+        ensures opens { D.is_honest device.old → (m : Map) → Holds (D.state device.old).disk.present m → IsReadError result }
+        ensures foreign { D.is_honest device.old → IsForeign (D.state device.old).disk.present → Tells PagesError.ForeignMark result }
+        ensures damaged { D.is_honest device.old → IsDamaged (D.state device.old).disk.present → Tells PagesError.Damaged result }
+        ensures cause { IsOpenError result }
     {
         let volume = open_volume(alloc, device)?;
         let catalog = volume.catalog;
+        let cache = new_cache(alloc, capacity)?;
         Ok(PageMap {
             alloc,
             volume,
             changes: Vec::new(alloc),
+            cache,
+            places: HashMap::new(alloc),
+            next_page: 1,
             catalog,
             spent: false,
         })
@@ -76,6 +106,8 @@ impl PageMap {
         ensures pages { (image : List Sector) → (map_now self.new image).pages ≡ (map_now self.old image).pages }
         ensures touched { touched_of self.new ≡ touched_of self.old }
         ensures committed { SameCommitted self.old self.new }
+        ensures agrees { (disk : Disk) → Agrees self.old disk → Agrees self.new disk }
+        ensures cache { cache_of self.new ≡ cache_of self.old }
         ensures open { IsOpen self.old → IsOpen self.new }
     {
         self.catalog = page;
@@ -90,7 +122,8 @@ impl PageMap {
 
     /// How many page numbers the volume has, 0 among them.
     pub fn page_count(&self) -> usize
-        ensures { result ≡ page_count self.now }
+        ensures count { result ≡ page_count self.now }
+        ensures pages { (image : List Sector) → length (map_now self.now image).pages ≡ page_count self.now }
     {
         self.volume.table.len()
     }
@@ -103,14 +136,22 @@ impl PageMap {
     }
 
     /// How many sectors neither the root of the last commit nor its maps use.
-    pub fn free_sectors(&self) -> usize
+    pub fn free_sectors(&self) -> u32
         requires { IsOpen self.now }
         ensures { is_spent self.now ≡ false → result ≡ free_count (committed_of self.now) }
     {
-        count_free(&self.volume.used)
+        self.volume.free
     }
 
-    /// The page of a number, or none.
+    /// How many pages the cache holds.
+    pub fn cached(&self) -> usize
+        ensures count { result ≡ length (cache_of self.now).entries }
+        ensures bounded { result ≤ (cache_of self.now).cap }
+    {
+        self.cache.len()
+    }
+
+    /// The page of a number, or none. A page that wasn't changed since the last commit is kept in the cache, so far as memory allows.
     pub fn read<D: Device>(
         &mut self,
         device: &mut D,
@@ -123,16 +164,33 @@ impl PageMap {
         ensures failures { Blames (result ≡ Err PagesError.Device) (D.failures device.old) (D.failures device.new) }
         ensures state { D.is_honest device.old → D.state device.new ≡ D.state device.old }
         ensures history { D.is_honest device.old → D.history device.new ≡ D.history device.old }
-        ensures page { D.is_honest device.old → IfOk result (λ bytes. bytes ≡ page_of (map_now self.old (D.state device.old).disk.present) page) }
-        ensures same { self.new ≡ self.old }
-        ensures spent { is_spent self.old ≡ true → result ≡ Err PagesError.Spent }
+        ensures page { D.is_honest device.old → Agrees self.old (D.state device.old).disk → IfOk result (λ bytes. bytes ≡ page_of (map_now self.old (D.state device.old).disk.present) page) }
+
+        // The map stays, and what is known of it. A refusal changes nothing.
+        ensures map { (image : List Sector) → map_now self.new image ≡ map_now self.old image }
+        ensures touched { touched_of self.new ≡ touched_of self.old }
+        ensures committed { SameCommitted self.old self.new }
+        ensures agrees { D.is_honest device.old → Agrees self.old (D.state device.old).disk → Agrees self.new (D.state device.new).disk }
+        ensures open { IsOpen self.new }
+        ensures err { OnErr result (self.new ≡ self.old) }
+
+        // A page in memory is answered without the device, and so is none. The cache has another as its most recently used one, if memory has a place for it.
+        ensures changed { Contains (touched_of self.old) page → (device.new ≡ device.old) × (self.new ≡ self.old) }
+        ensures absent { result ≡ Ok None → device.new ≡ device.old }
+        ensures hit { IsSome (lookup (nat_eq page) (cache_of self.old).entries) → device.new ≡ device.old }
+        ensures recalls { (Contains (touched_of self.old) page → ⊥) → IfOk result (λ bytes. Recalls page bytes (cache_of self.old) (cache_of self.new)) }
+        ensures capacity { (cache_of self.new).cap ≡ (cache_of self.old).cap }
+
+        // `Spent` comes exactly where the value is spent, and otherwise the device alone refuses.
+        ensures spent { result ≡ Err PagesError.Spent ↔ is_spent self.old ≡ true }
+        ensures cause { OnErr result ((result ≡ Err PagesError.Device) ⊎ (result ≡ Err PagesError.Spent)) }
     {
         if self.spent {
             return Err(PagesError::Spent);
         }
-        match find_change(&self.changes, page) {
+        match find_change(&self.changes, &self.places, page) {
             Some(i) => Ok(self.changes[i].bytes),
-            None => read_page(&self.volume.table, device, page),
+            None => recall_page(&mut self.cache, &self.volume.table, device, page),
         }
     }
 
@@ -145,8 +203,13 @@ impl PageMap {
         ensures touches { OnOk result (Touches (touched_of self.old) page (touched_of self.new)) }
         ensures err { OnErr result ((image : List Sector) → map_now self.new image ≡ map_now self.old image) }
         ensures committed { SameCommitted self.old self.new }
+        ensures agrees { (disk : Disk) → Agrees self.old disk → Agrees self.new disk }
+        ensures capacity { (cache_of self.new).cap ≡ (cache_of self.old).cap }
+        ensures forgets { OnOk result (cache_of self.new ≡ forgotten page (cache_of self.old)) }
+        ensures cache { OnErr result (cache_of self.new ≡ cache_of self.old) }
         ensures open { IsOpen self.new }
-        ensures spent { is_spent self.old ≡ true → result ≡ Err PagesError.Spent }
+        ensures cause { IsEditRefusal result }
+        ensures spent { (result ≡ Err PagesError.Spent) ↔ (is_spent self.old ≡ true) }
     {
         self.change(page, Some(*bytes))
     }
@@ -161,17 +224,29 @@ impl PageMap {
         ensures touches { IfOk result (λ page. Touches (touched_of self.old) page (touched_of self.new)) }
         ensures err { OnErr result ((image : List Sector) → map_now self.new image ≡ map_now self.old image) }
         ensures committed { SameCommitted self.old self.new }
+        ensures agrees { (disk : Disk) → Agrees self.old disk → Agrees self.new disk }
+        ensures capacity { (cache_of self.new).cap ≡ (cache_of self.old).cap }
+        ensures forgets { IfOk result (λ page. cache_of self.new ≡ forgotten page (cache_of self.old)) }
+        ensures cache { OnErr result (cache_of self.new ≡ cache_of self.old) }
         ensures open { IsOpen self.new }
-        ensures spent { is_spent self.old ≡ true → result ≡ Err PagesError.Spent }
+        ensures full { is_spent self.old ≡ false → (result ≡ Err PagesError.Full) ↔ HasEachPage self.old }
+        ensures cause { IsAllocateRefusal result }
+        ensures spent { (result ≡ Err PagesError.Spent) ↔ (is_spent self.old ≡ true) }
     {
         if self.spent {
             return Err(PagesError::Spent);
         }
-        let page = match unused_page(&self.volume.table, &self.changes) {
+        let page = match unused_page(
+            &self.volume.table,
+            &self.changes,
+            &self.places,
+            self.next_page as usize,
+        ) {
             Some(page) => page,
             None => return Err(PagesError::Full),
         };
         self.change(page, Some([0; 4096]))?;
+        self.next_page = page + 1;
         Ok(page)
     }
 
@@ -184,10 +259,19 @@ impl PageMap {
         ensures touches { OnOk result (Touches (touched_of self.old) page (touched_of self.new)) }
         ensures err { OnErr result ((image : List Sector) → map_now self.new image ≡ map_now self.old image) }
         ensures committed { SameCommitted self.old self.new }
+        ensures agrees { (disk : Disk) → Agrees self.old disk → Agrees self.new disk }
+        ensures capacity { (cache_of self.new).cap ≡ (cache_of self.old).cap }
+        ensures forgets { OnOk result (cache_of self.new ≡ forgotten page (cache_of self.old)) }
+        ensures cache { OnErr result (cache_of self.new ≡ cache_of self.old) }
         ensures open { IsOpen self.new }
-        ensures spent { is_spent self.old ≡ true → result ≡ Err PagesError.Spent }
+        ensures cause { IsEditRefusal result }
+        ensures spent { (result ≡ Err PagesError.Spent) ↔ (is_spent self.old ≡ true) }
     {
-        self.change(page, None)
+        self.change(page, None)?;
+        if page < self.next_page {
+            self.next_page = page;
+        }
+        Ok(())
     }
 
     /// Gives a page new bytes, or none.
@@ -199,13 +283,19 @@ impl PageMap {
         ensures touches { OnOk result (Touches (touched_of self.old) page (touched_of self.new)) }
         ensures err { OnErr result ((image : List Sector) → map_now self.new image ≡ map_now self.old image) }
         ensures committed { SameCommitted self.old self.new }
+        ensures agrees { (disk : Disk) → Agrees self.old disk → Agrees self.new disk }
+        ensures capacity { (cache_of self.new).cap ≡ (cache_of self.old).cap }
+        ensures forgets { OnOk result (cache_of self.new ≡ forgotten page (cache_of self.old)) }
+        ensures cache { OnErr result (cache_of self.new ≡ cache_of self.old) }
         ensures open { IsOpen self.new }
-        ensures spent { is_spent self.old ≡ true → result ≡ Err PagesError.Spent }
+        ensures cause { IsEditRefusal result }
+        ensures spent { (result ≡ Err PagesError.Spent) ↔ (is_spent self.old ≡ true) }
     {
         if self.spent {
             return Err(PagesError::Spent);
         }
-        set_change(&mut self.changes, page, bytes)?;
+        set_change(&mut self.changes, &mut self.places, page, bytes)?;
+        forget_page(&mut self.cache, page);
         Ok(())
     }
 
@@ -231,11 +321,17 @@ impl PageMap {
 
         // With nothing changed nothing is done.
         ensures nothing { touched_of self.old ≡ [] → catalog_of self.old ≡ (committed_of self.old).root.catalog → D.is_honest device.old → (D.state device.new ≡ D.state device.old) × (D.history device.new ≡ D.history device.old) }
-        ensures full { result ≡ Err PagesError.Full → D.is_honest device.old → (D.state device.new ≡ D.state device.old) × (D.history device.new ≡ D.history device.old) }
+
+        // `Full` tells that too few sectors are free, or that no generation is left, and then nothing was done.
+        ensures full { result ≡ Err PagesError.Full → IsFull self.old }
+        ensures told { is_spent self.old ≡ false → IsFull self.old → (result ≡ Err PagesError.Full) ⊎ (result ≡ Err PagesError.Memory) }
+        ensures untouched { result ≡ Err PagesError.Full → D.is_honest device.old → (D.state device.new ≡ D.state device.old) × (D.history device.new ≡ D.history device.old) }
         ensures open { IsOpen self.new }
         ensures same_sectors { OnOk result (sectors_of self.new ≡ sectors_of self.old) }
+        ensures cache { cache_of self.new ≡ cache_of self.old }
         ensures refused { OnErr result (is_spent self.new ≡ true) }
-        ensures spent { is_spent self.old ≡ true → result ≡ Err PagesError.Spent }
+        ensures cause { IsCommitRefusal result }
+        ensures spent { (result ≡ Err PagesError.Spent) ↔ (is_spent self.old ≡ true) }
     {
         if self.spent {
             return Err(PagesError::Spent);
@@ -252,14 +348,8 @@ impl PageMap {
             self.catalog,
         )?;
         self.changes.clear();
+        self.places.clear();
         self.spent = false;
         Ok(())
     }
-}
-
-/// How many sectors aren't used.
-fn count_free(used: &[bool]) -> usize
-    ensures { result ≡ count_by (λ used. not used) used.now }
-{
-    used.iter().filter(|used| !**used).count()
 }

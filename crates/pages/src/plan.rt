@@ -1,10 +1,13 @@
 //! The plan of a commit: the next volume, its blocks, and the sectors whose use changes.
-ghost use Rattle.std.specs.Prelude.{◌≡◌, ◌<◌, ◌≤◌, ◌+◌, ◌^◌, Err, length, IfOk, OnOk};
+ghost use Rattle.std.specs.Prelude.{◌≡◌, ◌<◌, ◌≤◌, ◌+◌, ◌^◌, Err, length, slice_set, IfOk, OnOk};
 ghost use Rattle.std.specs.List.{All};
 ghost use Rattle.pages.specs.Errors.{IsPlanError};
 ghost use Rattle.pages.specs.Plan.{IsPlan};
+ghost use Rattle.pages.specs.Image.{NamesOnce};
+ghost use Rattle.pages.specs.Changes.{touched};
+ghost use Rattle.pages.specs.Needed.{IsShort, needed};
 ghost use Rattle.pages.specs.Use.{turned};
-ghost use Rattle.pages.specs.Volumes.{volume_of, IsSound, IsSoundAfter, SameSize, IsNext, IsFresh};
+ghost use Rattle.pages.specs.Volumes.{volume_of, IsSound, IsSoundAfter, SameSize, IsNext, IsFresh, AreAscending, unused_count};
 
 use crate::change::Change;
 use crate::draft::{Draft, Turn};
@@ -38,11 +41,16 @@ pub(crate) fn next_volume(
 ) -> Result<Draft, PagesError>
     requires sound { IsSound volume.old }
     requires pages { All (λ c. (0 < c.page) × (c.page < length volume.old.table.items)) changes.now }
+    requires once { NamesOnce (touched changes.now) }
     ensures cause { IsPlanError result }
     ensures plan { IfOk result (λ draft. IsPlan (volume_of volume.old) (volume_of volume.new) draft.blocks.items changes.now) }
     ensures next { OnOk result (IsNext volume.old volume.new catalog) }
     ensures sound { IfOk result (λ draft. IsSoundAfter volume.new draft.turns.items) }
-    ensures last { IfOk result (λ _. volume.old.generation + 1 < 2 ^ 63) }
+    ensures full { result ≡ Err PagesError.Full → IsShort (volume_of volume.old) changes.now }
+    ensures room { OnOk result (¬ (IsShort (volume_of volume.old) changes.now)) }
+
+    // Each changed page and each changed map sector is written once, in ascending sectors.
+    ensures blocks { IfOk result (λ draft. AreAscending draft.blocks.items × (length draft.blocks.items ≡ needed (volume_of volume.old) changes.now)) }
 {
     if volume.generation + 1 >= GENERATIONS {
         return Err(PagesError::Full);
@@ -55,12 +63,33 @@ pub(crate) fn next_volume(
     Ok(draft)
 }
 
+/// Marks a sector whose use changed.
+fn mark_turn(used: &mut Vec<bool>, free: &mut u32, turn: Turn)
+    requires low { turn.sector < length used.old.items }
+    requires few { length used.old.items < 2 ^ 32 }
+    requires free { free.old ≡ unused_count used.old.items }
+    ensures used { used.new.items ≡ slice_set used.old.items turn.sector turn.used }
+    ensures free { free.new ≡ unused_count used.new.items }
+{
+    let place = turn.sector as usize;
+    if used[place] {
+        *free += 1;
+    }
+    used[place] = turn.used;
+    if turn.used {
+        *free -= 1;
+    }
+}
+
 /// Marks the sectors whose use changed.
-pub(crate) fn mark_turns(used: &mut Vec<bool>, turns: &[Turn])
-    requires { All (λ t. t.sector < length used.old.items) turns.now }
-    ensures { used.new.items ≡ turned used.old.items turns.now }
+pub(crate) fn mark_turns(used: &mut Vec<bool>, free: &mut u32, turns: &[Turn])
+    requires low { All (λ t. t.sector < length used.old.items) turns.now }
+    requires few { length used.old.items < 2 ^ 32 }
+    requires free { free.old ≡ unused_count used.old.items }
+    ensures used { used.new.items ≡ turned used.old.items turns.now }
+    ensures free { free.new ≡ unused_count used.new.items }
 {
     for turn in turns {
-        used[turn.sector as usize] = turn.used;
+        mark_turn(used, free, *turn);
     }
 }

@@ -1,5 +1,5 @@
 //! The maps of a volume are read.
-ghost use Rattle.std.specs.Prelude.{◌≡◌, ◌<◌, ◌*◌, ◌↔◌, ℕ, Err, length, slice_index, slice_index_or, Option, None, IfOk};
+ghost use Rattle.std.specs.Prelude.{◌≡◌, ◌<◌, ◌*◌, ◌↔◌, ℕ, Err, length, slice_index, slice_index_or, Option, None, Ok, IfOk, OnErr};
 ghost use Rattle.std.specs.List.{All};
 ghost use Rattle.station.specs.Failures.{Blames};
 ghost use Rattle.pages.specs.Image.{map_at, map_part, pages_in};
@@ -67,7 +67,8 @@ pub(crate) fn read_page<D: Device>(
     ensures state { D.is_honest device.old → D.state device.new ≡ D.state device.old }
     ensures history { D.is_honest device.old → D.history device.new ≡ D.history device.old }
     ensures page { D.is_honest device.old → IfOk result (λ bytes. bytes ≡ slice_index_or (pages_in (D.state device.old).disk.present table.now) page None) }
-    ensures cause { IsReadError result }
+    ensures absent { result ≡ Ok None → device.new ≡ device.old }
+    ensures cause { OnErr result (result ≡ Err PagesError.Device) }
 {
     let place = page as usize;
     if place >= table.len() {

@@ -1,14 +1,15 @@
 //! The newest root of a volume of pages.
-ghost use Rattle.std.specs.Prelude.{◌≡◌, ◌<◌, ◌≤◌, ◌+◌, ◌*◌, ◌^◌, ◌↔◌, Err, length, IfOk, option_map, IfSome, IsTrue, ◌==◌, true, Option, Some};
+ghost use Rattle.std.specs.Prelude.{◌≡◌, ◌≤◌, ◌↔◌, ◌==◌, Err, length, IfOk, IfErr, option_map, IfSome, Option, Some, None, if◌then◌else◌};
 ghost use Rattle.std.specs.List.{list_all};
 ghost use Rattle.station.specs.Failures.{Blames};
-ghost use Rattle.pages.specs.Layout.{IsForeign, words, map_count, newest, volume_root, beside, VolumeRoot};
-ghost use Rattle.pages.specs.Found.{found_root, IsWithin, IsFoundWithin};
+ghost use Rattle.pages.specs.Layout.{words, map_count, newest, volume_root, beside, VolumeRoot};
+ghost use Rattle.pages.specs.Found.{found_root, IsFoundWithin};
+ghost use Rattle.pages.specs.Errors.{Refuses, IsOpenError};
 
 use crate::error::PagesError;
 use crate::payload::{FOREIGN_MARK, MARK};
 use byteorder::{BigEndian, ByteOrder};
-use roots::{GENERATIONS, LEAST_SECTORS, MOST_SECTORS, Root, Roots, read_roots};
+use roots::{Root, read_roots};
 use station::Device;
 use std::alloc::{AllocError, Global};
 
@@ -67,28 +68,15 @@ fn is_zeros(numbers: &[u32]) -> bool
     numbers.iter().all(|word| *word == 0)
 }
 
-/// Whether a root is within the bounds of a volume on this device.
-fn is_within(root: &Root, count: u32) -> bool
-    ensures { IsTrue result ↔ IsWithin count root.now }
-{
-    root.generation < GENERATIONS
-        && LEAST_SECTORS <= root.sectors
-        && root.sectors <= MOST_SECTORS
-        && root.sectors <= count
-}
-
 /// Whether the payload of an older root, if there is one, is that of a volume of pages.
-fn is_sound_beside(alloc: Global, older: &Option<Root>, count: u32) -> Result<bool, AllocError>
-    ensures { IfOk result (λ sound. sound ≡ true → (root : Option VolumeRoot) → beside older.now root ≡ root) }
+fn is_sound_beside(alloc: Global, older: &Option<Root>) -> Result<bool, AllocError>
+    requires { IfSome older.now (λ root. root.sectors ≤ 921600) }
+    ensures { IfOk result (λ sound. (root : Option VolumeRoot) → beside older.now root ≡ (if sound then root else None)) }
 {
-    let root = match older {
-        Some(root) => root,
-        None => return Ok(true),
-    };
-    if !is_within(root, count) {
-        return Ok(false);
+    match older {
+        Some(root) => Ok(payload_root(alloc, root)?.is_some()),
+        None => Ok(true),
     }
-    Ok(payload_root(alloc, root)?.is_some())
 }
 
 /// The newest root of a device.
@@ -100,14 +88,11 @@ pub(crate) fn read_root<D: Device>(alloc: Global, device: &mut D) -> Result<Foun
     ensures history { D.is_honest device.old → D.history device.new ≡ D.history device.old }
     ensures root { D.is_honest device.old → IfOk result (λ root. newest (D.state device.old).disk.present ≡ Some (found_root root)) }
     ensures within { IfOk result (λ root. IsFoundWithin (D.sectors device.old) root) }
-    ensures foreign { D.is_honest device.old → result ≡ Err PagesError.ForeignMark → IsForeign (D.state device.old).disk.present }
+    ensures refused { D.is_honest device.old → IfErr result (λ error. Refuses (D.state device.old).disk.present error) }
+    ensures cause { IsOpenError result }
 {
     let roots = read_roots(device, &[MARK, FOREIGN_MARK], 1)?;
-    let count = device.count();
-    if !is_within(&roots.newest, count) {
-        return Err(PagesError::Damaged);
-    }
-    if !is_sound_beside(alloc, &roots.older, count)? {
+    if !is_sound_beside(alloc, &roots.older)? {
         return Err(PagesError::Damaged);
     }
     match payload_root(alloc, &roots.newest)? {

@@ -1,10 +1,13 @@
 //! The blocks of the next volume: its pages, and then its maps.
-ghost use Rattle.std.specs.Prelude.{◌≡◌, ◌<◌, ◌≤◌, ◌+◌, ◌*◌, ◌^◌, ◌/◌, ◌++◌, [], ◌∷◌, ℕ, List, length, OnOk, ◌==◌};
+ghost use Rattle.std.specs.Prelude.{◌≡◌, ◌<◌, ◌≤◌, ◌+◌, ◌*◌, ◌^◌, ◌/◌, ◌++◌, ◌≢◌, [], ◌∷◌, true, ℕ, List, length, is_some, Err, OnOk, IsOkUnless, ◌==◌};
 ghost use Rattle.std.specs.List.{All, list_all};
 ghost use Rattle.pages.specs.declared.change.Change.{Change};
-ghost use Rattle.pages.specs.Image.{Volume, map_part};
+ghost use Rattle.pages.specs.Image.{Volume, NamesOnce, map_part};
+ghost use Rattle.pages.specs.Use.{free_count};
+ghost use Rattle.pages.specs.Changes.{touched};
+ghost use Rattle.pages.specs.Needed.{filled, written_below};
 ghost use Rattle.pages.specs.Errors.{IsPlanError};
-ghost use Rattle.pages.specs.Volumes.{IsDraft, IsMappedDraft, SameSize, ReleasesPage};
+ghost use Rattle.pages.specs.Volumes.{IsDraft, IsMappedDraft, IsCounted, SameSize, ReleasesPage};
 
 use crate::change::Change;
 use crate::draft::{Draft, place_block, set_map, set_page};
@@ -26,6 +29,8 @@ pub(crate) fn stage_change(
     ensures maps { OnOk result (volume.new.maps ≡ volume.old.maps) }
     ensures dirty { OnOk result (length draft.new.dirty.items ≡ length draft.old.dirty.items) }
     ensures staged { (v : Volume) (changes : List Change) → 0 < change.now.page → IsDraft v volume.old draft.old changes → OnOk result (IsDraft v volume.new draft.new (changes ++ change.now ∷ [])) }
+    ensures counted { (v : Volume) (changes : List Change) (maps : ℕ) → All (λ c. c.page ≢ change.now.page) changes → IsCounted v volume.old draft.old changes maps → OnOk result (IsCounted v volume.new draft.new (changes ++ change.now ∷ []) maps) }
+    ensures full { (v : Volume) (changes : List Change) (maps : ℕ) → IsCounted v volume.old draft.old changes maps → result ≡ Err PagesError.Full → (is_some change.now.bytes ≡ true) × (free_count v ≡ filled changes + maps) }
 {
     let page = change.page as usize;
     match &change.bytes {
@@ -46,7 +51,7 @@ pub(crate) fn release_page(
     requires page { page < length volume.old.table.items }
     requires dirty { page / 1024 < length draft.old.dirty.items }
     ensures released { OnOk result (ReleasesPage volume.old volume.new draft.old draft.new page) }
-    ensures cause { IsPlanError result }
+    ensures cause { IsOkUnless result PagesError.Memory }
 {
     if volume.table[page] == 0 {
         return Ok(());
@@ -68,6 +73,8 @@ pub(crate) fn stage_changes(
     ensures maps { OnOk result (volume.new.maps ≡ volume.old.maps) }
     ensures dirty { OnOk result (length draft.new.dirty.items ≡ length draft.old.dirty.items) }
     ensures staged { (v : Volume) → IsDraft v volume.old draft.old [] → OnOk result (IsDraft v volume.new draft.new changes.now) }
+    ensures counted { (v : Volume) → NamesOnce (touched changes.now) → IsCounted v volume.old draft.old [] 0 → OnOk result (IsCounted v volume.new draft.new changes.now 0) }
+    ensures full { (v : Volume) → NamesOnce (touched changes.now) → IsCounted v volume.old draft.old [] 0 → result ≡ Err PagesError.Full → free_count v < filled changes.now }
 {
     for change in changes {
         stage_change(volume, draft, change)?;
@@ -107,6 +114,8 @@ pub(crate) fn stage_map(
     ensures size { OnOk result (SameSize volume.old volume.new) }
     ensures dirty { OnOk result (draft.new.dirty ≡ draft.old.dirty) }
     ensures mapped { (v : Volume) (changes : List Change) → IsMappedDraft v volume.old draft.old changes map → OnOk result (IsMappedDraft v volume.new draft.new changes (map + 1)) }
+    ensures counted { (v : Volume) (changes : List Change) → IsCounted v volume.old draft.old changes (written_below v changes map) → OnOk result (IsCounted v volume.new draft.new changes (written_below v changes (map + 1))) }
+    ensures full { (v : Volume) (changes : List Change) → IsCounted v volume.old draft.old changes (written_below v changes map) → result ≡ Err PagesError.Full → free_count v < filled changes + written_below v changes (map + 1) }
 {
     if !draft.dirty[map] {
         return Ok(());
@@ -128,6 +137,8 @@ pub(crate) fn stage_maps(volume: &mut VolumeMap, draft: &mut Draft) -> Result<()
     ensures cause { IsPlanError result }
     ensures size { OnOk result (SameSize volume.old volume.new) }
     ensures mapped { (v : Volume) (changes : List Change) → IsMappedDraft v volume.old draft.old changes 0 → OnOk result (IsMappedDraft v volume.new draft.new changes (length volume.old.maps.items)) }
+    ensures counted { (v : Volume) (changes : List Change) → IsCounted v volume.old draft.old changes 0 → OnOk result (IsCounted v volume.new draft.new changes (written_below v changes (length volume.old.maps.items))) }
+    ensures full { (v : Volume) (changes : List Change) → IsCounted v volume.old draft.old changes 0 → result ≡ Err PagesError.Full → free_count v < filled changes + written_below v changes (length volume.old.maps.items) }
 {
     for map in 0..volume.maps.len() {
         stage_map(volume, draft, map)?;

@@ -1,4 +1,6 @@
 //! A volume, as memory knows it.
+ghost use Rattle.std.specs.Prelude.{◌≡◌, ◌<◌, ◌^◌, length};
+ghost use Rattle.pages.specs.Volumes.{unused_count};
 
 /// Pages and map sectors that a map names.
 pub(crate) const MAP_ENTRIES: usize = 1024;
@@ -16,4 +18,14 @@ pub(crate) struct VolumeMap {
     pub table: Vec<u32>,
     /// Whether a sector is a root or is named.
     pub used: Vec<bool>,
+    /// How many aren't.
+    pub free: u32,
+}
+
+/// How many sectors aren't used.
+pub(crate) fn count_free(used: &[bool]) -> u32
+    requires { length used.now < 2 ^ 32 }
+    ensures { result ≡ unused_count used.now }
+{
+    used.iter().filter(|used| !**used).count() as u32
 }

@@ -1,12 +1,12 @@
 -- Small cases of the definitions. Marks and payloads are short here.
-use Rattle.std.proofs.Common.{◌≡◌, true, false, ℕ, List, [], ◌∷◌, ◌++◌, refl}
-use Rattle.std.specs.Prelude.{Option, Some, None, Ok, Err, replicate}
+use Rattle.std.proofs.Common.{◌≡◌, ℕ, List, [], ◌∷◌, ◌++◌, refl}
+use Rattle.std.specs.Prelude.{Some, None, Ok, Err, replicate}
 use Rattle.station.specs.Disk.{Sector}
 use Rattle.roots.specs.declared.root.Root.{Root}
 use Rattle.roots.specs.declared.root.RootSector.TheVariants.{Blank, Broken, Valid}
 use Rattle.roots.specs.declared.pair.RootsFault.TheVariants.{Damaged, ForeignMark}
-use Rattle.roots.specs.Root.{place, root_in, root_bytes}
-use Rattle.roots.specs.Pair.{newest_root, may_follow}
+use Rattle.roots.specs.Root.{root_in, root_bytes}
+use Rattle.roots.specs.Pair.{newest_root}
 use Rattle.roots.specs.Reading.{roots_in}
 
 -- two marks of one format, and one of another

@@ -1,3 +1,4 @@
 pub mod Spelled
 pub mod Next
+pub mod Within
 pub mod Examples

@@ -1,7 +1,7 @@
 -- The next root, once it stands in its sector.
-use Rattle.std.proofs.Common.{◌≡◌, ◌≢◌, ◌⊎◌, inl, inr, ⊎_elim, ◌<◌, ◌≤◌, ◌+◌, ◌%◌, ◌==◌, ◌&&◌, ◌||◌, Bool, true, false, cond, ℕ, List, [], length, set, refl, sym, ◌∙◌, ap, subst, arith, get_or-set_same, get_or-set_other, length-set}
+use Rattle.std.proofs.Common.{◌≡◌, ◌≢◌, ◌⊎◌, inl, inr, ⊎_elim, ◌<◌, ◌+◌, ◌%◌, ◌==◌, ◌&&◌, true, ℕ, List, [], length, set, refl, sym, ◌∙◌, ap, subst, arith, get_or-set_same, get_or-set_other, length-set}
 use Rattle.std.specs.Prelude.{Option, Some, None, Result, Ok, Err, nat_lt}
-use Rattle.std.proofs.lemmas.Bool.{cond-true, cond-false, cond_both, eq-eqb, ne_eqb, lt-ltb, le-ltb, ltb-true, ltb-false, eqb-true, eqb-false, and_from, and_parts, or_left, or_right, or_from, cases_lt, cases_eq, true≢false}
+use Rattle.std.proofs.lemmas.Bool.{cond-true, cond-false, cond_both, eq-eqb, lt-ltb, le-ltb, ltb-true, and_from, or_left, or_right, cases_eq}
 use Rattle.station.specs.Disk.{Sector, sector_at}
 use Rattle.roots.specs.declared.root.Root.{Root}
 use Rattle.roots.specs.declared.root.RootSector.{RootSector}
@@ -9,8 +9,8 @@ use Rattle.roots.specs.declared.root.RootSector.TheVariants.{Blank, Broken, Vali
 use Rattle.roots.specs.declared.pair.Roots.{Roots}
 use Rattle.roots.specs.declared.pair.RootsFault.{RootsFault}
 use Rattle.roots.specs.declared.pair.RootsFault.TheVariants.{Damaged, ForeignMark}
-use Rattle.roots.specs.Root.{place, root_with, is_valid, valid_at, marked, is_blank, root_in}
-use Rattle.roots.specs.Pair.{may_follow, pair_of, both_of, roots_of, of_own, newest_root}
+use Rattle.roots.specs.Root.{place, root_with, is_valid, marked, is_blank, root_in}
+use Rattle.roots.specs.Pair.{may_follow, pair_of, of_own, newest_root}
 use Rattle.roots.specs.Reading.{roots_in}
 use Rattle.roots.specs.Laws.{Follows}
 use Rattle.roots.proofs.Spelled.{Validity, validity}
@@ -23,11 +23,11 @@ IsValid (Valid a) r = a ≡ r
 valid : (x : RootSector) (r : Root) → x ≡ Valid r → IsValid x r
 valid x r is = subst (λ (y : RootSector). IsValid y r) (sym is) refl
 
-abbrev IsThat : Result Roots RootsFault → Roots → Type 0
+abbrev pub IsThat : Result Roots RootsFault → Roots → Type 0
 IsThat (Err e) r = ⊥
 IsThat (Ok a) r = a ≡ r
 
-that : (x : Result Roots RootsFault) (r : Roots) → x ≡ Ok r → IsThat x r
+pub that : (x : Result Roots RootsFault) (r : Roots) → x ≡ Ok r → IsThat x r
 that x r is = subst (λ (y : Result Roots RootsFault). IsThat y r) (sym is) refl
 
 marked_valid : (count number : ℕ) (bytes : Sector) (mark : Option ℕ) (r : Root) → IsValid (marked count number bytes mark) r → is_valid count number r ≡ true

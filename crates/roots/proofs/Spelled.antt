@@ -1,13 +1,11 @@
 -- The bytes of a root sector, written and read again.
-use Rattle.std.proofs.Common.{◌≡◌, ◌<◌, ◌≤◌, ◌+◌, ◌^◌, ◌%◌, Bool, true, false, ℕ, List, [], ◌∷◌, ◌++◌, length, take, drop, refl, sym, ◌∙◌, ap, append_assoc, arith, length-drop, length-append}
-use Rattle.std.specs.Prelude.{Option, Some}
+use Rattle.std.proofs.Common.{◌≡◌, ◌<◌, ◌≤◌, ◌^◌, ◌%◌, true, false, ℕ, List, [], ◌++◌, length, drop, refl, sym, ◌∙◌, ap, append_assoc, arith, length-drop, length-append}
+use Rattle.std.specs.Prelude.{Some}
 use Rattle.std.proofs.lemmas.List.{take_at, drop_at, drop-drop, drop_all, append-nil}
 use Rattle.std.proofs.lemmas.Bool.{cond-true, cond-false, and_parts, ltb-true, leb-true, eqb-true}
 use Rattle.byteorder.specs.Endian.{big_number, big_bytes}
 use Rattle.byteorder.specs.Numbers.{length-bytes_high_first, big_number-reads_back}
-use Rattle.station.specs.Disk.{Sector}
 use Rattle.roots.specs.declared.root.Root.{Root}
-use Rattle.roots.specs.declared.root.RootSector.{RootSector}
 use Rattle.roots.specs.declared.root.RootSector.TheVariants.{Blank, Broken, Valid}
 use Rattle.roots.specs.Root.{place, root_with, is_valid, valid_at, marked, is_blank, root_in, root_bytes, put_at}
 

@@ -1,10 +1,11 @@
 -- What the roots promise of the next one.
-use Rattle.std.specs.Prelude.{◌≡◌, ◌<◌, ◌≤◌, ◌+◌, ◌%◌, Bool, true, false, ℕ, List, length, slice_set, Option, Some, Result, Ok}
-use Rattle.station.specs.Disk.{Sector}
+use Rattle.std.specs.Prelude.{◌≡◌, ◌<◌, ◌≤◌, ◌+◌, ◌%◌, true, false, ℕ, List, length, slice_set, Some, Ok}
+use Rattle.station.specs.Disk.{Sector, sector_at}
 use Rattle.roots.specs.declared.root.Root.{Root}
 use Rattle.roots.specs.declared.root.RootSector.TheVariants.{Valid}
 use Rattle.roots.specs.declared.pair.Roots.{Roots}
-use Rattle.roots.specs.Root.{place, is_valid, is_blank, root_in, root_bytes}
+use Rattle.roots.specs.Root.{place, is_valid, is_blank, root_in, root_bytes, IsWithin}
+use Rattle.roots.specs.Pair.{EachRoot}
 use Rattle.roots.specs.Reading.{roots_in}
 
 -- a root of the next generation of the same volume, with the same mark or a later one of the reader's own
@@ -25,3 +26,16 @@ abbrev pub ReadsBack : Type 0
 ReadsBack = (known : List (List ℕ)) (count number : ℕ) (mark : List ℕ) (root : Root)
     → length mark ≡ 8 → is_blank (root_bytes mark root) ≡ false → place known (root_bytes mark root) ≡ Some root.mark → is_valid count number root ≡ true
     → root_in known count number (root_bytes mark root) ≡ Valid root
+
+-- a root is that of the sector of its parity
+abbrev pub StandsIn : List (List ℕ) → List Sector → Root → Type 0
+StandsIn known image root = root_in known (length image) (root.generation % 2) (sector_at image (root.generation % 2)) ≡ Valid root
+
+-- the roots of an image stand in it and are within the bounds, and the newest has a mark of the reader's own
+pub record Stand (known : List (List ℕ)) (own : ℕ) (image : List Sector) (roots : Roots) : Type 0 where
+  pub there : EachRoot (StandsIn known image) roots
+  pub within : EachRoot (IsWithin (length image)) roots
+  pub own_mark : roots.newest.mark < own
+
+abbrev pub RootsStand : Type 0
+RootsStand = (known : List (List ℕ)) (own : ℕ) (image : List Sector) (roots : Roots) → roots_in known own image ≡ Ok roots → Stand known own image roots

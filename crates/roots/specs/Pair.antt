@@ -1,5 +1,5 @@
 -- The two roots of a volume (own choice).
-use Rattle.std.specs.Prelude.{Bool, ◌&&◌, ◌||◌, ℕ, ◌+◌, ◌==◌, nat_lt, Option, Some, None, Result, Ok, Err, if◌then◌else◌}
+use Rattle.std.specs.Prelude.{Bool, ◌&&◌, ◌||◌, ℕ, ◌+◌, ◌==◌, nat_lt, Option, Some, None, IfSome, Result, Ok, Err, if◌then◌else◌}
 use Rattle.roots.specs.declared.root.Root.{Root}
 use Rattle.roots.specs.declared.root.RootSector.{RootSector}
 use Rattle.roots.specs.declared.root.RootSector.TheVariants.{Blank, Broken, Valid}
@@ -38,3 +38,8 @@ of_own own (Some roots) = if nat_lt roots.newest.mark own then Ok roots else Err
 
 abbrev pub newest_root : ℕ → RootSector → RootSector → Result Roots RootsFault
 newest_root own first second = of_own own (roots_of own first second)
+
+-- both roots are so
+pub record EachRoot (so : Root → Type 0) (roots : Roots) : Type 0 where
+  pub newest : so roots.newest
+  pub older : IfSome roots.older so

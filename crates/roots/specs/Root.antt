@@ -1,5 +1,5 @@
 -- A root sector (own choice): a mark of 8 bytes, the generation in 8, the number of sectors in 4, and the payload. Numbers are big-endian.
-use Rattle.std.specs.Prelude.{Bool, ◌&&◌, ℕ, ◌+◌, ◌%◌, ◌^◌, ◌==◌, nat_eq, nat_lt, nat_le, List, ◌++◌, length, take, drop, position, Option, Some, None, if◌then◌else◌}
+use Rattle.std.specs.Prelude.{Bool, ◌&&◌, ℕ, ◌<◌, ◌≤◌, ◌+◌, ◌%◌, ◌^◌, ◌==◌, nat_eq, nat_lt, nat_le, List, ◌++◌, length, take, drop, position, Option, Some, None, if◌then◌else◌}
 use Rattle.std.specs.List.{starts_with, list_all}
 use Rattle.byteorder.specs.Endian.{big_number, big_bytes}
 use Rattle.station.specs.Disk.{Sector}
@@ -18,6 +18,19 @@ root_with bytes mark = record { mark = mark; generation = big_number 8 (drop 8 b
 abbrev pub is_valid : ℕ → ℕ → Root → Bool
 is_valid count number root =
     nat_lt root.generation (2 ^ 63) && (root.generation % 2 == number) && nat_le 1024 root.sectors && nat_le root.sectors 921600 && nat_le root.sectors count
+
+-- within the bounds of a volume, on a device of so many sectors
+pub record IsWithin (count : ℕ) (root : Root) : Type 0 where
+  pub generation : root.generation < 2 ^ 63
+  pub least : 1024 ≤ root.sectors
+  pub most : root.sectors ≤ 921600
+  pub there : root.sectors ≤ count
+
+-- where a sector is a root, that root is so
+abbrev pub IfValid : RootSector → (Root → Type 0) → Type 0
+IfValid Blank so = Unit {0}
+IfValid Broken so = Unit {0}
+IfValid (Valid root) so = so root
 
 abbrev pub valid_at : ℕ → ℕ → Root → RootSector
 valid_at count number root = if is_valid count number root then Valid root else Broken

@@ -1,8 +1,13 @@
 //! The laws of the roots, which the crates above stand on.
-ghost use Rattle.roots.specs.Laws.{NextIsNewest, ReadsBack};
+ghost use Rattle.roots.specs.Laws.{NextIsNewest, ReadsBack, RootsStand};
 
 /// The next root, once it stands in its sector, is the newest. A root's bytes are read as that root.
 pub fn next_is_newest()
     ensures newest { NextIsNewest }
     ensures reads_back { ReadsBack }
+{}
+
+/// The roots of an image stand in it, each in the sector of its parity, within the bounds of a volume.
+pub fn roots_stand()
+    ensures { RootsStand }
 {}

@@ -10,7 +10,7 @@ mod reading;
 mod root;
 
 pub use error::RootsError;
-pub use laws::next_is_newest;
+pub use laws::{next_is_newest, roots_stand};
 pub use pair::{Roots, RootsFault, newest_of};
 pub use reading::read_roots;
 pub use root::{

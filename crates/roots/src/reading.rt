@@ -3,7 +3,8 @@ ghost use Rattle.std.specs.Prelude.{◌≡◌, ◌↔◌, ◌<◌, Err, IfOk, If
 ghost use Rattle.station.specs.Disk.{sector_at};
 ghost use Rattle.station.specs.Failures.{Blames};
 ghost use Rattle.answers.specs.Answer.{Gives};
-ghost use Rattle.roots.specs.Root.{root_in};
+ghost use Rattle.roots.specs.Root.{root_in, IsWithin, IfValid};
+ghost use Rattle.roots.specs.Pair.{EachRoot};
 ghost use Rattle.roots.specs.Reading.{roots_in, fault_of};
 
 use crate::error::RootsError;
@@ -24,6 +25,7 @@ fn root_of<D: Device>(
     ensures state { D.is_honest device.old → D.state device.new ≡ D.state device.old }
     ensures history { D.is_honest device.old → D.history device.new ≡ D.history device.old }
     ensures root { D.is_honest device.old → IfOk result (λ root. root ≡ root_in known.now (D.sectors device.old) number (sector_at (D.state device.old).disk.present number)) }
+    ensures within { IfOk result (λ root. IfValid root (IsWithin (D.sectors device.old))) }
     ensures cause { IfErr result (λ error. error ≡ RootsError.Device) }
 {
     let mut bytes = [0; 4096];
@@ -46,6 +48,9 @@ pub fn read_roots<D: Device>(
 
     // The roots of the present image, or the fault that it has.
     ensures roots { D.is_honest device.old → Gives (λ roots. roots) fault_of result (roots_in known.now own (D.state device.old).disk.present) }
+
+    // On any device they are within the bounds of a volume.
+    ensures within { IfOk result (λ roots. EachRoot (IsWithin (D.sectors device.old)) roots) }
 {
     if device.count() < 2 {
         return Err(RootsError::Roots(RootsFault::Damaged));

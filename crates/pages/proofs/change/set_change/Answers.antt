@@ -8,6 +8,7 @@ use Rattle.pages.specs.Changes.{changed, touched}
 use Rattle.pages.specs.declared.change.Change.{Change}
 use Rattle.pages.proofs.Edits.{Away, is_only, only_set, same_touched, push_touched, away_touched, touched_at}
 use Rattle.pages.proofs.Staging.{applied_more}
+use Rattle.station.proofs.Puts.{on_ok}
 use Rattle.pages.proofs.change.set_change.Goals as goal
 
 pub returns-in-Some-clause-changed : goal.returns-in-Some-clause-changed
@@ -34,19 +35,19 @@ returns-in-Some-clause-touches c =
     let new : Change = record { page = c.args.page; bytes = c.args.bytes } in
     inl (touched_at old c.in-Some.i c.args.page new low (here new), same_touched old c.in-Some.i new new low (sym (here new)))
 
-pub returns-in_ok-push-in-None-clause-changed : goal.returns-in_ok-push-in-None-clause-changed
-returns-in_ok-push-in-None-clause-changed c = λ once pages.
+pub returns-in-None-clause-changed : goal.returns-in-None-clause-changed
+returns-in-None-clause-changed c = λ once.
     let new : Change = record { page = c.args.page; bytes = c.args.bytes } in
-    ap (changed pages) c.in_ok-push-in-None.ensures.items ∙ applied_more (λ (o : Option Sector). o) pages c.args.changes.now.items new
+    on_ok c.push_change.result (λ items pages. ap (changed pages) items ∙ applied_more (λ (o : Option Sector). o) pages c.args.changes.now.items new) c.push_change.ensures.ok
 
-pub returns-in_ok-push-in-None-clause-once : goal.returns-in_ok-push-in-None-clause-once
-returns-in_ok-push-in-None-clause-once c = λ once.
+pub returns-in-None-clause-once : goal.returns-in-None-clause-once
+returns-in-None-clause-once c = λ once.
     let new : Change = record { page = c.args.page; bytes = c.args.bytes } in
     let away : Away c.args.page c.args.changes.now.items = subst (Away c.args.page) c.deref.ensures.value c.in-None.ensures.absent in
-    subst (λ (l : List Change). NamesOnce (touched l)) (sym c.in_ok-push-in-None.ensures.items) (push_touched c.args.changes.now.items new once away)
+    on_ok c.push_change.result (λ items. subst (λ (l : List Change). NamesOnce (touched l)) (sym items) (push_touched c.args.changes.now.items new once away)) c.push_change.ensures.ok
 
-pub returns-in_ok-push-in-None-clause-touches : goal.returns-in_ok-push-in-None-clause-touches
-returns-in_ok-push-in-None-clause-touches c =
+pub returns-in-None-clause-touches : goal.returns-in-None-clause-touches
+returns-in-None-clause-touches c =
     let new : Change = record { page = c.args.page; bytes = c.args.bytes } in
     let away : Away c.args.page c.args.changes.now.items = subst (Away c.args.page) c.deref.ensures.value c.in-None.ensures.absent in
-    inr (away_touched c.args.changes.now.items c.args.page away, ap touched c.in_ok-push-in-None.ensures.items ∙ map_push (λ (x : Change). x.page) c.args.changes.now.items new)
+    on_ok c.push_change.result (λ items. inr (away_touched c.args.changes.now.items c.args.page away, ap touched items ∙ map_push (λ (x : Change). x.page) c.args.changes.now.items new)) c.push_change.ensures.ok

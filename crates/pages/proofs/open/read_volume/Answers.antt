@@ -4,9 +4,12 @@ use Rattle.std.proofs.lemmas.List.Elements.{All-from_get_or, Contains-get_or}
 use Rattle.std.proofs.lemmas.List.{get_or_read}
 use Rattle.station.specs.State.{State}
 use Rattle.pages.specs.Image.{map_at, map_part}
-use Rattle.pages.specs.Marked.{IsMarked}
+use Rattle.pages.specs.Marked.{IsMarked, AreNames}
+use Rattle.pages.specs.Found.{found_root}
 use Rattle.pages.specs.declared.volume.VolumeMap.{VolumeMap}
+use Rattle.pages.specs.Volumes.{unused_count}
 use Rattle.pages.proofs.Opened.{reads_now, sound_now}
+use Rattle.pages.proofs.Refused.{bad_maps, bad_table, bad_first}
 use Rattle.pages.proofs.open.read_volume.Goals as goal
 
 pub read_table-requires : goal.read_table-requires
@@ -33,7 +36,7 @@ returns-clause-reads g c = λ honest.
     let table = c.in_ok-table.table in
     let within = c.in_ok-root.ensures.within in
     let present = (g.D.Device.state c.args.device.now).disk.present in
-    let m : VolumeMap = record { generation = root.generation; sectors = root.sectors; catalog = root.catalog; maps = root.maps; table = table; used = c.mark_names-2.new.used } in
+    let m : VolumeMap = record { generation = root.generation; sectors = root.sectors; catalog = root.catalog; maps = root.maps; table = table; used = c.mark_names-2.new.used; free = c.count_free-free.result } in
     let honest' = c.in_ok-root.ensures.honest.0 honest in
     let maps : length root.maps.items ≡ (root.sectors + 1023) / 1024 = within.maps in
     let count : length table.items ≡ 1024 * length root.maps.items = c.in_ok-table.ensures.count ∙ ap (λ (l : List ℕ). 1024 * length l) c.deref-2.ensures.value in
@@ -51,7 +54,7 @@ returns-clause-sound g c =
     let root = c.in_ok-root.root in
     let table = c.in_ok-table.table in
     let within = c.in_ok-root.ensures.within in
-    let m : VolumeMap = record { generation = root.generation; sectors = root.sectors; catalog = root.catalog; maps = root.maps; table = table; used = c.mark_names-2.new.used } in
+    let m : VolumeMap = record { generation = root.generation; sectors = root.sectors; catalog = root.catalog; maps = root.maps; table = table; used = c.mark_names-2.new.used; free = c.count_free-free.result } in
     let maps : length root.maps.items ≡ (root.sectors + 1023) / 1024 = within.maps in
     let count : length table.items ≡ 1024 * length root.maps.items = c.in_ok-table.ensures.count ∙ ap (λ (l : List ℕ). 1024 * length l) c.deref-2.ensures.value in
     let marked : IsMarked root.maps.items c.mark_names.new.used.items = subst (λ (l : List ℕ). IsMarked l c.mark_names.new.used.items) c.deref.ensures.value (c.mark_names.ensures.marked c.if-not-mark_names.false [] c.in_ok-used.ensures.marked) in
@@ -59,3 +62,41 @@ returns-clause-sound g c =
     let some : 0 < length table.items = omega (arith, maps, count, within.least) in
     sound_now m within.generation within.least within.most within.maps count all_marked (c.mark_names-2.ensures.count ∙ c.mark_names.ensures.count ∙ c.in_ok-used.ensures.count)
     (sym (get_or_read table.items 0 c.index-first.result.now some c.index-first.ensures 0) ∙ c.if-first-ne0.false)
+    (c.count_free-free.ensures ∙ ap unused_count c.deref-4.ensures.value)
+
+pub returns-then-not-mark_names-clause-refused : goal.returns-then-not-mark_names-clause-refused
+returns-then-not-mark_names-clause-refused g c = λ honest.
+    let root = c.in_ok-root.root in
+    bad_maps (g.D.Device.state c.args.device.now).disk.present (found_root root) (c.in_ok-root.ensures.root honest) (λ are.
+    c.mark_names.ensures.refused c.if-not-mark_names.true [] c.in_ok-used.ensures.marked
+    (subst (λ (n : ℕ). AreNames n c.deref.result.now) (sym c.in_ok-used.ensures.count) (subst (AreNames root.sectors) (sym c.deref.ensures.value) are)))
+
+pub returns-then-not-mark_names-2-clause-refused : goal.returns-then-not-mark_names-2-clause-refused
+returns-then-not-mark_names-2-clause-refused g c = λ honest.
+    let root = c.in_ok-root.root in
+    let table = c.in_ok-table.table in
+    let present = (g.D.Device.state c.args.device.now).disk.present in
+    let honest' = c.in_ok-root.ensures.honest.0 honest in
+    let count : length table.items ≡ 1024 * length root.maps.items = c.in_ok-table.ensures.count ∙ ap (λ (l : List ℕ). 1024 * length l) c.deref-2.ensures.value in
+    let marked : IsMarked root.maps.items c.mark_names.new.used.items = subst (λ (l : List ℕ). IsMarked l c.mark_names.new.used.items) c.deref.ensures.value (c.mark_names.ensures.marked c.if-not-mark_names.false [] c.in_ok-used.ensures.marked) in
+    let all : length c.mark_names.new.used.items ≡ root.sectors = c.mark_names.ensures.count ∙ c.in_ok-used.ensures.count in
+    bad_table present (found_root root) (c.in_ok-root.ensures.root honest) table.items count
+    (subst (λ (l : List ℕ). (i : ℕ) → i < length l → map_at present (get_or l i 0) ≡ map_part table.items i) c.deref-2.ensures.value
+    (subst (λ (s : State). (i : ℕ) → i < length c.deref-2.result.now → map_at s.disk.present (get_or c.deref-2.result.now i 0) ≡ map_part table.items i) (c.in_ok-root.ensures.state honest) (c.in_ok-table.ensures.entries honest')))
+    (λ are. c.mark_names-2.ensures.refused c.if-not-mark_names-2.true root.maps.items marked
+    (subst (λ (n : ℕ). AreNames n (root.maps.items ++ c.deref-3.result.now)) (sym all) (subst (λ (l : List ℕ). AreNames root.sectors (root.maps.items ++ l)) (sym c.deref-3.ensures.value) are)))
+
+pub returns-then-first-ne0-clause-refused : goal.returns-then-first-ne0-clause-refused
+returns-then-first-ne0-clause-refused g c = λ honest.
+    let root = c.in_ok-root.root in
+    let table = c.in_ok-table.table in
+    let within = c.in_ok-root.ensures.within in
+    let present = (g.D.Device.state c.args.device.now).disk.present in
+    let honest' = c.in_ok-root.ensures.honest.0 honest in
+    let maps : length root.maps.items ≡ (root.sectors + 1023) / 1024 = within.maps in
+    let count : length table.items ≡ 1024 * length root.maps.items = c.in_ok-table.ensures.count ∙ ap (λ (l : List ℕ). 1024 * length l) c.deref-2.ensures.value in
+    let some : 0 < length table.items = omega (arith, maps, count, within.least) in
+    bad_first present (found_root root) (c.in_ok-root.ensures.root honest) table.items count
+    (subst (λ (l : List ℕ). (i : ℕ) → i < length l → map_at present (get_or l i 0) ≡ map_part table.items i) c.deref-2.ensures.value
+    (subst (λ (s : State). (i : ℕ) → i < length c.deref-2.result.now → map_at s.disk.present (get_or c.deref-2.result.now i 0) ≡ map_part table.items i) (c.in_ok-root.ensures.state honest) (c.in_ok-table.ensures.entries honest')))
+    (λ none. c.if-first-ne0.true (get_or_read table.items 0 c.index-first.result.now some c.index-first.ensures 0 ∙ none))

@@ -1,4 +1,4 @@
-use Rattle.std.proofs.Common.{◌∙◌, [], ◌∷◌, Bool, false, List, get_or, set, take, ap, sym, arith, length-set}
+use Rattle.std.proofs.Common.{◌∙◌, [], ◌∷◌, Bool, false, List, length, get_or, set, take, ap, sym, arith, length-set}
 use Rattle.std.proofs.lemmas.List.{take_more}
 use Rattle.pages.specs.Use.{turned}
 use Rattle.pages.specs.declared.draft.Turn.{Turn}
@@ -11,6 +11,7 @@ loop-turn-preserved c =
     let turns = c.args.turns.now in
     let t : Turn = get_or turns i (record { sector = 0; used = false }) in
     record {
-      count = length-set c.loop-turn.used.items t.sector t.used ∙ c.loop-turn.invariant.count;
-      marked = ap (λ (l : List Bool). set l t.sector t.used) c.loop-turn.invariant.marked ∙ sym (ap (turned c.args.used.now.items) (take_more turns i (record { sector = 0; used = false }) (omega arith)) ∙ turned_more c.args.used.now.items (take i turns) (t ∷ []));
+      count = ap length c.mark_turn.ensures.used ∙ length-set c.loop-turn.used.items t.sector t.used ∙ c.loop-turn.invariant.count;
+      marked = c.mark_turn.ensures.used ∙ ap (λ (l : List Bool). set l t.sector t.used) c.loop-turn.invariant.marked ∙ sym (ap (turned c.args.used.now.items) (take_more turns i (record { sector = 0; used = false }) (omega arith)) ∙ turned_more c.args.used.now.items (take i turns) (t ∷ []));
+      free = c.mark_turn.ensures.free;
     }

@@ -1,9 +1,11 @@
 use Rattle.std.proofs.Common.{◌≡◌, length, take}
 use Rattle.pages.specs.Use.{turned}
+use Rattle.pages.specs.Volumes.{unused_count}
 use Rattle.pages.proofs.plan.mark_turns.Given as goal
 
 abbrev pub invariant-loop-turn : goal.invariant-loop-turn
 invariant-loop-turn l = record {
   count : length l.used.items ≡ length l.initial.used.items;
   marked : l.used.items ≡ turned l.initial.used.items (take l.turn-index l.turns);
+  free : l.free ≡ unused_count l.used.items;
 }

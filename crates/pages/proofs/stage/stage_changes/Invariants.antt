@@ -1,6 +1,7 @@
 use Rattle.std.proofs.Common.{◌≡◌, length, take, []}
-use Rattle.pages.specs.Image.{Volume}
-use Rattle.pages.specs.Volumes.{IsDraft, SameSize}
+use Rattle.pages.specs.Image.{Volume, NamesOnce}
+use Rattle.pages.specs.Changes.{touched}
+use Rattle.pages.specs.Volumes.{IsDraft, IsCounted, SameSize}
 use Rattle.pages.proofs.stage.stage_changes.Given as goal
 
 abbrev pub invariant-loop-change : goal.invariant-loop-change
@@ -9,4 +10,5 @@ invariant-loop-change l = record {
   maps : l.volume.maps ≡ l.initial.volume.maps;
   dirty : length l.draft.dirty.items ≡ length l.initial.draft.dirty.items;
   staged : (v : Volume) → IsDraft v l.initial.volume l.initial.draft [] → IsDraft v l.volume l.draft (take l.change-index l.changes);
+  counted : (v : Volume) → NamesOnce (touched l.changes) → IsCounted v l.initial.volume l.initial.draft [] 0 → IsCounted v l.volume l.draft (take l.change-index l.changes) 0;
 }

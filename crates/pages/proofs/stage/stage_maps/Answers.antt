@@ -1,8 +1,10 @@
-use Rattle.std.proofs.Common.{◌≡◌, ◌∙◌, ℕ, Bool, length, ap, subst, arith}
+use Rattle.std.proofs.Common.{◌≡◌, ◌∙◌, ◌+◌, ◌≤◌, ℕ, Bool, length, ap, subst, arith}
 use Rattle.std.specs.Prelude.{Vec}
 use Rattle.std.specs.declared.alloc.Global.{Global}
-use Rattle.pages.specs.Volumes.{IsMappedDraft}
+use Rattle.pages.specs.Volumes.{IsMappedDraft, IsCounted}
+use Rattle.pages.specs.Needed.{written_below}
 use Rattle.pages.proofs.Drafts.{same_size_then}
+use Rattle.pages.proofs.Taking.{written_mono}
 use Rattle.pages.proofs.stage.stage_maps.Goals as goal
 
 pub loop-map-preserved : goal.loop-map-preserved
@@ -13,9 +15,22 @@ loop-map-preserved c =
       size = same_size_then c.args.volume.now c.loop-map.volume c.stage_map.new.volume before.size here.size;
       dirty = ap (λ (x : Vec Bool Global). length x.items) here.dirty ∙ before.dirty;
       mapped = λ v changes draft. here.mapped v changes (before.mapped v changes draft);
+      counted = λ v changes start. here.counted v changes (before.counted v changes start);
     }
 
 pub returns-clause-mapped : goal.returns-clause-mapped
 returns-clause-mapped c = λ v changes draft.
     let all : c.loop-map.map ≡ length c.args.volume.now.maps.items = omega (arith, c.loop-map-test.false, c.loop-map.auto.map-end, c.len-map-end.ensures) in
     subst (λ (n : ℕ). IsMappedDraft v c.loop-map.volume c.loop-map.draft changes n) all (c.loop-map.invariant.mapped v changes draft)
+
+pub returns-clause-counted : goal.returns-clause-counted
+returns-clause-counted c = λ v changes start.
+    let all : c.loop-map.map ≡ length c.args.volume.now.maps.items = omega (arith, c.loop-map-test.false, c.loop-map.auto.map-end, c.len-map-end.ensures) in
+    subst (λ (n : ℕ). IsCounted v c.loop-map.volume c.loop-map.draft changes (written_below v changes n)) all (c.loop-map.invariant.counted v changes start)
+
+pub returns-in_err-stage_map-clause-full : goal.returns-in_err-stage_map-clause-full
+returns-in_err-stage_map-clause-full c = λ v changes start full.
+    let told = rw full at c.from_residual.ensures.1 in
+    let here = c.in_err-stage_map.ensures.full v changes (c.loop-map.invariant.counted v changes start) (cc (told)) in
+    let low : c.loop-map.map + 1 ≤ length c.args.volume.now.maps.items = omega (arith, c.loop-map-test.true, c.len-map-end.ensures) in
+    omega (arith, here, written_mono v changes (c.loop-map.map + 1) (length c.args.volume.now.maps.items) low)

@@ -1,7 +1,5 @@
-use Rattle.std.proofs.Common.{◌≡◌, ◌+◌, ◌-◌, ◌≤◌, ℕ, List, length, take, drop, take_all, length-drop, refl, sym, ◌∙◌, ap, arith}
-use Rattle.station.specs.Disk.{Sector}
+use Rattle.std.proofs.Common.{◌≡◌, ◌+◌, ℕ, List, length, take, drop, take_all, length-drop, refl, ◌∙◌, ap, arith}
 use Rattle.byteorder.specs.Endian.{big_number}
-use Rattle.roots.specs.declared.root.Root.{Root}
 use Rattle.roots.proofs.root.marked_root.Goals as goal
 
 tail : (i n : ℕ) (xs : List ℕ) → length xs ≡ i + n → take n (drop i xs) ≡ drop i xs

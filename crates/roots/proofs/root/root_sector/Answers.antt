@@ -1,7 +1,6 @@
 use Rattle.std.proofs.Common.{refl, ap, ◌∙◌, ◌++◌, length, ℕ, List}
 use Rattle.std.proofs.Common.{rules}
 use Rattle.byteorder.specs.Endian.{big_bytes}
-use Rattle.roots.specs.Root.{root_bytes}
 use Rattle.roots.proofs.Spelled.{all_put}
 use Rattle.roots.proofs.root.root_sector.Goals as goal
 

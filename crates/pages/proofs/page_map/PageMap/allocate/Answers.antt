@@ -1,20 +1,56 @@
-use Rattle.std.proofs.Common.{◌≡◌, ◌<◌, ◌+◌, ◌/◌, ◌^◌, ℕ, List, length, get_or, sym, subst, arith}
-use Rattle.std.specs.Prelude.{None}
-use Rattle.station.specs.Disk.{Sector}
-use Rattle.pages.specs.Image.{NamesOnce, pages_in}
-use Rattle.pages.specs.Changes.{touched, changed}
+use Rattle.std.proofs.Common.{◌≡◌, ◌<◌, ◌+◌, ◌/◌, ◌^◌, ◌∙◌, ⊎_elim, ℕ, List, [], length, get_or, sym, ap, subst, arith, refl}
+use Rattle.std.specs.Prelude.{false}
+use Rattle.pages.specs.Image.{NamesOnce}
+use Rattle.pages.specs.Changes.{touched, kept, ArePlaced}
 use Rattle.pages.specs.declared.change.Change.{Change}
+use Rattle.pages.proofs.Edits.{unused_none, used_some}
 use Rattle.pages.proofs.page_map.PageMap.allocate.Goals as goal
 
 pub unused_page-requires : goal.unused_page-requires
 unused_page-requires c =
-    let sound = (c.requires.open c.if-self.false).sound in
+    let ready = c.requires.open c.if-self.false in
+    let sound = ready.sound in
     let maps : length c.args.self.now.volume.maps.items ≡ (c.args.self.now.volume.sectors + 1023) / 1024 = sound.maps_count in
     let low : length c.args.self.now.volume.table.items < 2 ^ 32 = omega (arith, sound.count, maps, sound.most) in
-    subst (λ (l : List ℕ). length l < 2 ^ 32) (sym c.deref.ensures.value) low
+    record {
+      few = subst (λ (l : List ℕ). length l < 2 ^ 32) (sym c.deref.ensures.value) low;
+      once = subst (λ (l : List Change). NamesOnce (touched l)) (sym c.deref-2.ensures.value) ready.once;
+      placed = subst (λ (l : List Change). ArePlaced l c.args.self.now.places) (sym c.deref-2.ensures.value) ready.placed;
+    }
+
+-- the use of a page, as the map has it
+at_map : (table table' : List ℕ) (changes changes' : List Change) (page : ℕ) → table' ≡ table → changes' ≡ changes → get_or (kept table changes) page false ≡ get_or (kept table' changes') page false
+at_map table table' changes changes' page t d = ap (λ (l : List ℕ). get_or (kept l changes) page false) (sym t) ∙ ap (λ (l : List Change). get_or (kept table' l) page false) (sym d)
 
 pub returns-clause-unused : goal.returns-clause-unused
-returns-clause-unused c =
-    let ready = c.requires.open c.if-self.false in
-    subst (λ (t : List ℕ). (image : List Sector) → get_or (changed (pages_in image t) c.args.self.now.changes.items) c.in-Some.page None ≡ None) c.deref.ensures.value
-    (subst (λ (l : List Change). NamesOnce (touched l) → (image : List Sector) → get_or (changed (pages_in image c.deref.result.now) l) c.in-Some.page None ≡ None) c.deref-2.ensures.value c.in-Some.ensures.unused ready.once)
+returns-clause-unused c = λ image.
+    let table = c.args.self.now.volume.table.items in
+    let changes = c.args.self.now.changes.items in
+    unused_none image table changes c.in-Some.page (at_map table c.deref.result.now changes c.deref-2.result.now c.in-Some.page c.deref.ensures.value c.deref-2.ensures.value ∙ c.in-Some.ensures.found.2)
+
+pub returns-clause-full : goal.returns-clause-full
+returns-clause-full c = λ is.
+    let table = c.args.self.now.volume.table.items in
+    let changes = c.args.self.now.changes.items in (
+      λ full. absurd (cc),
+      λ each. absurd (each [] c.in-Some.page (c.in-Some.ensures.found.0, subst (λ (l : List ℕ). c.in-Some.page < length l) c.deref.ensures.value c.in-Some.ensures.found.1)
+          (unused_none [] table changes c.in-Some.page (at_map table c.deref.result.now changes c.deref-2.result.now c.in-Some.page c.deref.ensures.value c.deref-2.ensures.value ∙ c.in-Some.ensures.found.2))),
+    )
+
+pub returns-in-None-clause-full : goal.returns-in-None-clause-full
+returns-in-None-clause-full c = λ is.
+    let table = c.args.self.now.volume.table.items in
+    let changes = c.args.self.now.changes.items in (
+      λ full image page within. used_some image table changes page (at_map table c.deref.result.now changes c.deref-2.result.now page c.deref.ensures.value c.deref-2.ensures.value
+          ∙ c.in-None.ensures.full page within.0 (subst (λ (l : List ℕ). page < length l) (sym c.deref.ensures.value) within.1)),
+      λ each. refl,
+    )
+
+pub returns-in_err-change-clause-full : goal.returns-in_err-change-clause-full
+returns-in_err-change-clause-full c = λ is.
+    let table = c.args.self.now.volume.table.items in
+    let changes = c.args.self.now.changes.items in (
+      λ full. absurd (let told = rw full at c.from_residual.ensures.1 in ⊎_elim (λ memory. cc (told, memory)) (λ spent. cc (told, spent)) c.in_err-change.ensures.cause),
+      λ each. absurd (each [] c.in-Some.page (c.in-Some.ensures.found.0, subst (λ (l : List ℕ). c.in-Some.page < length l) c.deref.ensures.value c.in-Some.ensures.found.1)
+          (unused_none [] table changes c.in-Some.page (at_map table c.deref.result.now changes c.deref-2.result.now c.in-Some.page c.deref.ensures.value c.deref-2.ensures.value ∙ c.in-Some.ensures.found.2))),
+    )

@@ -1,5 +1,4 @@
-use Rattle.std.proofs.Common.{Bool, not, List, ap, ◌∙◌}
-use Rattle.std.specs.Prelude.{count_by}
+use Rattle.std.proofs.Common.{◌∙◌}
 use Rattle.pages.specs.Image.{names}
 use Rattle.pages.specs.Pages.{committed_of}
 use Rattle.pages.proofs.Counted.{counted}
@@ -7,5 +6,5 @@ use Rattle.pages.proofs.page_map.PageMap.free_sectors.Goals as goal
 
 pub returns : goal.returns
 returns c = λ is.
-    c.count_free.ensures ∙ ap (λ (l : List Bool). count_by (λ u. not u) l) c.deref.ensures.value
-    ∙ counted c.args.self.now.volume.sectors (names (committed_of c.args.self.now)) c.args.self.now.volume.used.items (c.requires is).sound.in_use
+    let sound = (c.requires is).sound in
+    sound.free ∙ counted c.args.self.now.volume.sectors (names (committed_of c.args.self.now)) c.args.self.now.volume.used.items sound.in_use

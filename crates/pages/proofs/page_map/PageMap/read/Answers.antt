@@ -6,11 +6,16 @@ use Rattle.std.proofs.lemmas.List.Elements.{Contains-append_right, Contains-get_
 use Rattle.station.specs.Disk.{Sector}
 use Rattle.pages.specs.Image.{pages_in, page_at}
 use Rattle.pages.specs.declared.change.Change.{Change}
-use Rattle.pages.proofs.Edits.{Away, is_only, only_same, away_same}
+use Rattle.pages.specs.Image.{IsCommitted}
+use Rattle.pages.specs.Changes.{touched}
+use Rattle.pages.specs.Cache.{IsCacheOf}
+use Rattle.pages.specs.Pages.{committed_of}
+use Rattle.station.specs.State.{State}
+use Rattle.pages.proofs.Edits.{Away, is_only, only_same, away_same, away_touched}
 use Rattle.pages.proofs.page_map.PageMap.read.Goals as goal
 
-pub read_page-requires : goal.read_page-requires
-read_page-requires g c =
+pub recall_page-requires : goal.recall_page-requires
+recall_page-requires g c =
     let ready = c.requires.open c.if-self.false in
     let table = c.args.self.now.volume.table.items in
     subst (All (λ (s : ℕ). s < g.D.Device.sectors c.args.device.now)) (sym c.deref-in-None.ensures.value)
@@ -18,7 +23,7 @@ read_page-requires g c =
     (ready.sound.places (get_or table k d) (Contains-append_right c.args.self.now.volume.maps.items table (get_or table k d) (Contains-get_or table k d lt))))
 
 pub returns-in-Some-clause-page : goal.returns-in-Some-clause-page
-returns-in-Some-clause-page g c = λ honest.
+returns-in-Some-clause-page g c = λ honest agrees.
     let ready = c.requires.open c.if-self.false in
     let changes = c.args.self.now.changes.items in
     let pages = pages_in (g.D.Device.state c.args.device.now).disk.present c.args.self.now.volume.table.items in
@@ -31,11 +36,35 @@ returns-in-Some-clause-page g c = λ honest.
     ∙ sym (only_same (λ (o : Option Sector). o) pages changes c.args.page i None c.index.result.now only (omega (arith, bounds.1, here c.index.result.now, length-map c.args.self.now.volume.table.items (page_at (g.D.Device.state c.args.device.now).disk.present))))
 
 pub returns-in-None-clause-page : goal.returns-in-None-clause-page
-returns-in-None-clause-page g c = λ honest.
+returns-in-None-clause-page g c = λ honest agrees.
     let present = (g.D.Device.state c.args.device.now).disk.present in
     let table = c.args.self.now.volume.table.items in
-    let away : Away c.args.page c.args.self.now.changes.items = subst (Away c.args.page) c.deref.ensures.value c.in-None.ensures.absent in
-    subst (λ (o : Option Sector). IfOk c.read_page.result (λ bytes. bytes ≡ o))
+    let changes = c.args.self.now.changes.items in
+    let entries = c.args.self.now.cache.entries in
+    let away : Away c.args.page changes = subst (Away c.args.page) c.deref.ensures.value c.in-None.ensures.absent in
+    let cache = subst (λ (l : List ℕ). IsCacheOf (pages_in present l) (touched changes) entries) (sym c.deref-in-None.ensures.value) agrees.cache in
+    subst (λ (o : Option Sector). IfOk c.recall_page.result (λ bytes. bytes ≡ o))
     (ap (λ (l : List ℕ). get_or (pages_in present l) c.args.page None) c.deref-in-None.ensures.value
-    ∙ sym (away_same (λ (o : Option Sector). o) (pages_in present table) c.args.self.now.changes.items c.args.page None away))
-    (c.read_page.ensures.page honest)
+    ∙ sym (away_same (λ (o : Option Sector). o) (pages_in present table) changes c.args.page None away))
+    (c.recall_page.ensures.page (touched changes) honest cache)
+
+pub returns-in-None-clause-agrees : goal.returns-in-None-clause-agrees
+returns-in-None-clause-agrees g c = λ honest agrees.
+    let present = (g.D.Device.state c.args.device.now).disk.present in
+    let table = c.args.self.now.volume.table.items in
+    let changes = c.args.self.now.changes.items in
+    let away : Away c.args.page changes = subst (Away c.args.page) c.deref.ensures.value c.in-None.ensures.absent in
+    let before = subst (λ (l : List ℕ). IsCacheOf (pages_in present l) (touched changes) c.args.self.now.cache.entries) (sym c.deref-in-None.ensures.value) agrees.cache in
+    let after = c.recall_page.ensures.right (touched changes) (away_touched changes c.args.page away) honest before in
+    let same = sym (c.recall_page.ensures.state honest) in
+    record {
+      committed = subst (λ (s : State). IsCommitted (committed_of c.args.self.now) s.disk) same agrees.committed;
+      cache = subst (λ (s : State). IsCacheOf (pages_in s.disk.present table) (touched changes) c.recall_page.new.cache.entries) same
+          (subst (λ (l : List ℕ). IsCacheOf (pages_in present l) (touched changes) c.recall_page.new.cache.entries) c.deref-in-None.ensures.value after);
+    }
+
+pub returns-in-None-clause-changed : goal.returns-in-None-clause-changed
+returns-in-None-clause-changed g c = λ has.
+    let changes = c.args.self.now.changes.items in
+    let away : Away c.args.page changes = subst (Away c.args.page) c.deref.ensures.value c.in-None.ensures.absent in
+    absurd (away_touched changes c.args.page away has)

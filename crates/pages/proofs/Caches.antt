@@ -1,0 +1,116 @@
+-- What the cache holds stays right.
+use Rattle.std.proofs.Common.{◌≡◌, ◌<◌, zero, suc, ◌⊎◌, ⊎_elim, inl, inr, ℕ, Bool, List, [], ◌∷◌, get_or, cond, true, false, refl, sym, ◌∙◌, ap, subst, arith}
+use Rattle.std.specs.Prelude.{Option, Some, None, Contains, IsSome, IfNone, nat_eq}
+use Rattle.std.specs.List.{IsDistinct}
+use Rattle.std.specs.Map.{lookup, lookup_entry, remove_entry, keys_of}
+use Rattle.std.specs.Cmp.{nat_eq_equiv}
+use Rattle.std.proofs.lemmas.Bool.{eqb-true, false≢true}
+use Rattle.std.proofs.lemmas.List.{get_or-map, length-map}
+use Rattle.std.proofs.lemmas.List.Elements.{Contains-append_cases}
+use Rattle.std.proofs.lemmas.Map.{lookup-remove_entry}
+use Rattle.std.proofs.lemmas.Map.Views.{IsSome-lookup_from_Contains}
+use Rattle.station.specs.Disk.{Sector}
+use Rattle.lru.specs.LruCache.{LruCache, lru_cache, promoted, put_entries}
+use Rattle.lru.proofs.CallerLemmas.{Contains-lookup, Contains-promoted, Contains-remove_entry, Contains-put_entries}
+use Rattle.pages.specs.Cache.{IsCacheOf, Recalls, StaysOut, ComesIn}
+use Rattle.pages.specs.Changes.{changed, touched, Touches}
+use Rattle.pages.specs.declared.change.Change.{Change}
+use Rattle.pages.proofs.Edits.{touched_at, away_same}
+
+-- a page of the cache is the page
+pub hit_page : (pages : List (Option Sector)) (changed : List ℕ) (entries : List (ℕ × Sector)) (page : ℕ) (bytes : Sector) → IsCacheOf pages changed entries → lookup (nat_eq page) entries ≡ Some bytes → Some bytes ≡ get_or pages page None
+hit_page pages changed entries page bytes is found =
+    let there = Contains-lookup (nat_eq page) entries bytes found in
+    sym (ap (λ (p : ℕ). get_or pages p None) (eqb-true page there.0 there.2) ∙ is.right (there.0, bytes) there.1)
+
+no_entry : (entries : List (ℕ × Sector)) (test : ℕ → Bool) → lookup test entries ≡ None → lookup_entry test entries ≡ None
+no_entry [] test none = refl
+no_entry (e ∷ entries) test none = (elim (test e.0) as (λ b. test e.0 ≡ b → lookup_entry test (e ∷ entries) ≡ None) [
+  | true ↦ λ is. let h = rw is at none in cc
+  | false ↦ λ is. rw is (no_entry entries test (rw is at none))
+]) refl
+
+-- an entry that isn't there stays out
+pub promoted_none : (entries : List (ℕ × Sector)) (page : ℕ) → lookup (nat_eq page) entries ≡ None → promoted (nat_eq page) entries ≡ entries
+promoted_none entries page none = rw (no_entry entries (nat_eq page) none) refl
+
+-- a look-up that finds nothing leaves the cache
+pub missed : (cache new : LruCache ℕ Sector) (page : ℕ) (found : Option Sector) → found ≡ lookup (nat_eq page) cache.entries → new ≡ lru_cache (promoted (nat_eq page) cache.entries) cache.cap → IfNone found (new ≡ cache)
+missed cache new page None is after = after ∙ ap (λ (es : List (ℕ × Sector)). lru_cache es cache.cap) (promoted_none cache.entries page (sym is))
+missed cache new page (Some bytes) is after = tt
+
+pub after_promoted : (pages : List (Option Sector)) (changed : List ℕ) (entries : List (ℕ × Sector)) (page : ℕ) → IsCacheOf pages changed entries → IsCacheOf pages changed (promoted (nat_eq page) entries)
+after_promoted pages changed entries page is = record {
+  right = λ e has. is.right e (Contains-promoted (nat_eq page) entries e has);
+  unchanged = λ e has. is.unchanged e (Contains-promoted (nat_eq page) entries e has);
+}
+
+-- the key that was put is the page
+put_key : (entries : List (ℕ × Sector)) (page : ℕ) (e : ℕ × Sector) → (e.0 ≡ page) ⊎ ((w : Sector) × Contains entries (e.0, w) × (nat_eq page e.0 ≡ true)) → e.0 ≡ page
+put_key entries page e (inl is) = is
+put_key entries page e (inr was) = sym (eqb-true page e.0 was.2)
+
+pub after_put : (pages : List (Option Sector)) (changed : List ℕ) (cache : LruCache ℕ Sector) (page : ℕ) (bytes : Sector) → get_or pages page None ≡ Some bytes → (Contains changed page → ⊥) → IsCacheOf pages changed cache.entries → IsCacheOf pages changed (put_entries nat_eq cache page bytes)
+after_put pages changed cache page bytes here away is = record {
+  right = λ e has. ⊎_elim (λ was. is.right e was)
+      (λ put. ap (λ (p : ℕ). get_or pages p None) (put_key cache.entries page e put.1) ∙ here ∙ ap (λ (b : Sector). Some b) (sym put.0))
+      (Contains-put_entries nat_eq cache page bytes e has);
+  unchanged = λ e has. ⊎_elim (λ was. is.unchanged e was)
+      (λ put touched. away (subst (Contains changed) (put_key cache.entries page e put.1) touched))
+      (Contains-put_entries nat_eq cache page bytes e has);
+}
+
+-- a page was kept, or not
+abbrev pub Kept : LruCache ℕ Sector → LruCache ℕ Sector → ℕ → Sector → Type 0
+Kept old new page bytes = (new ≡ old) ⊎ (new ≡ lru_cache (put_entries nat_eq old page bytes) old.cap)
+
+pub after_kept : (pages : List (Option Sector)) (changed : List ℕ) (old new : LruCache ℕ Sector) (page : ℕ) (bytes : Sector) → get_or pages page None ≡ Some bytes → (Contains changed page → ⊥) → IsCacheOf pages changed old.entries → Kept old new page bytes → IsCacheOf pages changed new.entries
+after_kept pages changed old new page bytes here away is kept = ⊎_elim
+    (λ same. subst (λ (l : LruCache ℕ Sector). IsCacheOf pages changed l.entries) (sym same) is)
+    (λ put. subst (λ (l : LruCache ℕ Sector). IsCacheOf pages changed l.entries) (sym put) (after_put pages changed old page bytes here away is))
+    kept
+
+pub recalls_kept : (old new : LruCache ℕ Sector) (page : ℕ) (bytes : Sector) → lookup (nat_eq page) old.entries ≡ None → Kept old new page bytes → Recalls page (Some bytes) old new
+recalls_kept old new page bytes none kept = ⊎_elim (λ same. StaysOut none same) (λ put. ComesIn bytes none refl put) kept
+
+-- the key of an entry
+key_there : (entries : List (ℕ × Sector)) (e : ℕ × Sector) → Contains entries e → Contains (keys_of entries) e.0
+key_there entries e has = (has.0, omega (arith, has.1, length-map entries (λ (f : ℕ × Sector). f.0)), get_or-map (λ (f : ℕ × Sector). f.0) entries has.0 e e.0 has.1 ∙ ap (λ (f : ℕ × Sector). f.0) has.2)
+
+none_removed : (entries : List (ℕ × Sector)) (page : ℕ) → IsDistinct nat_eq (keys_of entries) → lookup (nat_eq page) (remove_entry (nat_eq page) entries) ≡ None
+none_removed entries page distinct =
+    lookup-remove_entry nat_eq_equiv (nat_eq page) (λ x y is. nat_eq_equiv.congr page x y is) page entries distinct
+    ∙ ap (λ b. cond b None (lookup (nat_eq page) entries)) (nat_eq_equiv.refl page)
+
+removed_away : (entries : List (ℕ × Sector)) (page : ℕ) (e : ℕ × Sector) → IsDistinct nat_eq (keys_of entries) → Contains (remove_entry (nat_eq page) entries) e → e.0 ≡ page → ⊥
+removed_away entries page e distinct has is =
+    false≢true (subst (λ (o : Option Sector). IsSome o) (none_removed entries page distinct)
+    (subst (λ (p : ℕ). IsSome (lookup (nat_eq p) (remove_entry (nat_eq page) entries))) is
+    (IsSome-lookup_from_Contains nat_eq_equiv e.0 (remove_entry (nat_eq page) entries) (key_there (remove_entry (nat_eq page) entries) e has))))
+
+at_one : (page other k : ℕ) → k < 1 → get_or (page ∷ []) k other ≡ other → other ≡ page
+at_one page other zero lt is = sym is
+at_one page other (suc k) lt is = absurd (omega (arith, lt))
+
+in_one : (page other : ℕ) → Contains (page ∷ []) other → other ≡ page
+in_one page other has = at_one page other has.0 has.1 has.2
+
+-- a page is changed, and leaves the cache
+pub after_removed : (pages : List (Option Sector)) (old new : List ℕ) (entries : List (ℕ × Sector)) (page : ℕ) → IsDistinct nat_eq (keys_of entries) → Touches old page new → IsCacheOf pages old entries → IsCacheOf pages new (remove_entry (nat_eq page) entries)
+after_removed pages old new entries page distinct touches is = record {
+  right = λ e has. is.right e (Contains-remove_entry (nat_eq page) entries e has);
+  unchanged = λ e has touched. ⊎_elim
+      (λ same. is.unchanged e (Contains-remove_entry (nat_eq page) entries e has) (subst (λ (l : List ℕ). Contains l e.0) same.1 touched))
+      (λ more. ⊎_elim (is.unchanged e (Contains-remove_entry (nat_eq page) entries e has)) (λ last. removed_away entries page e distinct has (in_one page e.0 last))
+      (Contains-append_cases old (page ∷ []) e.0 (subst (λ (l : List ℕ). Contains l e.0) more.1 touched)))
+      touches;
+}
+
+-- After a commit of what was changed the cache is that of the new pages.
+pub after_commit : (pages after : List (Option Sector)) (changes left : List Change) (entries : List (ℕ × Sector)) → after ≡ changed pages changes → left ≡ [] → IsCacheOf pages (touched changes) entries → IsCacheOf after (touched left) entries
+after_commit pages after changes left entries next none is = record {
+  right = λ e has. ap (λ (l : List (Option Sector)). get_or l e.0 None) next
+      ∙ away_same (λ (o : Option Sector). o) pages changes e.0 None (λ k d lt same. is.unchanged e has (touched_at changes k e.0 d lt same))
+      ∙ is.right e has;
+  unchanged = λ e has. subst (λ (l : List Change). Contains (touched l) e.0 → ⊥) (sym none) (λ there. omega (arith, there.1));
+}

@@ -1,0 +1,21 @@
+-- The cache of pages as committed.
+use Rattle.std.specs.Prelude.{◌≡◌, ℕ, List, nat_eq, Option, Some, None, IsSome, slice_index_or, Contains}
+use Rattle.std.specs.Map.{lookup, remove_entry}
+use Rattle.station.specs.Disk.{Sector}
+use Rattle.lru.specs.LruCache.{LruCache, lru_cache, promoted, put_entries}
+
+-- each entry is the page of its number among these, and none is of a page that was changed
+pub record IsCacheOf (pages : List (Option Sector)) (changed : List ℕ) (entries : List (ℕ × Sector)) : Type 0 where
+  pub right : (e : ℕ × Sector) → Contains entries e → slice_index_or pages e.0 None ≡ Some e.1
+  pub unchanged : (e : ℕ × Sector) → Contains entries e → Contains changed e.0 → ⊥
+
+-- without a page
+abbrev pub forgotten : ℕ → LruCache ℕ Sector → LruCache ℕ Sector
+forgotten page cache = lru_cache (remove_entry (nat_eq page) cache.entries) cache.cap
+
+-- What becomes of the cache where a page is asked for, with this answer: a page that is there becomes the most recently used one.
+-- A page that isn't there stays out, or comes in as the most recently used one.
+pub data Recalls (page : ℕ) (answer : Option Sector) (old new : LruCache ℕ Sector) : Type 0 where
+  Hit : IsSome (lookup (nat_eq page) old.entries) → new ≡ lru_cache (promoted (nat_eq page) old.entries) old.cap → Recalls page answer old new
+  StaysOut : lookup (nat_eq page) old.entries ≡ None → new ≡ old → Recalls page answer old new
+  ComesIn : (bytes : Sector) → lookup (nat_eq page) old.entries ≡ None → answer ≡ Some bytes → new ≡ lru_cache (put_entries nat_eq old page bytes) old.cap → Recalls page answer old new

@@ -1,0 +1,36 @@
+-- How many sectors a commit needs.
+use Rattle.std.specs.Prelude.{◌⊎◌, ◌<◌, ◌≤◌, ◌+◌, ◌*◌, ◌/◌, ◌^◌, ◌==◌, ◌&&◌, ◌||◌, not, if◌then◌else◌, Bool, ℕ, zero, suc, List, take, drop, length, slice_index, is_some, count_by}
+use Rattle.std.specs.List.{list_any}
+use Rattle.pages.specs.Image.{Volume}
+use Rattle.pages.specs.Use.{free_count}
+use Rattle.pages.specs.Changes.{kept}
+use Rattle.pages.specs.declared.change.Change.{Change}
+
+-- how many pages get bytes
+abbrev pub filled : List Change → ℕ
+filled changes = count_by (λ c. is_some c.bytes) changes
+
+-- the entry of a page in the map sector of that number changes: the page gets bytes, or loses its sector
+abbrev pub alters : Volume → ℕ → Change → Bool
+alters v i c = (c.page / 1024 == i) && (is_some c.bytes || not (slice_index v.table c.page == 0))
+
+-- some page of it is in the map after the changes
+abbrev pub has_pages : Volume → List Change → ℕ → Bool
+has_pages v changes i = list_any (λ here. here) (take 1024 (drop (1024 * i) (kept v.table changes)))
+
+-- it has a sector, and another than before
+unfoldable pub is_written : Volume → List Change → ℕ → Bool
+is_written v changes i = list_any (alters v i) changes && has_pages v changes i
+
+-- how many of the map sectors below a number are written
+abbrev pub written_below : Volume → List Change → ℕ → ℕ
+written_below v changes zero = 0
+written_below v changes (suc i) = written_below v changes i + (if is_written v changes i then 1 else 0)
+
+-- a sector for each page that gets bytes, and one for each map sector that is written
+abbrev pub needed : Volume → List Change → ℕ
+needed v changes = filled changes + written_below v changes (length v.root.maps)
+
+-- too few sectors are free, or no generation is left
+abbrev pub IsShort : Volume → List Change → Type 0
+IsShort v changes = (free_count v < needed v changes) ⊎ (2 ^ 63 ≤ v.root.generation + 1)

@@ -1,0 +1,95 @@
+//! Pages as committed, so many as the cache may hold, the most recently used first.
+ghost use Rattle.std.specs.Prelude.{◌≡◌, ◌⊎◌, ◌<◌, ◌↔◌, ℕ, List, [], Ok, Err, None, slice_index_or, nat_eq, Contains, IfOk, IfNone, OnErr, IsSome};
+ghost use Rattle.std.specs.List.{All};
+ghost use Rattle.std.specs.Map.{lookup};
+ghost use Rattle.station.specs.Failures.{Blames};
+ghost use Rattle.lru.specs.LruCache.{lru_cache, promoted, put_entries, IsValid};
+ghost use Rattle.pages.specs.Image.{pages_in};
+ghost use Rattle.pages.specs.Cache.{IsCacheOf, Recalls, forgotten};
+
+use crate::error::PagesError;
+use crate::reading::read_page;
+use lru::LruCache;
+use station::Device;
+use std::alloc::{AllocError, Global};
+use std::num::NonZeroUsize;
+
+/// A cache for so many pages, without a page.
+pub(crate) fn new_cache(
+    alloc: Global,
+    capacity: usize,
+) -> Result<LruCache<u32, [u8; 4096]>, AllocError>
+    requires { 0 < capacity }
+    ensures { IfOk result (λ cache. cache ≡ lru_cache [] capacity) }
+{
+    let most = NonZeroUsize::new(capacity).unwrap();
+    LruCache::new(alloc, most)
+}
+
+/// The page of a number, if the cache has it. It becomes the most recently used one.
+fn cached_page(cache: &mut LruCache<u32, [u8; 4096]>, page: u32) -> Option<[u8; 4096]>
+    ensures value { result ≡ lookup (nat_eq page) cache.old.entries }
+    ensures entries { cache.new ≡ lru_cache (promoted (nat_eq page) cache.old.entries) cache.old.cap }
+    ensures none { IfNone result (cache.new ≡ cache.old) }
+{
+    cache.get(&page).copied()
+}
+
+/// The page of a number in a table, or none: from the cache where it is there, and otherwise from the device, by way of the cache.
+/// Where memory has no place for it, it stays out of the cache.
+pub(crate) fn recall_page<D: Device>(
+    cache: &mut LruCache<u32, [u8; 4096]>,
+    table: &[u32],
+    device: &mut D,
+    page: u32,
+) -> Result<Option<[u8; 4096]>, PagesError>
+    requires { All (λ s. s < D.sectors device.old) table.now }
+    ensures honest { D.is_honest device.old ↔ D.is_honest device.new }
+    ensures sectors { D.sectors device.new ≡ D.sectors device.old }
+    ensures failures { Blames (result ≡ Err PagesError.Device) (D.failures device.old) (D.failures device.new) }
+    ensures state { D.is_honest device.old → D.state device.new ≡ D.state device.old }
+    ensures history { D.is_honest device.old → D.history device.new ≡ D.history device.old }
+    ensures cause { OnErr result (result ≡ Err PagesError.Device) }
+
+    // The page is that of the table, where the cache's pages are.
+    ensures page { (changed : List ℕ) → D.is_honest device.old → IsCacheOf (pages_in (D.state device.old).disk.present table.now) changed cache.old.entries →
+        IfOk result (λ bytes. bytes ≡ slice_index_or (pages_in (D.state device.old).disk.present table.now) page None) }
+    ensures right { (changed : List ℕ) → (Contains changed page → ⊥) → D.is_honest device.old → IsCacheOf (pages_in (D.state device.old).disk.present table.now) changed cache.old.entries →
+        IsCacheOf (pages_in (D.state device.old).disk.present table.now) changed cache.new.entries }
+
+    // The device isn't asked for a page of the cache, nor for one that the table hasn't.
+    ensures absent { result ≡ Ok None → device.new ≡ device.old }
+    ensures hit { IsSome (lookup (nat_eq page) cache.old.entries) → device.new ≡ device.old }
+    ensures recalls { IfOk result (λ bytes. Recalls page bytes cache.old cache.new) }
+    ensures capacity { cache.new.cap ≡ cache.old.cap }
+    ensures err { OnErr result (cache.new ≡ cache.old) }
+{
+    if let Some(bytes) = cached_page(cache, page) {
+        return Ok(Some(bytes));
+    }
+    let found = read_page(table, device, page)?;
+    if let Some(bytes) = found {
+        keep_page(cache, page, bytes);
+    }
+    Ok(found)
+}
+
+/// A page comes into the cache, so far as memory allows.
+fn keep_page(cache: &mut LruCache<u32, [u8; 4096]>, page: u32, bytes: [u8; 4096])
+    ensures { (cache.new ≡ cache.old) ⊎ (cache.new ≡ lru_cache (put_entries nat_eq cache.old page bytes) cache.old.cap) }
+{
+    match cache.put(page, bytes) {
+        Ok(_) => {}
+        Err(_) => {}
+    }
+}
+
+/// A page leaves the cache.
+pub(crate) fn forget_page(cache: &mut LruCache<u32, [u8; 4096]>, page: u32)
+    ensures entries { cache.new ≡ forgotten page cache.old }
+    ensures valid { IsValid nat_eq cache.old }
+{
+    // This tells that each page is there once.
+    let _count = cache.len();
+    cache.pop(&page);
+}
