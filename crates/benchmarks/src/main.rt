@@ -3,6 +3,8 @@
 
 mod decimals;
 mod sources;
+mod sparse;
+mod volumes;
 
 use std::io;
 
@@ -14,11 +16,12 @@ fn main(rt: HostRuntime) -> io::Result<()> {
             "sources" => sources::measure(&rt)?,
             "memory" => sources::measure_memory(&rt)?,
             "decimals" => decimals::measure(&rt)?,
+            "volumes" => volumes::measure(&rt)?,
             other => println!(rt; "there is no measurement {other}")?,
         }
     }
     if !named {
-        println!(rt; "measurements: sources, memory, decimals")?;
+        println!(rt; "measurements: sources, memory, decimals, volumes")?;
     }
     Ok(())
 }

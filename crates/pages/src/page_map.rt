@@ -1,5 +1,5 @@
 //! The pages of a volume, as their user sees them: a finite map from page numbers to pages, beside the page of the catalog's root.
-ghost use Rattle.std.specs.Prelude.{◌≡◌, ◌⊎◌, ◌<◌, ◌≤◌, ◌↔◌, Err, Some, None, true, false, replicate, List, [], length, slice_set, map, IfOk, IfErr, OnOk, OnErr};
+ghost use Rattle.std.specs.Prelude.{◌≡◌, ◌⊎◌, ◌<◌, ◌≤◌, ◌↔◌, Err, Some, None, true, false, replicate, List, [], length, slice_set, map, IsOk, IfOk, IfErr, OnOk, OnErr};
 ghost use Rattle.station.specs.Disk.{Sector};
 ghost use Rattle.station.specs.State.{synced, SameConsole};
 ghost use Rattle.station.specs.History.{Through};
@@ -321,6 +321,7 @@ impl PageMap {
 
         // With nothing changed nothing is done.
         ensures nothing { touched_of self.old ≡ [] → catalog_of self.old ≡ (committed_of self.old).root.catalog → D.is_honest device.old → (D.state device.new ≡ D.state device.old) × (D.history device.new ≡ D.history device.old) }
+        ensures idle { is_spent self.old ≡ false → touched_of self.old ≡ [] → catalog_of self.old ≡ (committed_of self.old).root.catalog → IsOk result }
 
         // `Full` tells that too few sectors are free, or that no generation is left, and then nothing was done.
         ensures full { result ≡ Err PagesError.Full → IsFull self.old }

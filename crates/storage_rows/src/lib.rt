@@ -3,6 +3,20 @@
 #![tactic(auto)]
 
 #[cfg(test)]
+mod image;
+#[cfg(test)]
+mod opened;
+#[cfg(test)]
+mod page_cache_rows;
+#[cfg(test)]
+mod page_crash_rows;
+#[cfg(test)]
+mod page_damage_rows;
+#[cfg(test)]
+mod page_full_rows;
+#[cfg(test)]
+mod page_rows;
+#[cfg(test)]
 mod root_rows;
 #[cfg(test)]
 mod station_rows;

@@ -1,0 +1,8 @@
+pub mod Changed
+pub mod Edited
+mod Examples
+pub mod Halving
+pub mod Order
+pub mod Places
+pub mod Rows
+pub mod Views

@@ -1,0 +1,42 @@
+-- A page of a tree as data: its kind and its rows (own choice). Byte 0 tells the kind, 1 for a leaf and 2 for an inner page; bytes
+-- 2 and 3 are the number of rows, big-endian; rows stand from byte 16 on. No reader looks at the other bytes, which are written as zeros.
+use Rattle.std.specs.Prelude.{◌≡◌, ◌≤◌, ◌==◌, ℕ, zero, suc, List, [], ◌∷◌, length, take, drop, slice_index, Option, Some, None, nat_le, if◌then◌else◌}
+use Rattle.std.specs.List.{All}
+use Rattle.byteorder.specs.Endian.{big_number}
+use Rattle.tree_pages.specs.declared.form.TreeForm.{TreeForm}
+use Rattle.tree_pages.specs.declared.form.Kind.{Kind}
+use Rattle.tree_pages.specs.declared.form.Kind.TheVariants.{Leaf, Inner}
+use Rattle.tree_pages.specs.Form.{row_length, capacity, IsForm}
+
+pub record Node : Type 0 where
+  pub form : TreeForm
+  pub kind : Kind
+  pub rows : List (List ℕ)
+
+abbrev pub kind_in : ℕ → Option Kind
+kind_in byte = if byte == 1 then Some Leaf else if byte == 2 then Some Inner else None
+
+-- so many rows of this length, one behind the other
+abbrev pub rows_in : ℕ → ℕ → List ℕ → List (List ℕ)
+rows_in length zero bytes = []
+rows_in length (suc count) bytes = take length bytes ∷ rows_in length count (drop length bytes)
+
+abbrev pub count_in : List ℕ → ℕ
+count_in bytes = big_number 2 (drop 2 bytes)
+
+abbrev pub node_of_kind : TreeForm → List ℕ → Option Kind → Option Node
+node_of_kind form bytes None = None
+node_of_kind form bytes (Some kind) =
+    if nat_le (count_in bytes) (capacity form kind)
+    then Some (record { form = form; kind = kind; rows = rows_in (row_length form kind) (count_in bytes) (drop 16 bytes) })
+    else None
+
+-- what a page is in a tree of this form, if its kind is one of the two and its rows fit
+abbrev pub node_in : TreeForm → List ℕ → Option Node
+node_in form bytes = node_of_kind form bytes (kind_in (slice_index bytes 0))
+
+-- the rows are of the length that the form tells, and fit
+pub record IsNode (node : Node) : Type 0 where
+  pub form : IsForm node.form
+  pub lengths : All (λ row. length row ≡ row_length node.form node.kind) node.rows
+  pub fits : length node.rows ≤ capacity node.form node.kind

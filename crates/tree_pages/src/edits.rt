@@ -1,0 +1,171 @@
+//! Changes of a page, and its bytes.
+ghost use Rattle.std.specs.Prelude.{◌≡◌, ◌≤◌, ◌<◌, ◌+◌, ◌++◌, length, take, drop, Some, slice_index};
+ghost use Rattle.byteorder.specs.Endian.{big_bytes, big_number};
+ghost use Rattle.tree_pages.specs.Form.{IsForm, capacity, rest_length};
+ghost use Rattle.tree_pages.specs.Node.{kind_in, node_in};
+ghost use Rattle.tree_pages.specs.Edits.{empty_node, inserted, removed, with_key, with_rest, with_rows};
+
+use crate::form::{Kind, TreeForm};
+use crate::row_bytes::{append_rows, insert_row, put, put_key, put_rest, remove_row, split_rows};
+use crate::tree_page::TreePage;
+
+/// The first byte of a page of this kind.
+fn kind_byte(kind: Kind) -> u8
+    ensures { kind_in result ≡ Some kind }
+{
+    match kind {
+        Kind::Leaf => 1,
+        Kind::Inner => 2,
+    }
+}
+
+/// The first bytes of a page.
+fn head(kind: Kind, count: usize) -> [u8; 16]
+    requires { count ≤ 4080 }
+    ensures kind { kind_in (slice_index result 0) ≡ Some kind }
+    ensures count { big_number 2 (drop 2 result) ≡ count }
+    ensures long { length result ≡ 16 }
+{
+    let high = (count / 256) as u8;
+    let low = (count % 256) as u8;
+    [
+        kind_byte(kind),
+        0,
+        high,
+        low,
+        0,
+        0,
+        0,
+        0,
+        0,
+        0,
+        0,
+        0,
+        0,
+        0,
+        0,
+        0,
+    ]
+}
+
+/// The bytes of a page.
+fn joined(head: &[u8; 16], rows: &[u8; 4080]) -> [u8; 4096]
+    ensures { result ≡ head.now ++ rows.now }
+{
+    let mut bytes = [0; 4096];
+    put(&mut bytes, 0, head);
+    put(&mut bytes, 16, rows);
+    bytes
+}
+
+impl TreePage {
+    /// A page without rows.
+    pub fn new(form: TreeForm, kind: Kind) -> TreePage
+        requires { IsForm form }
+        ensures { result ≡ empty_node form kind }
+    {
+        TreePage {
+            bytes: [0; 4080],
+            form,
+            kind,
+            count: 0,
+        }
+    }
+
+    /// The bytes that `read` reads this page from.
+    pub fn bytes(&self) -> [u8; 4096]
+        ensures { node_in self.now.form result ≡ Some self.now }
+    {
+        joined(&head(self.kind, self.count), &self.bytes)
+    }
+
+    /// A row comes to this place. There must be room for it.
+    pub fn insert(&mut self, place: usize, key: &[u8], rest: &[u8])
+        requires place { place ≤ length self.old.rows }
+        requires room { length self.old.rows < capacity self.old.form self.old.kind }
+        requires key { length key.now ≡ self.old.form.key_length }
+        requires rest { length rest.now ≡ rest_length self.old.form self.old.kind }
+        ensures { self.new ≡ inserted self.old place (key.now ++ rest.now) }
+    {
+        let row = self.form.row_length(self.kind);
+        insert_row(&mut self.bytes, row, self.count, place, key, rest);
+        self.count += 1;
+    }
+
+    /// A row for a child comes to this place of an inner page. There must be room for it.
+    pub fn insert_child(&mut self, place: usize, key: &[u8], page: u32)
+        requires inner { self.old.kind ≡ Kind.Inner }
+        requires place { place ≤ length self.old.rows }
+        requires room { length self.old.rows < capacity self.old.form self.old.kind }
+        requires key { length key.now ≡ self.old.form.key_length }
+        ensures { self.new ≡ inserted self.old place (key.now ++ big_bytes 4 page) }
+    {
+        self.insert(place, key, &page.to_be_bytes());
+    }
+
+    /// The row at this place goes.
+    pub fn remove(&mut self, place: usize)
+        requires { place < length self.old.rows }
+        ensures { self.new ≡ removed self.old place }
+    {
+        let row = self.form.row_length(self.kind);
+        remove_row(&mut self.bytes, row, self.count, place);
+        self.count -= 1;
+    }
+
+    /// The row at this place gets another key.
+    pub fn set_key(&mut self, place: usize, key: &[u8])
+        requires place { place < length self.old.rows }
+        requires key { length key.now ≡ self.old.form.key_length }
+        ensures { self.new ≡ with_key self.old place key.now }
+    {
+        let row = self.form.row_length(self.kind);
+        put_key(&mut self.bytes, row, self.count, place, key);
+    }
+
+    /// What stands behind the key of the row at this place becomes this.
+    pub fn set_rest(&mut self, place: usize, rest: &[u8])
+        requires place { place < length self.old.rows }
+        requires rest { length rest.now ≡ rest_length self.old.form self.old.kind }
+        ensures { self.new ≡ with_rest self.old place rest.now }
+    {
+        let row = self.form.row_length(self.kind);
+        put_rest(
+            &mut self.bytes,
+            row,
+            self.count,
+            place,
+            self.form.key_length,
+            rest,
+        );
+    }
+
+    /// Takes the rows from this place on out of the page, as a page of their own.
+    pub fn split_off(&mut self, place: usize) -> TreePage
+        requires { place ≤ length self.old.rows }
+        ensures left { self.new ≡ with_rows self.old (take place self.old.rows) }
+        ensures right { result ≡ with_rows self.old (drop place self.old.rows) }
+    {
+        let row = self.form.row_length(self.kind);
+        let right = TreePage {
+            bytes: split_rows(&mut self.bytes, row, self.count, place),
+            form: self.form,
+            kind: self.kind,
+            count: self.count - place,
+        };
+        self.count = place;
+        right
+    }
+
+    /// The rows of another page of the same kind come behind the last one. There must be room for them.
+    pub fn append(&mut self, other: &TreePage)
+        requires form { other.now.form ≡ self.old.form }
+        requires kind { other.now.kind ≡ self.old.kind }
+        requires room { length self.old.rows + length other.now.rows ≤ capacity self.old.form self.old.kind }
+        ensures { self.new ≡ with_rows self.old (self.old.rows ++ other.now.rows) }
+    {
+        let row = self.form.row_length(self.kind);
+        append_rows(&mut self.bytes, row, self.count, &other.bytes, other.count);
+        self.count += other.count;
+    }
+}

@@ -1,0 +1,15 @@
+//! One page of a tree: rows of one length, in order of their keys.
+//!
+//! Promise: a page is what its bytes spell, and each change of it is the change of its list of rows.
+#![tactic(auto)]
+
+mod edits;
+mod form;
+mod laws;
+mod row_bytes;
+mod search;
+mod tree_page;
+
+pub use form::{Kind, MOST_ROW_BYTES, ROW_BYTES, TreeForm};
+pub use laws::{row_reads_back, spells_node};
+pub use tree_page::TreePage;

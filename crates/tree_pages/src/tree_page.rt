@@ -1,0 +1,135 @@
+//! A page of a tree.
+ghost use Rattle.std.specs.Prelude.{◌≡◌, ◌≤◌, ◌<◌, ◌↔◌, [], IsTrue, length, slice_index_or};
+ghost use Rattle.tree_pages.specs.Form.{IsForm, capacity, rest_length, row_length};
+ghost use Rattle.tree_pages.specs.Keys.{key_of, rest_of, child_of};
+ghost use Rattle.tree_pages.specs.Node.{IsNode, kind_in, node_in};
+
+use crate::form::{Kind, TreeForm};
+use byteorder::{BigEndian, ByteOrder};
+use std::marker::Model;
+
+/// A page of a tree, as its rows.
+#[derive(Drop)]
+pub struct TreePage {
+    pub(crate) bytes: [u8; 4080],
+    pub(crate) form: TreeForm,
+    pub(crate) kind: Kind,
+    pub(crate) count: usize,
+}
+
+impl Model for TreePage {
+    ghost use Rattle.std.specs.Prelude.{◌≤◌};
+    ghost use Rattle.tree_pages.specs.Form.{IsForm, row_length, capacity};
+    ghost use Rattle.tree_pages.specs.Node.{Node, rows_in};
+
+    ghost Value = { Node };
+
+    ghost view = { λ page. record { form = page.form; kind = page.kind; rows = rows_in (row_length page.form page.kind) page.count page.bytes } };
+
+    ghost invariant = { λ page. IsForm page.form × (page.count ≤ capacity page.form page.kind) };
+}
+
+/// The kind that a page's first byte tells.
+fn kind_of(byte: u8) -> Option<Kind>
+    ensures { result ≡ kind_in byte }
+{
+    match byte {
+        1 => Some(Kind::Leaf),
+        2 => Some(Kind::Inner),
+        _ => None,
+    }
+}
+
+impl TreePage {
+    /// The page of a tree of this form that these bytes spell: the kind in byte 0 (1 for a leaf, 2 for an inner page), the number
+    /// of rows in bytes 2 and 3, big-endian, and the rows from byte 16 on. `None` where the kind is neither or the rows don't fit.
+    pub fn read(bytes: [u8; 4096], form: TreeForm) -> Option<TreePage>
+        requires { IsForm form }
+        ensures { result ≡ node_in form bytes }
+    {
+        let kind = kind_of(bytes[0])?;
+        let (_, number) = bytes.split_at(2);
+        let count = BigEndian::read_u16(number) as usize;
+        if form.capacity(kind) < count {
+            return None;
+        }
+        let (_, spelled) = bytes.split_at(16);
+        let mut rows = [0; 4080];
+        rows.copy_from_slice(spelled);
+        Some(TreePage {
+            bytes: rows,
+            form,
+            kind,
+            count,
+        })
+    }
+
+    /// How many rows there are.
+    pub fn count(&self) -> usize
+        ensures rows { result ≡ length self.now.rows }
+        ensures node { IsNode self.now }
+    {
+        self.count
+    }
+
+    pub fn kind(&self) -> Kind
+        ensures { result ≡ self.now.kind }
+    {
+        self.kind
+    }
+
+    pub fn form(&self) -> TreeForm
+        ensures { result ≡ self.now.form }
+    {
+        self.form
+    }
+
+    /// Whether no further row has room.
+    pub fn is_full(&self) -> bool
+        ensures { IsTrue result ↔ (capacity self.now.form self.now.kind ≤ length self.now.rows) }
+    {
+        let count = self.count();
+        self.form().capacity(self.kind()) <= count
+    }
+
+    /// The row at this place.
+    fn row(&self, place: usize) -> &[u8]
+        requires { place < length self.now.rows }
+        ensures row { result.now ≡ slice_index_or self.now.rows place [] }
+        ensures length { length result.now ≡ row_length self.now.form self.now.kind }
+    {
+        let length = self.form.row_length(self.kind);
+        let (_, from) = self.bytes.split_at(place * length);
+        let (row, _) = from.split_at(length);
+        row
+    }
+
+    /// The key of the row at this place.
+    pub fn key(&self, place: usize) -> &[u8]
+        requires { place < length self.now.rows }
+        ensures key { result.now ≡ key_of self.now.form (slice_index_or self.now.rows place []) }
+        ensures length { length result.now ≡ self.now.form.key_length }
+    {
+        let (key, _) = self.row(place).split_at(self.form().key_length);
+        key
+    }
+
+    /// What stands behind the key of the row at this place: a leaf's value, or an inner page's page number in 4 bytes.
+    pub fn rest(&self, place: usize) -> &[u8]
+        requires { place < length self.now.rows }
+        ensures rest { result.now ≡ rest_of self.now.form (slice_index_or self.now.rows place []) }
+        ensures length { length result.now ≡ rest_length self.now.form self.now.kind }
+    {
+        let (_, rest) = self.row(place).split_at(self.form().key_length);
+        rest
+    }
+
+    /// The page of the child that the row at this place of an inner page names.
+    pub fn child(&self, place: usize) -> u32
+        requires inner { self.now.kind ≡ Kind.Inner }
+        requires place { place < length self.now.rows }
+        ensures { result ≡ child_of self.now.form (slice_index_or self.now.rows place []) }
+    {
+        BigEndian::read_u32(self.rest(place))
+    }
+}
