@@ -1,62 +1,14 @@
 //! Changes of a page, and its bytes.
-ghost use Rattle.std.specs.Prelude.{◌≡◌, ◌≤◌, ◌<◌, ◌+◌, ◌++◌, length, take, drop, Some, slice_index};
-ghost use Rattle.byteorder.specs.Endian.{big_bytes, big_number};
+ghost use Rattle.std.specs.Prelude.{◌≡◌, ◌≤◌, ◌<◌, ◌+◌, ◌++◌, length, take, drop, Some};
+ghost use Rattle.byteorder.specs.Endian.{big_bytes};
 ghost use Rattle.tree_pages.specs.Form.{IsForm, capacity, rest_length};
-ghost use Rattle.tree_pages.specs.Node.{kind_in, node_in};
+ghost use Rattle.tree_pages.specs.Node.{node_in};
 ghost use Rattle.tree_pages.specs.Edits.{empty_node, inserted, removed, with_key, with_rest, with_rows};
 
 use crate::form::{Kind, TreeForm};
-use crate::row_bytes::{append_rows, insert_row, put, put_key, put_rest, remove_row, split_rows};
+use crate::layout::{head, joined};
+use crate::row_bytes::{append_rows, insert_row, put_key, put_rest, remove_row, split_rows};
 use crate::tree_page::TreePage;
-
-/// The first byte of a page of this kind.
-fn kind_byte(kind: Kind) -> u8
-    ensures { kind_in result ≡ Some kind }
-{
-    match kind {
-        Kind::Leaf => 1,
-        Kind::Inner => 2,
-    }
-}
-
-/// The first bytes of a page.
-fn head(kind: Kind, count: usize) -> [u8; 16]
-    requires { count ≤ 4080 }
-    ensures kind { kind_in (slice_index result 0) ≡ Some kind }
-    ensures count { big_number 2 (drop 2 result) ≡ count }
-    ensures long { length result ≡ 16 }
-{
-    let high = (count / 256) as u8;
-    let low = (count % 256) as u8;
-    [
-        kind_byte(kind),
-        0,
-        high,
-        low,
-        0,
-        0,
-        0,
-        0,
-        0,
-        0,
-        0,
-        0,
-        0,
-        0,
-        0,
-        0,
-    ]
-}
-
-/// The bytes of a page.
-fn joined(head: &[u8; 16], rows: &[u8; 4080]) -> [u8; 4096]
-    ensures { result ≡ head.now ++ rows.now }
-{
-    let mut bytes = [0; 4096];
-    put(&mut bytes, 0, head);
-    put(&mut bytes, 16, rows);
-    bytes
-}
 
 impl TreePage {
     /// A page without rows.

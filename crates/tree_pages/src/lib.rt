@@ -6,6 +6,7 @@
 mod edits;
 mod form;
 mod laws;
+mod layout;
 mod row_bytes;
 mod search;
 mod tree_page;

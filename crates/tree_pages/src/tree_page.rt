@@ -2,9 +2,10 @@
 ghost use Rattle.std.specs.Prelude.{◌≡◌, ◌≤◌, ◌<◌, ◌↔◌, [], IsTrue, length, slice_index_or};
 ghost use Rattle.tree_pages.specs.Form.{IsForm, capacity, rest_length, row_length};
 ghost use Rattle.tree_pages.specs.Keys.{key_of, rest_of, child_of};
-ghost use Rattle.tree_pages.specs.Node.{IsNode, kind_in, node_in};
+ghost use Rattle.tree_pages.specs.Node.{IsNode, node_in};
 
 use crate::form::{Kind, TreeForm};
+use crate::layout::{COUNT_AT, ROWS_AT, kind_of};
 use byteorder::{BigEndian, ByteOrder};
 use std::marker::Model;
 
@@ -29,17 +30,6 @@ impl Model for TreePage {
     ghost invariant = { λ page. IsForm page.form × (page.count ≤ capacity page.form page.kind) };
 }
 
-/// The kind that a page's first byte tells.
-fn kind_of(byte: u8) -> Option<Kind>
-    ensures { result ≡ kind_in byte }
-{
-    match byte {
-        1 => Some(Kind::Leaf),
-        2 => Some(Kind::Inner),
-        _ => None,
-    }
-}
-
 impl TreePage {
     /// The page of a tree of this form that these bytes spell: the kind in byte 0 (1 for a leaf, 2 for an inner page), the number
     /// of rows in bytes 2 and 3, big-endian, and the rows from byte 16 on. `None` where the kind is neither or the rows don't fit.
@@ -48,12 +38,12 @@ impl TreePage {
         ensures { result ≡ node_in form bytes }
     {
         let kind = kind_of(bytes[0])?;
-        let (_, number) = bytes.split_at(2);
+        let (_, number) = bytes.split_at(COUNT_AT);
         let count = BigEndian::read_u16(number) as usize;
         if form.capacity(kind) < count {
             return None;
         }
-        let (_, spelled) = bytes.split_at(16);
+        let (_, spelled) = bytes.split_at(ROWS_AT);
         let mut rows = [0; 4080];
         rows.copy_from_slice(spelled);
         Some(TreePage {

@@ -1,0 +1,12 @@
+pub mod Order
+pub mod Levels
+pub mod Ways
+pub mod Depth
+pub mod One
+pub mod Found
+pub mod Descents
+pub mod Searches
+pub mod Firsts
+pub mod Parts
+pub mod Frames
+pub mod Keyed

@@ -1,0 +1,75 @@
+-- What is read of one page of a tree.
+use Rattle.std.proofs.Common.{◌≡◌, ◌≤◌, ◌<◌, ◌+◌, ◌-◌, ◌*◌, ◌/◌, ◌^◌, ℕ, false, List, [], ◌∷◌, length, set, take, drop, refl, sym, ap, subst, ◌∙◌, arith, inl, inr, length-set}
+use Rattle.std.specs.Prelude.{slice_index_or, Option, Some, None}
+use Rattle.std.proofs.lemmas.List.{get_or-take, length-take-le, length-map}
+use Rattle.std.proofs.lemmas.List.Elements.{All-drop}
+use Rattle.station.specs.Disk.{Sector}
+use Rattle.pages.specs.declared.page_map.PageMap.{PageMap}
+use Rattle.pages.specs.declared.change.Change.{Change}
+use Rattle.pages.specs.Changes.{changed}
+use Rattle.pages.specs.Image.{pages_in, page_at}
+use Rattle.pages.specs.Pages.{map_now, is_spent, IsOpen}
+use Rattle.tree_pages.specs.declared.form.TreeForm.{TreeForm}
+use Rattle.tree_pages.specs.declared.form.Kind.{Kind}
+use Rattle.tree_pages.specs.Node.{Node}
+use Rattle.tree_pages.specs.Keys.{key_of, Precedes, AllAbove, AllBelow}
+use Rattle.btree.specs.Tree.{Part, Stands, node_at, node_on, node_of, fewest}
+use Rattle.btree.specs.Path.{IsChosen}
+use Rattle.btree.proofs.Order.{not_itself, not_both}
+use Rattle.btree.proofs.Descents.{rows_read, kind_read}
+
+-- A page that is none of a tree.
+pub read_none : (form : TreeForm) (pages : List (Option Sector)) (page : ℕ) (bytes : Option Sector) (kind : Kind) (part : Part) → bytes ≡ slice_index_or pages page None → node_on form bytes ≡ None → part.page ≡ page → Stands form pages kind part → ⊥
+read_none form pages page bytes kind part is none same stands =
+    let clash : None ≡ Some (node_of form kind part.rows) = sym none ∙ ap (node_on form) is ∙ ap (node_at form pages) (sym same) ∙ stands.node in
+    cc
+
+pub read_few : (form : TreeForm) (pages : List (Option Sector)) (page : ℕ) (node : Node) (kind : Kind) (part : Part) → node_at form pages page ≡ Some node → length node.rows < fewest node.kind → part.page ≡ page → Stands form pages kind part → ⊥
+read_few form pages page node kind part read few same stands =
+    let rows : length part.rows ≡ length node.rows = ap length (rows_read form pages kind part page node same stands read) in
+    let least : fewest kind ≡ fewest node.kind = ap fewest (kind_read form pages kind part page node same stands read) in
+    let enough = stands.enough in
+    omega arith
+
+-- The child for a key.
+pub chosen_at : (form : TreeForm) (key : List ℕ) (rows : List (List ℕ)) (place : ℕ) → place < length rows → key_of form (slice_index_or rows place []) ≡ key → AllAbove form key (drop (place + 1) rows) → IsChosen form key rows place
+chosen_at form key rows place low is above = record {
+  low = low;
+  after = above;
+  here = inr (λ high. not_itself key (subst (Precedes key) is high));
+}
+
+pub chosen_first : (form : TreeForm) (key : List ℕ) (rows : List (List ℕ)) → 0 < length rows → AllAbove form key rows → IsChosen form key rows 0
+chosen_first form key rows some above = record {
+  low = some;
+  after = All-drop (λ row. Precedes key (key_of form row)) 1 rows above;
+  here = inl refl;
+}
+
+pub chosen_before : (form : TreeForm) (key : List ℕ) (rows : List (List ℕ)) (place : ℕ) → 0 < place → place ≤ length rows → AllBelow form key (take place rows) → AllAbove form key (drop place rows) → IsChosen form key rows (place - 1)
+chosen_before form key rows place some low below above =
+    let next : place - 1 + 1 ≡ place = omega arith in
+    let count : length (take place rows) ≡ place = length-take-le place rows low in
+    let here : Precedes (key_of form (slice_index_or rows (place - 1) [])) key =
+    subst (λ row. Precedes (key_of form row) key) (get_or-take place rows (place - 1) [] (omega arith)) (below (place - 1) [] (omega arith)) in
+    record {
+      low = omega arith;
+      after = subst (λ (n : ℕ). AllAbove form key (drop n rows)) (sym next) above;
+      here = inr (λ high. not_both key (key_of form (slice_index_or rows (place - 1) [])) high here);
+    }
+
+-- A volume has few page numbers.
+length_applied : (pages : List (Option Sector)) (changes : List Change) → length (changed pages changes) ≡ length pages
+length_applied pages [] = refl
+length_applied pages (c ∷ changes) = length_applied (set pages c.page c.bytes) changes ∙ length-set pages c.page c.bytes
+
+count_bound : (sectors maps table : ℕ) → sectors ≤ 921600 → maps ≡ (sectors + 1023) / 1024 → table ≡ 1024 * maps → table ≤ 1048576
+count_bound sectors maps table most maps_is table_is = omega arith
+
+pub few_pages : (p : PageMap) (image : List Sector) → IsOpen p → is_spent p ≡ false → length (map_now p image).pages ≤ 2 ^ 20
+few_pages p image ready unspent =
+    let sound = (ready unspent).sound in
+    let count : length (map_now p image).pages ≡ length p.volume.table.items =
+    length_applied (pages_in image p.volume.table.items) p.changes.items ∙ length-map p.volume.table.items (page_at image) in
+    let bound = count_bound p.volume.sectors (length p.volume.maps.items) (length p.volume.table.items) sound.most sound.maps_count sound.count in
+    omega arith

@@ -1,0 +1,25 @@
+use Rattle.std.proofs.Common.{◌≡◌, ◌≤◌, ◌<◌, List, length, false}
+use Rattle.std.specs.Prelude.{◌↔◌}
+use Rattle.pages.specs.Pages.{map_now, is_spent, Agrees, IsOpen}
+use Rattle.btree.specs.Tree.{Part, IsTree}
+use Rattle.btree.specs.Reading.{Untouched}
+use Rattle.btree.proofs.Descents.{Along}
+use Rattle.btree.proofs.descend.descend.Given as goal
+
+abbrev pub invariant-loop-depth : goal.invariant-loop-depth
+invariant-loop-depth g l = record {
+  honest : g.D.Device.is_honest l.fn.device ↔ g.D.Device.is_honest l.device;
+  sectors : g.D.Device.sectors l.device ≡ g.D.Device.sectors l.fn.device;
+  failures : g.D.Device.failures l.fn.device ≤ g.D.Device.failures l.device;
+  state : g.D.Device.is_honest l.fn.device → g.D.Device.state l.device ≡ g.D.Device.state l.fn.device;
+  history : g.D.Device.is_honest l.fn.device → g.D.Device.history l.device ≡ g.D.Device.history l.fn.device;
+  untouched : Untouched l.fn.pages l.pages;
+  agrees : g.D.Device.is_honest l.fn.device → Agrees l.fn.pages (g.D.Device.state l.fn.device).disk → Agrees l.pages (g.D.Device.state l.device).disk;
+  is_open : IsOpen l.pages;
+  spent : 0 < l._depth → is_spent l.fn.pages ≡ false;
+  room : l.path.capacity ≡ 21;
+  turns : length l.path.items ≡ l._depth;
+  way : is_spent l.fn.pages ≡ false → g.D.Device.is_honest l.fn.device → Agrees l.fn.pages (g.D.Device.state l.fn.device).disk → (levels : List (List Part)) →
+      IsTree l.fn.form (map_now l.fn.pages (g.D.Device.state l.fn.device).disk.present).pages l.fn.root levels →
+      Along l.fn.form (map_now l.fn.pages (g.D.Device.state l.fn.device).disk.present).pages levels l.key l.path.items l.page l.right;
+}

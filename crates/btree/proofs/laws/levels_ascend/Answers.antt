@@ -1,0 +1,5 @@
+use Rattle.btree.proofs.Levels.{all_ascend}
+use Rattle.btree.proofs.laws.levels_ascend.Goals as goal
+
+pub returns : goal.returns
+returns c = λ form pages root levels tree. all_ascend form pages levels tree.joined tree.ascend

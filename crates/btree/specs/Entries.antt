@@ -1,0 +1,54 @@
+-- The entries of a tree: an ascending list.
+use Rattle.std.specs.Prelude.{ℕ, List, [], ◌∷◌, map, Option, Some, None, if◌then◌else◌}
+use Rattle.std.specs.Ordering.{is_lt, is_gt, is_eq}
+use Rattle.tree_pages.specs.declared.form.TreeForm.{TreeForm}
+use Rattle.tree_pages.specs.Keys.{key_cmp, key_of, rest_of}
+use Rattle.btree.specs.Tree.{Part, rows_in_order}
+
+pub record Entry : Type 0 where
+  pub key : List ℕ
+  pub value : List ℕ
+
+abbrev pub entry_of : TreeForm → List ℕ → Entry
+entry_of form row = record { key = key_of form row; value = rest_of form row }
+
+abbrev pub listed : TreeForm → List (List ℕ) → List Entry
+listed form rows = map (entry_of form) rows
+
+abbrev pub entries_of : TreeForm → List (List Part) → List Entry
+entries_of form levels = listed form (rows_in_order levels)
+
+-- the entry of a key, if it is there, and its value
+abbrev pub entry_with : List Entry → List ℕ → Option Entry
+entry_with [] key = None
+entry_with (entry ∷ more) key = if is_eq (key_cmp entry.key key) then Some entry else entry_with more key
+
+abbrev pub value_of : List Entry → List ℕ → Option (List ℕ)
+value_of [] key = None
+value_of (entry ∷ more) key = if is_eq (key_cmp entry.key key) then Some entry.value else value_of more key
+
+-- the first entry from a key on, and the first after it
+abbrev pub first_from : List Entry → List ℕ → Option Entry
+first_from [] key = None
+first_from (entry ∷ more) key = if is_lt (key_cmp entry.key key) then first_from more key else Some entry
+
+abbrev pub first_after : List Entry → List ℕ → Option Entry
+first_after [] key = None
+first_after (entry ∷ more) key = if is_gt (key_cmp entry.key key) then Some entry else first_after more key
+
+abbrev pub first_entry : List Entry → Option Entry
+first_entry [] = None
+first_entry (entry ∷ more) = Some entry
+
+-- the entries after a new one came to its place, after a value was replaced, and after one was removed
+abbrev pub with_entry : List Entry → Entry → List Entry
+with_entry [] new = new ∷ []
+with_entry (entry ∷ more) new = if is_lt (key_cmp entry.key new.key) then entry ∷ with_entry more new else new ∷ entry ∷ more
+
+abbrev pub with_value : List Entry → Entry → List Entry
+with_value [] new = []
+with_value (entry ∷ more) new = if is_eq (key_cmp entry.key new.key) then new ∷ more else entry ∷ with_value more new
+
+abbrev pub without : List Entry → List ℕ → List Entry
+without [] key = []
+without (entry ∷ more) key = if is_eq (key_cmp entry.key key) then more else entry ∷ without more key

@@ -1,0 +1,81 @@
+//! The way of a key down a tree.
+ghost use Rattle.std.specs.Prelude.{true, ◌≡◌, ◌≤◌, ◌↔◌, Err, List, length, IfOk, IfErr};
+ghost use Rattle.station.specs.Failures.{Blames};
+ghost use Rattle.pages.specs.Pages.{map_now, is_spent, sectors_of, Agrees, IsOpen};
+ghost use Rattle.tree_pages.specs.Form.{IsForm};
+ghost use Rattle.btree.specs.Tree.{Part, IsTree};
+ghost use Rattle.btree.specs.Path.{EndsAt};
+ghost use Rattle.btree.specs.Reading.{Untouched, IsRefusal};
+
+use crate::child::{child_place, right_beside};
+use crate::key::Key;
+use crate::part::read_part;
+use crate::turn::Turn;
+use pages::{PageMap, PagesError};
+use smallvec::SmallVec;
+use station::Device;
+use std::alloc::Global;
+use tree_pages::{Kind, TreeForm, TreePage};
+
+/// How many levels a tree has at most.
+pub(crate) const LEVELS: usize = 21;
+
+/// The leaf that a key leads to, with the turns on the way, and the first key to the right of the leaf.
+#[derive(Drop)]
+pub(crate) struct Descent {
+    pub path: SmallVec<Turn, LEVELS>,
+    pub page: u32,
+    pub leaf: TreePage,
+    pub right: Option<Key>,
+}
+
+/// Goes down from a page to the leaf where the key belongs. `Damaged` tells that the page is no tree's root. `Memory` comes only
+/// where keys are longer than 128 bytes.
+pub(crate) fn descend<D: Device>(
+    alloc: Global,
+    pages: &mut PageMap,
+    device: &mut D,
+    form: TreeForm,
+    root: u32,
+    key: &[u8],
+) -> Result<Descent, PagesError>
+    requires open { IsOpen pages.old }
+    requires sectors { sectors_of pages.old ≤ D.sectors device.old }
+    requires form { IsForm form }
+    ensures honest { D.is_honest device.old ↔ D.is_honest device.new }
+    ensures sectors { D.sectors device.new ≡ D.sectors device.old }
+    ensures failures { Blames (result ≡ Err PagesError.Device) (D.failures device.old) (D.failures device.new) }
+    ensures state { D.is_honest device.old → D.state device.new ≡ D.state device.old }
+    ensures history { D.is_honest device.old → D.history device.new ≡ D.history device.old }
+    ensures untouched { Untouched pages.old pages.new }
+    ensures agrees { D.is_honest device.old → Agrees pages.old (D.state device.old).disk → Agrees pages.new (D.state device.new).disk }
+    ensures open { IsOpen pages.new }
+    ensures way { D.is_honest device.old → Agrees pages.old (D.state device.old).disk → (levels : List (List Part)) →
+        IsTree form (map_now pages.old (D.state device.old).disk.present).pages root levels →
+        IfOk result (λ descent. EndsAt form key.now levels descent.path.items descent.page descent.leaf.rows descent.right) }
+    ensures damaged { D.is_honest device.old → Agrees pages.old (D.state device.old).disk → result ≡ Err PagesError.Damaged →
+        (levels : List (List Part)) → IsTree form (map_now pages.old (D.state device.old).disk.present).pages root levels → ⊥ }
+    ensures leaf { IfOk result (λ descent. (descent.leaf.form ≡ form) × (descent.leaf.kind ≡ Kind.Leaf) × (length descent.leaf.rows ≤ 4080)) }
+    ensures spent { result ≡ Err PagesError.Spent ↔ is_spent pages.old ≡ true }
+    ensures cause { IfErr result (IsRefusal form) }
+{
+    let mut path = SmallVec::new(alloc);
+    let mut right = None;
+    let mut page = root;
+    for _depth in 0..LEVELS {
+        let part = read_part(pages, device, form, page)?;
+        if part.kind() == Kind::Leaf {
+            return Ok(Descent {
+                path,
+                page,
+                leaf: part,
+                right,
+            });
+        }
+        let place = child_place(&part, key);
+        right = right_beside(alloc, &part, place, right)?;
+        path.push_reserved(Turn { page, place });
+        page = part.child(place);
+    }
+    Err(PagesError::Damaged)
+}

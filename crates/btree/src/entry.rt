@@ -1,0 +1,50 @@
+//! An entry of a tree.
+ghost use Rattle.std.specs.Prelude.{◌≡◌};
+
+use std::marker::Model;
+use tree_pages::TreePage;
+
+/// An entry, as it stands in its leaf.
+#[derive(Drop)]
+pub struct Entry {
+    leaf: TreePage,
+    place: usize,
+}
+
+impl Model for Entry {
+    ghost use Rattle.std.specs.Prelude.{◌<◌, [], length, slice_index_or};
+    ghost use Rattle.btree.specs.Entries.{Entry as Listed, entry_of};
+
+    ghost Value = { Listed };
+
+    ghost view = { λ entry. entry_of entry.leaf.form (slice_index_or entry.leaf.rows entry.place []) };
+
+    ghost invariant = { λ entry. entry.place < length entry.leaf.rows };
+}
+
+impl Entry {
+    ghost use Rattle.std.specs.Prelude.{◌<◌, [], length, slice_index_or};
+    ghost use Rattle.btree.specs.Entries.{entry_of};
+
+    /// The entry at a place of a leaf.
+    pub(crate) fn at(leaf: TreePage, place: usize) -> Entry
+        requires { place < length leaf.rows }
+        ensures { result ≡ entry_of leaf.form (slice_index_or leaf.rows place []) }
+    {
+        Entry { leaf, place }
+    }
+
+    /// Its key, of the tree's key length.
+    pub fn key(&self) -> &[u8]
+        ensures { result.now ≡ self.now.key }
+    {
+        self.leaf.key(self.place)
+    }
+
+    /// Its value, of the tree's value length.
+    pub fn value(&self) -> &[u8]
+        ensures { result.now ≡ self.now.value }
+    {
+        self.leaf.rest(self.place)
+    }
+}
