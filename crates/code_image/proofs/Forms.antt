@@ -9,7 +9,7 @@ use Rattle.std.proofs.lemmas.List.{take_at, drop_at, take-append-drop, length-ap
 use Rattle.std.proofs.lemmas.List.Concat.{flat_map-cons}
 use Rattle.std.proofs.lemmas.Nat.{be_bytes_4, be_bytes_8}
 use Rattle.byteorder.specs.Endian.{big_bytes, big_number}
-use Rattle.byteorder.specs.Numbers.{big_from-take, big_number-reads_back, length-bytes_high_first}
+use Rattle.byteorder.specs.Numbers.{big_from-take, big_from-lt, big_number-reads_back, length-bytes_high_first}
 use Rattle.code_image.specs.declared.fault.ImageFault.{ImageFault}
 use Rattle.code_image.specs.declared.fault.ImageFault.TheVariants as faults
 use Rattle.code_image.specs.declared.instruction.Instruction.{Instruction}
@@ -61,9 +61,10 @@ pub record Takes (bytes text rest : List ℕ) : Type 0 where
 pub takes_then : (a x b y c : List ℕ) → Takes a x b → Takes b y c → Takes a (x ++ y) c
 takes_then a x b y c p q = record { parts = p.parts ∙ ap (λ (t : List ℕ). x ++ t) q.parts ∙ sym (append_assoc x y c); rest_fits = q.rest_fits }
 
--- A reader and a spelling fit each other.
+-- A reader and a spelling fit each other, and what is read fits its bytes.
 pub record IsForm {A : Type 0} (read : List ℕ → Read A) (spelled : A → List ℕ) (fits : A → Type 0) : Type 0 where
   pub takes : (bytes : List ℕ) (x : A) (rest : List ℕ) → IsBytes bytes → read bytes ≡ Ok (x, rest) → Takes bytes (spelled x) rest
+  pub sound : (bytes : List ℕ) (x : A) (rest : List ℕ) → IsBytes bytes → read bytes ≡ Ok (x, rest) → fits x
   pub again : (x : A) (rest : List ℕ) → fits x → read (spelled x ++ rest) ≡ Ok (x, rest)
 
 -- ---- numbers
@@ -85,6 +86,11 @@ number_form n back = record {
         parts = sym (take-append-drop n bytes) ∙ ap (λ (t : List ℕ). t ++ drop n bytes) (sym front) ∙ ap (λ (t : List ℕ). big_bytes n k ++ t) rest-is;
         rest_fits = subst IsBytes rest-is (IsBytes-drop n bytes fits);
       };
+  sound = λ bytes k rest fits e.
+      let g = guard_ok (ltb (length bytes) n) faults.Length (big_number n bytes, drop n bytes) (k, rest) e in
+      let k-is : big_number n bytes ≡ k = ap (λ (p : ℕ × List ℕ). p.0) g.1 in
+      let low : ℕ → Type 0 = λ j. j < 256 ^ n in
+      subst low k-is (big_from-lt 0 n bytes fits);
   again = λ k rest lt.
       let len = length-bytes_high_first n k in
       let long : ltb (length (big_bytes n k ++ rest)) n ≡ false = le-ltb _ _ (omega (arith, length-append (big_bytes n k) rest)) in
@@ -159,10 +165,14 @@ module _ {A : Type 0} (read : List ℕ → Read A) (spelled : A → List ℕ) (f
   abbrev others_at : ℕ → A × List ℕ → Read (List A)
   others_at n first = entries_at read n first.1 >>= λ others. Ok (first.0 ∷ others.0, others.1)
 
-  entries_take : (n : ℕ) (bytes : List ℕ) (x : List A × List ℕ) → IsBytes bytes → entries_at read n bytes ≡ Ok x → Takes bytes (flat_map spelled x.0) x.1 × (length x.0 ≡ n)
+  -- so many entries were taken, and each fits
+  abbrev TakesAll : List ℕ → ℕ → List A × List ℕ → Type 0
+  TakesAll bytes n x = Takes bytes (flat_map spelled x.0) x.1 × (length x.0 ≡ n) × AllByRecursion fits x.0
+
+  entries_take : (n : ℕ) (bytes : List ℕ) (x : List A × List ℕ) → IsBytes bytes → entries_at read n bytes ≡ Ok x → TakesAll bytes n x
   unfolding entries_at
   entries_take zero bytes x is e =
-      subst (λ (y : List A × List ℕ). Takes bytes (flat_map spelled y.0) y.1 × (length y.0 ≡ 0)) (ok_is ([], bytes) x e) (record { parts = refl; rest_fits = is }, refl)
+      subst (TakesAll bytes 0) (ok_is ([], bytes) x e) (record { parts = refl; rest_fits = is }, refl, tt)
   entries_take (suc n) bytes x is e =
       let a = bind_ok (read bytes) (others_at n) x e in
       let b = bind_ok (entries_at read n a.0.1) (λ others. Ok (a.0.0 ∷ others.0, others.1)) x a.2 in
@@ -170,7 +180,8 @@ module _ {A : Type 0} (read : List ℕ → Read A) (spelled : A → List ℕ) (f
       let second = entries_take n a.0.1 b.0 first.rest_fits b.1 in
       let both = takes_then bytes (spelled a.0.0) a.0.1 (flat_map spelled b.0.0) b.0.1 first second.0 in
       let made : List A × List ℕ = (a.0.0 ∷ b.0.0, b.0.1) in
-      subst (λ (y : List A × List ℕ). Takes bytes (flat_map spelled y.0) y.1 × (length y.0 ≡ suc n)) (ok_is made x b.2) (rw flat_map-cons both, ap suc second.1)
+      let one = form.sound bytes a.0.0 a.0.1 is a.1 in
+      subst (TakesAll bytes (suc n)) (ok_is made x b.2) (rw flat_map-cons both, ap suc second.1, (one, second.2))
 
   entries_again : (xs : List A) (rest : List ℕ) → AllByRecursion fits xs → entries_at read (length xs) (flat_map spelled xs ++ rest) ≡ Ok (xs, rest)
   unfolding entries_at
@@ -189,6 +200,11 @@ module _ {A : Type 0} (read : List ℕ → Read A) (spelled : A → List ℕ) (f
         let first = count_form.takes bytes b.0.0 b.0.1 is b.1 in
         let second = entries_take b.0.0 b.0.1 (xs, rest) first.rest_fits b.2 in
         subst (λ (n : ℕ). Takes bytes (count_bytes n ++ flat_map spelled xs) rest) (sym second.1) (takes_then bytes (count_bytes b.0.0) b.0.1 (flat_map spelled xs) rest first second.0);
+    sound = λ bytes xs rest is e.
+        let b = bind_ok (count_at bytes) (λ count. entries_at read count.0 count.1) (xs, rest) e in
+        let first = count_form.takes bytes b.0.0 b.0.1 is b.1 in
+        let second = entries_take b.0.0 b.0.1 (xs, rest) first.rest_fits b.2 in
+        (subst IsCount (sym second.1) (count_form.sound bytes b.0.0 b.0.1 is b.1), second.2);
     again = λ xs rest all.
         ap (λ (t : List ℕ). count_at t >>= λ count. entries_at read count.0 count.1) (append_assoc (count_bytes (length xs)) (flat_map spelled xs) rest)
         ∙ bind_is (count_at (count_bytes (length xs) ++ (flat_map spelled xs ++ rest))) (λ count. entries_at read count.0 count.1) (length xs, flat_map spelled xs ++ rest) (count_form.again (length xs) (flat_map spelled xs ++ rest) all.0)
@@ -214,6 +230,13 @@ literal_form = record {
       let both = takes_then bytes (count_bytes n.0) n.1 (take n.0 n.1) (drop n.0 n.1) first second in
       let whole : Takes bytes (literal_bytes (take n.0 n.1)) (drop n.0 n.1) = subst (λ (k : ℕ). Takes bytes (count_bytes k ++ take n.0 n.1) (drop n.0 n.1)) (sym len) both in
       subst (λ (p : List ℕ × List ℕ). Takes bytes (literal_bytes p.0) p.1) g.1 whole;
+  sound = λ bytes text rest fits e.
+      let b = bind_ok (count_at bytes) literal_from (text, rest) e in
+      let n = b.0 in
+      let g = guard_ok (ltb (length n.1) n.0) faults.Length (take n.0 n.1, drop n.0 n.1) (text, rest) b.2 in
+      let long : n.0 ≤ length n.1 = ltb-false _ _ g.0 in
+      let len : length (take n.0 n.1) ≡ n.0 = omega (arith, length-take n.0 n.1) in
+      subst (λ (p : List ℕ × List ℕ). IsCount (length p.0)) g.1 (subst IsCount (sym len) (count_form.sound bytes n.0 n.1 fits b.1));
   again = λ text rest lt.
       let long : ltb (length (text ++ rest)) (length text) ≡ false = le-ltb _ _ (omega (arith, length-append text rest)) in
       ap (λ (t : List ℕ). count_at t >>= literal_from) (append_assoc (count_bytes (length text)) text rest)
@@ -227,24 +250,24 @@ takes_kind : (kind : ℕ) (bytes text rest : List ℕ) → Takes bytes text rest
 takes_kind kind bytes text rest t = record { parts = ap (λ (b : List ℕ). kind ∷ b) t.parts; rest_fits = t.rest_fits }
 
 abbrev Reads : ℕ → List ℕ → Instruction → List ℕ → Type 0
-Reads kind bytes one rest = Takes (kind ∷ bytes) (instruction_bytes one) rest
+Reads kind bytes one rest = Takes (kind ∷ bytes) (instruction_bytes one) rest × HasNumbers one
 
 tick_takes : (bytes : List ℕ) (one : Instruction) (rest : List ℕ) → IsBytes bytes → tick_at bytes ≡ Ok (one, rest) → Reads 1 bytes one rest
 tick_takes bytes one rest fits e =
     let b = bind_ok (line_at bytes) (λ line. Ok (Tick line.0, line.1)) (one, rest) e in
-    subst (λ (p : Instruction × List ℕ). Reads 1 bytes p.0 p.1) (ok_is (Tick b.0.0, b.0.1) (one, rest) b.2) (takes_kind 1 bytes (line_bytes b.0.0) b.0.1 (line_form.takes bytes b.0.0 b.0.1 fits b.1))
+    subst (λ (p : Instruction × List ℕ). Reads 1 bytes p.0 p.1) (ok_is (Tick b.0.0, b.0.1) (one, rest) b.2) (takes_kind 1 bytes (line_bytes b.0.0) b.0.1 (line_form.takes bytes b.0.0 b.0.1 fits b.1), line_form.sound bytes b.0.0 b.0.1 fits b.1)
 
 show_takes : (bytes : List ℕ) (one : Instruction) (rest : List ℕ) → IsBytes bytes → show_at bytes ≡ Ok (one, rest) → Reads 2 bytes one rest
 show_takes bytes one rest fits e =
     let b = bind_ok (count_at bytes) (λ literal. Ok (Show (record { number = literal.0 }), literal.1)) (one, rest) e in
-    subst (λ (p : Instruction × List ℕ). Reads 2 bytes p.0 p.1) (ok_is (Show (record { number = b.0.0 }), b.0.1) (one, rest) b.2) (takes_kind 2 bytes (count_bytes b.0.0) b.0.1 (count_form.takes bytes b.0.0 b.0.1 fits b.1))
+    subst (λ (p : Instruction × List ℕ). Reads 2 bytes p.0 p.1) (ok_is (Show (record { number = b.0.0 }), b.0.1) (one, rest) b.2) (takes_kind 2 bytes (count_bytes b.0.0) b.0.1 (count_form.takes bytes b.0.0 b.0.1 fits b.1), count_form.sound bytes b.0.0 b.0.1 fits b.1)
 
 abbrev stop_at : List ℕ → Read Instruction
 stop_at bytes = Ok (Stop, bytes)
 
 stop_takes : (bytes : List ℕ) (one : Instruction) (rest : List ℕ) → IsBytes bytes → stop_at bytes ≡ Ok (one, rest) → Reads 3 bytes one rest
 stop_takes bytes one rest fits e =
-    subst (λ (p : Instruction × List ℕ). Reads 3 bytes p.0 p.1) (ok_is (Stop, bytes) (one, rest) e) (record { parts = refl; rest_fits = fits })
+    subst (λ (p : Instruction × List ℕ). Reads 3 bytes p.0 p.1) (ok_is (Stop, bytes) (one, rest) e) (record { parts = refl; rest_fits = fits }, tt)
 
 -- the way that a test went
 pub chosen : {A : Type 0} (b : Bool) (x y z : A) → cond b x y ≡ z → ((b ≡ true) × (x ≡ z)) ⊎ ((b ≡ false) × (y ≡ z))
@@ -267,7 +290,7 @@ kind_takes kind bytes one rest fits e =
       ]
     ]
 
-instruction_takes : (bytes : List ℕ) (one : Instruction) (rest : List ℕ) → IsBytes bytes → instruction_at bytes ≡ Ok (one, rest) → Takes bytes (instruction_bytes one) rest
+instruction_takes : (bytes : List ℕ) (one : Instruction) (rest : List ℕ) → IsBytes bytes → instruction_at bytes ≡ Ok (one, rest) → Takes bytes (instruction_bytes one) rest × HasNumbers one
 unfolding instruction_at
 instruction_takes [] one rest fits e = absurd cc
 instruction_takes (kind ∷ bytes) one rest fits e = kind_takes kind bytes one rest (λ i. fits (suc i)) e
@@ -279,4 +302,8 @@ instruction_again (Show literal) rest fits = bind_is (count_at (count_bytes lite
 instruction_again Stop rest fits = refl
 
 pub instruction_form : IsForm instruction_at instruction_bytes HasNumbers
-instruction_form = record { takes = instruction_takes; again = instruction_again }
+instruction_form = record {
+  takes = λ bytes one rest fits e. (instruction_takes bytes one rest fits e).0;
+  sound = λ bytes one rest fits e. (instruction_takes bytes one rest fits e).1;
+  again = instruction_again;
+}

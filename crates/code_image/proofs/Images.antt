@@ -1,5 +1,5 @@
 -- Of whole images: what is read is spelled so, and what is spelled so is read.
-use Rattle.std.proofs.Common.{◌≡◌, ℕ, eqb, cond, List, [], ◌++◌, length, Result, Ok, Err, sym, ap, ◌∙◌, append_assoc}
+use Rattle.std.proofs.Common.{◌≡◌, ℕ, eqb, cond, List, [], ◌++◌, length, Result, Ok, Err, sym, ap, subst, ◌∙◌, append_assoc}
 use Rattle.std.specs.Prelude.{IfOk}
 use Rattle.std.proofs.lemmas.Bool.{eqb-true}
 use Rattle.std.proofs.lemmas.List.{append-nil, nil_from_length}
@@ -12,7 +12,7 @@ use Rattle.code_image.specs.declared.fault.ImageError.{ImageError}
 use Rattle.code_image.specs.Faults.{fault_of}
 use Rattle.code_image.specs.Spelling.{mark, no_tables, table_bytes, count_bytes, literal_bytes, instruction_bytes, spelling, IsCount, HasNumbers, HasSpelling}
 use Rattle.code_image.specs.Reading.{◌>>=◌, after_mark, after_none_twice, table_at, count_at, literal_at, instruction_at, code_at}
-use Rattle.code_image.proofs.Forms.{IsBytes, bind_ok, bind_is, guard_passed, takes_then, IsForm, AreSpelled, table_form, count_form, literal_form, instruction_form, mark_takes, mark_again, none_twice_takes, none_twice_again}
+use Rattle.code_image.proofs.Forms.{IsBytes, bind_ok, bind_is, guard_passed, Takes, takes_then, IsForm, AreSpelled, table_form, count_form, literal_form, instruction_form, mark_takes, mark_again, none_twice_takes, none_twice_again}
 
 -- reading from each part on
 abbrev end_from : List (List ℕ) → List ℕ → List Instruction × List ℕ → Result Code ImageFault
@@ -42,7 +42,11 @@ start_table = table_form count_at count_bytes IsCount count_form
 instruction_table : IsForm (table_at instruction_at) (table_bytes instruction_bytes) (AreSpelled HasNumbers)
 instruction_table = table_form instruction_at instruction_bytes HasNumbers instruction_form
 
-pub code_takes : (bytes : List ℕ) (code : Code) → IsBytes bytes → code_at bytes ≡ Ok code → bytes ≡ spelling code
+-- nothing follows the last part
+whole : (bytes text rest : List ℕ) → Takes bytes text rest → rest ≡ [] → bytes ≡ text
+whole bytes text rest takes none = takes.parts ∙ ap (λ (t : List ℕ). text ++ t) none ∙ append-nil text
+
+pub code_takes : (bytes : List ℕ) (code : Code) → IsBytes bytes → code_at bytes ≡ Ok code → (bytes ≡ spelling code) × HasSpelling code
 unfolding code_at
 code_takes bytes code fits e =
     let a = bind_ok (after_mark bytes) tables_from code e in
@@ -65,7 +69,18 @@ code_takes bytes code fits e =
     let u5 = takes_then bytes (mark ++ no_tables ++ table_bytes literal_bytes c.0.0 ++ no_tables) d.0 (table_bytes count_bytes f.0.0) f.0.1 u4 t5 in
     let u6 = takes_then bytes (mark ++ no_tables ++ table_bytes literal_bytes c.0.0 ++ no_tables ++ table_bytes count_bytes f.0.0) f.0.1 (table_bytes instruction_bytes h.0.0) h.0.1 u5 t6 in
     let nothing : h.0.1 ≡ [] = nil_from_length h.0.1 (eqb-true _ _ g.0) in
-    u6.parts ∙ ap (λ (t : List ℕ). spelling made ++ t) nothing ∙ append-nil (spelling made) ∙ ap spelling g.1
+    let literals = literal_table.sound b.0 c.0.0 c.0.1 t2.rest_fits c.1 in
+    let starts = start_table.sound d.0 f.0.0 f.0.1 t4.rest_fits f.1 in
+    let instructions = instruction_table.sound f.0.1 h.0.0 h.0.1 t5.rest_fits h.1 in
+    let spelt : HasSpelling made = record {
+      literal_count = literals.0;
+      literals = literals.1;
+      start_count = starts.0;
+      starts = starts.1;
+      instruction_count = instructions.0;
+      instructions = instructions.1;
+    } in
+    (whole bytes (spelling made) h.0.1 u6 nothing ∙ ap spelling g.1, subst HasSpelling g.1 spelt)
 
 regroup : (a b c d e : List ℕ) → a ++ b ++ c ++ d ++ e ≡ a ++ (b ++ (c ++ (d ++ e)))
 regroup a b c d e = simp append_assoc
@@ -86,5 +101,9 @@ code_again code fits =
     (ap (table_at instruction_at) (sym (append-nil i)) ∙ instruction_table.again code.instructions [] (fits.instruction_count, fits.instructions))
 
 pub is_found : (bytes : List ℕ) (r : Result Code ImageError) → IsBytes bytes → Gives (λ code. code) fault_of r (code_at bytes) → IfOk r (λ code. bytes ≡ spelling code)
-is_found bytes (Ok code) fits given = code_takes bytes code fits given
+is_found bytes (Ok code) fits given = (code_takes bytes code fits given).0
 is_found bytes (Err e) fits given = tt
+
+pub is_spelt : (bytes : List ℕ) (r : Result Code ImageError) → IsBytes bytes → Gives (λ code. code) fault_of r (code_at bytes) → IfOk r HasSpelling
+is_spelt bytes (Ok code) fits given = (code_takes bytes code fits given).1
+is_spelt bytes (Err e) fits given = tt

@@ -16,7 +16,7 @@ mod writing;
 pub use code::Code;
 pub use fault::{ImageError, ImageFault};
 pub use instruction::Instruction;
-pub use laws::run_law;
+pub use laws::{run_law, spelling_law};
 pub use literal::LiteralIndex;
 pub use reading::from_bytes;
 pub use verified::{Verified, verify};

@@ -68,6 +68,7 @@ fn read_code(alloc: Global, bytes: &[u8]) -> Result<Code, ImageError>
 pub fn from_bytes(alloc: Global, bytes: &[u8]) -> Result<Code, ImageError>
     // The bytes are the spelling of what is read.
     ensures found { IfOk result (λ code. bytes.now ≡ spelling code) }
+    ensures has_spelling { IfOk result HasSpelling }
     // What the bytes spell is read, unless memory runs out.
     ensures only { (code : Code) → HasSpelling code → bytes.now ≡ spelling code → Gives (λ code. code) fault_of result (Ok code) }
     // Which fault comes first.

@@ -64,7 +64,7 @@ fn stops_last(instructions: &[Instruction]) -> bool
 }
 
 /// Tests that a machine can run the code: each literal that it shows and each start of a paragraph is a place in its
-/// table, and `stop` comes last. It answers 73 and 74 alone, each where that demand is broken.
+/// table, and `stop` comes last. 73 where the first demand is broken, or else 74 where the other is.
 pub fn verify(code: Code) -> Result<Verified, ImageFault>
     ensures value { IfOk result (λ verified. verified ≡ code) }
     ensures verified { IfOk result (λ _. IsVerified code) }

@@ -3,7 +3,6 @@ use Rattle.std.specs.Prelude.{◌≡◌, ◌≤◌, ◌<◌, ◌⊎◌, ◌-◌,
 use Rattle.station.specs.State.{State}
 use Rattle.source_tree.specs.State as end
 use Rattle.source_tree.specs.Meaning.{Run}
-use Rattle.code_image.specs.declared.fault.ImageFault.{ImageFault}
 use Rattle.code_image.specs.Faults as image
 use Rattle.code_image.specs.declared.fault.ImageError.{ImageError}
 use Rattle.code_image.specs.declared.fault.ImageError.TheVariants as in_image
@@ -13,7 +12,7 @@ use Rattle.machine.specs.declared.ended.Refusal.TheVariants as refused
 use Rattle.code_image.specs.declared.code.Code.{Code}
 use Rattle.machine.specs.declared.machine.Machine.{Machine}
 use Rattle.machine.specs.Ends.{code_of, Finished}
-use Rattle.run_unit.specs.Images.{IsImageOf, RefusesImage}
+use Rattle.run_unit.specs.Images.{IsImage, RefusesImage}
 use Rattle.run_unit.specs.declared.fault.CompileFault.{CompileFault}
 use Rattle.run_unit.specs.declared.ended.Refusal.{Refusal}
 use Rattle.run_unit.specs.declared.ended.Refusal.TheVariants.{Image, Device, Memory}
@@ -57,9 +56,29 @@ IsCauseOf (Image fault) image = RefusesImage image fault
 IsCauseOf Device image = ⊥
 IsCauseOf Memory image = Unit {0}
 
+-- The same of a run's end. Where bytes weren't refused before the run, they are an image.
 abbrev pub ForImage : Ended → List ℕ → Type 0
+ForImage Stopped image = IsImage image
+ForImage Budget image = IsImage image
 ForImage (Refused (Image fault)) image = RefusesImage image fault
-ForImage _ image = Unit {0}
+ForImage (Refused Device) image = IsImage image
+ForImage (Refused Memory) image = Unit {0}
+
+-- this, where the run never began
+abbrev pub IfUnbegun : Ended → Type 0 → Type 0
+IfUnbegun Stopped fact = Unit {0}
+IfUnbegun Budget fact = Unit {0}
+IfUnbegun (Refused (Image fault)) fact = fact
+IfUnbegun (Refused Device) fact = Unit {0}
+IfUnbegun (Refused Memory) fact = fact
+
+-- an end that the run of an image may have
+abbrev pub IsEndOfImage : Ended → Type 0
+IsEndOfImage Stopped = Unit {0}
+IsEndOfImage Budget = Unit {0}
+IsEndOfImage (Refused (Image fault)) = ⊥
+IsEndOfImage (Refused Device) = Unit {0}
+IsEndOfImage (Refused Memory) = Unit {0}
 
 -- What loading an image may answer where it is of that code.
 abbrev pub IsLoaded : Code → Result Machine Refusal → Type 0

@@ -34,6 +34,10 @@ IsImageAnswer tree (Ok image) = MeansAs tree image.items
 IsImageAnswer tree (Err Memory) = Unit {0}
 IsImageAnswer tree (Err (Refused fault)) = ⊥
 
+-- The bytes are the image of some code.
+abbrev pub IsImage : List ℕ → Type 0
+IsImage image = (code : Code) × IsImageOf image code
+
 -- Why bytes are refused as an image: they spell no code, or code that breaks a demand of the machine.
 abbrev pub RefusesImage : List ℕ → ImageFault → Type 0
-RefusesImage image fault = (code_at image ≡ Err fault) ⊎ ((code : Code) × (image ≡ spelling code) × Refuses code fault)
+RefusesImage image fault = (code_at image ≡ Err fault) ⊎ ((code : Code) × (code_at image ≡ Ok code) × Refuses code fault)

@@ -6,7 +6,7 @@ ghost use Rattle.source_tree.specs.Meaning.{Run};
 ghost use Rattle.code_image.specs.declared.code.Code.{Code};
 ghost use Rattle.machine.specs.Ends.{code_of, IsDigit, Told};
 ghost use Rattle.run_unit.specs.Images.{IsImageOf, HasRun};
-ghost use Rattle.run_unit.specs.Ends.{EndsAs, HasCause, IsCauseOf, ForImage, IsLoaded};
+ghost use Rattle.run_unit.specs.Ends.{EndsAs, HasCause, IsCauseOf, ForImage, IfUnbegun, IsLoaded};
 
 use crate::ended::{Ended, Refusal};
 use code_image::{from_bytes, verify};
@@ -17,6 +17,7 @@ use std::alloc::Global;
 /// A machine with the code of an image.
 fn load(alloc: Global, image: &[u8], day: [u8; 6]) -> Result<Machine, Refusal>
     requires { All IsDigit day }
+    ensures loaded { IfOk result (λ machine. IsImageOf image.now (code_of machine)) }
     ensures only { (code : Code) → IsImageOf image.now code → IsLoaded code result }
     ensures cause { IfErr result (λ refusal. IsCauseOf refusal image.now) }
 {
@@ -40,8 +41,10 @@ pub fn run_image<S: Station>(
     ensures sectors { S.sectors station.new ≡ S.sectors station.old }
     ensures honest { S.is_honest station.old ↔ S.is_honest station.new }
     ensures cause { HasCause result (S.failures station.old) (S.failures station.new) }
-    // Bytes are refused by 70 to 74 only where they are no image.
+    // Bytes are refused by 70 to 74 for the fault that they have, and run only where they are an image.
     ensures image { ForImage result image.now }
+    // Where they are refused, or memory runs out, nothing was done.
+    ensures unbegun { IfUnbegun result (station.new ≡ station.old) }
     // At each moment a beginning of the image's run was shown, and nothing else was done.
     ensures moments { S.is_honest station.old → (run : Run) → HasRun image.now budget run →
         Through (S.history station.old) (S.history station.new) (S.state station.new) (Told run (S.state station.old)) }

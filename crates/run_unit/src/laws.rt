@@ -6,7 +6,7 @@ ghost use Rattle.source_tree.specs.Meaning.{Run};
 ghost use Rattle.run_unit.specs.Trees.{IsTreeOf};
 ghost use Rattle.run_unit.specs.Images.{HasRun};
 
-use code_image::run_law;
+use code_image::{run_law, spelling_law};
 use divisions::one_tree;
 use source_lines::reference_format;
 use tokens::laws;
@@ -20,4 +20,5 @@ pub fn one_meaning()
     laws();
     one_tree();
     run_law();
+    spelling_law();
 }

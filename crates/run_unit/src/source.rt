@@ -8,13 +8,14 @@ ghost use Rattle.source_tree.specs.Meaning.{meaning};
 ghost use Rattle.machine.specs.Ends.{IsDigit, Told};
 ghost use Rattle.run_unit.specs.Faults.{fault_of};
 ghost use Rattle.run_unit.specs.Trees.{IsTreeOf, tree_of};
-ghost use Rattle.run_unit.specs.Ends.{EndsAs, HasCause, ForSource};
+ghost use Rattle.run_unit.specs.Ends.{EndsAs, HasCause, IfUnbegun, IsEndOfImage, ForSource};
 ghost use Rattle.run_unit.specs.declared.fault.CompileFault.TheVariants.{Memory};
 
 use crate::compiling::compile;
 use crate::ended::Ended;
 use crate::fault::CompileFault;
 use crate::image::run_image;
+use code_image::spelling_law;
 use station::Station;
 use std::alloc::Global;
 
@@ -33,6 +34,9 @@ pub fn run_source<S: Station>(
     // A refused source text leaves the station as it was, and the answer is the first fault of its stages.
     ensures untouched { OnErr result (station.new ≡ station.old) }
     ensures fault { IfErr result (λ e. Fails (fault_of e) (tree_of source.now)) }
+    // Its image is never refused, and where memory runs out before the run nothing was done.
+    ensures own { IfOk result IsEndOfImage }
+    ensures unbegun { IfOk result (λ ended. IfUnbegun ended (station.new ≡ station.old)) }
     // A source text is run only if it has a tree. One with a tree is refused for want of memory alone.
     ensures accepted { IfOk result (λ _. (tree : Program) × IsTreeOf source.now tree) }
     ensures only { (tree : Program) → IsTreeOf source.now tree → IfErr result (λ e. e ≡ Memory) }
@@ -43,6 +47,7 @@ pub fn run_source<S: Station>(
     ensures ends { S.is_honest station.old → (tree : Program) → IsTreeOf source.now tree →
         IfOk result (λ ended. EndsAs (meaning tree budget) (S.state station.old) ended (S.state station.new)) }
 {
+    spelling_law();
     let image = compile(alloc, source)?;
     Ok(run_image(alloc, image.as_slice(), station, day, budget))
 }

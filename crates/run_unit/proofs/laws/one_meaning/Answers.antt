@@ -6,4 +6,4 @@ pub returns-clause-tree : goal.returns-clause-tree
 returns-clause-tree c = one c.reference_format.ensures.only c.laws.ensures.only c.one_tree.ensures
 
 pub returns-clause-run : goal.returns-clause-run
-returns-clause-run c = one_run c.run_law.ensures.one
+returns-clause-run c = one_run c.spelling_law.ensures c.run_law.ensures.one
