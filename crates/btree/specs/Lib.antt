@@ -4,3 +4,7 @@ pub mod Entries
 pub mod Laws
 pub mod Reading
 pub mod Rooted
+pub mod Moves
+pub mod Nodes
+pub mod Rises
+pub mod Changes

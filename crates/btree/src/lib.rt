@@ -5,10 +5,19 @@
 
 mod child;
 mod descend;
+mod divide;
+mod enter;
 mod entry;
+mod grown;
+mod insert;
 mod key;
 mod laws;
+mod lift;
 mod part;
+mod put_new;
+mod put_row;
+mod replace;
+mod rise;
 mod tree;
 mod turn;
 

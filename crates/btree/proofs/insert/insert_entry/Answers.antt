@@ -1,0 +1,87 @@
+use Rattle.std.proofs.Common.{◌≡◌, ◌≤◌, List, [], length, sym, ap, subst, ◌∙◌, arith}
+use Rattle.std.specs.Prelude.{Option, false, slice_index_or}
+use Rattle.station.specs.Disk.{Sector}
+use Rattle.station.specs.State.{State}
+use Rattle.pages.specs.Image.{Map}
+use Rattle.tree_pages.specs.declared.form.TreeForm.{TreeForm}
+use Rattle.tree_pages.specs.Keys.{key_of}
+use Rattle.btree.specs.Tree.{IsTree}
+use Rattle.btree.specs.Changes.{pages_of_map, Enters}
+use Rattle.pages.specs.Pages.{is_spent}
+use Rattle.pages.specs.declared.error.PagesError.TheVariants.{Spent}
+use Rattle.btree.proofs.Frames.{holds_tree, false_unless, ok_or_err}
+use Rattle.btree.proofs.Parts.{few_pages}
+use Rattle.btree.proofs.Depth.{few_levels}
+use Rattle.btree.proofs.Entering.{turns_count}
+use Rattle.btree.proofs.Searches.{FindsAt, FindsGap}
+use Rattle.btree.proofs.Inserting.{planted, came, was_there}
+use Rattle.btree.proofs.insert.insert_entry.Goals as goal
+
+pub returns-then-root-eq0-clause-inserted : goal.returns-then-root-eq0-clause-inserted
+returns-then-root-eq0-clause-inserted g c = λ honest agrees levels holds.
+    let image = (g.D.Device.state c.args.device.now).disk.present in
+    planted c.args.form (pages_of_map c.args.pages.now image) (pages_of_map c.plant.new.pages image) c.args.root levels c.in_ok-new.new c.args.key.now c.args.value.now c.if-root-eq0.true holds c.requires.key c.in_ok-new.ensures.some (c.in_ok-new.ensures.pages image)
+
+pub returns-in_err-descent-clause-catalog : goal.returns-in_err-descent-clause-catalog
+returns-in_err-descent-clause-catalog g c = ap (λ (m : Map). m.catalog) (c.descend.ensures.untouched.map [])
+
+pub returns-in-Ok-clause-catalog : goal.returns-in-Ok-clause-catalog
+returns-in-Ok-clause-catalog g c = ap (λ (m : Map). m.catalog) (c.descend.ensures.untouched.map [])
+
+pub returns-in_err-entered-clause-catalog : goal.returns-in_err-entered-clause-catalog
+returns-in_err-entered-clause-catalog g c = c.enter.ensures.catalog ∙ ap (λ (m : Map). m.catalog) (c.descend.ensures.untouched.map [])
+
+pub returns-clause-catalog : goal.returns-clause-catalog
+returns-clause-catalog g c = c.enter.ensures.catalog ∙ ap (λ (m : Map). m.catalog) (c.descend.ensures.untouched.map [])
+
+pub returns-in-Ok-clause-inserted : goal.returns-in-Ok-clause-inserted
+returns-in-Ok-clause-inserted g c = λ honest agrees levels holds.
+    let image = (g.D.Device.state c.args.device.now).disk.present in
+    let before = pages_of_map c.args.pages.now image in
+    let d = c.in_ok-descent.descent in
+    let place = c.in-Ok.field-0 in
+    let tree = holds_tree c.args.form before c.args.root levels holds c.if-root-eq0.false in
+    let form_is = c.in_ok-descent.ensures.leaf.0 in
+    was_there c.args.form before (pages_of_map c.descend.new.pages image) c.args.root levels d.path.items d.page d.leaf.rows d.right place c.args.key.now c.args.value.now tree (c.in_ok-descent.ensures.way honest agrees levels tree)
+    c.in-Ok.ensures.found.0 (subst (λ (f : TreeForm). key_of f (slice_index_or d.leaf.rows place []) ≡ c.args.key.now) form_is c.in-Ok.ensures.found.1) (subst (λ (f : TreeForm). FindsAt f c.args.key.now d.leaf.rows place) form_is c.in-Ok.ensures.around)
+
+pub returns-in_err-entered-clause-damaged : goal.returns-in_err-entered-clause-damaged
+returns-in_err-entered-clause-damaged g c = λ honest agrees is levels holds.
+    let image = (g.D.Device.state c.args.device.now).disk.present in
+    let before = pages_of_map c.args.pages.now image in
+    let told = rw is at c.from_residual-in_err-entered.ensures.1 in
+    let tree = holds_tree c.args.form before c.args.root levels holds c.if-root-eq0.false in
+    let same = ap (λ (s : State). pages_of_map c.descend.new.pages s.disk.present) (c.descend.ensures.state honest) ∙ ap (λ (m : Map). m.pages) (c.descend.ensures.untouched.map image) in
+    c.in_err-entered.ensures.damaged (c.descend.ensures.honest.0 honest) (c.descend.ensures.agrees honest agrees) (cc told) levels
+    (subst (λ (pages : List (Option Sector)). IsTree c.args.form pages c.args.root levels) (sym same) tree) (c.in_ok-descent.ensures.way honest agrees levels tree)
+
+pub returns-clause-inserted : goal.returns-clause-inserted
+returns-clause-inserted g c = λ honest agrees levels holds.
+    let image = (g.D.Device.state c.args.device.now).disk.present in
+    let before = pages_of_map c.args.pages.now image in
+    let after = pages_of_map c.enter.new.pages image in
+    let d = c.in_ok-descent.descent in
+    let place = c.in-Err.place in
+    let new = c.in_ok-entered.entered in
+    let tree = holds_tree c.args.form before c.args.root levels holds c.if-root-eq0.false in
+    let form_is = c.in_ok-descent.ensures.leaf.0 in
+    let raw = c.in_ok-entered.ensures.entered (c.descend.ensures.honest.0 honest) (c.descend.ensures.agrees honest agrees) in
+    let at_state = subst (λ (s : State). Enters c.args.form c.args.root (pages_of_map c.descend.new.pages s.disk.present) (pages_of_map c.enter.new.pages s.disk.present) d.path.items d.page d.leaf.rows d.right place c.args.key.now c.args.value.now new)
+    (c.descend.ensures.state honest) raw in
+    let enters = subst (λ (pages : List (Option Sector)). Enters c.args.form c.args.root pages after d.path.items d.page d.leaf.rows d.right place c.args.key.now c.args.value.now new) (ap (λ (m : Map). m.pages) (c.descend.ensures.untouched.map image)) at_state in
+    came c.args.form before after c.args.root levels d.path.items d.page d.leaf.rows d.right place c.args.key.now c.args.value.now new tree (c.in_ok-descent.ensures.way honest agrees levels tree)
+    c.in-Err.ensures.missing (subst (λ (f : TreeForm). FindsGap f c.args.key.now d.leaf.rows place) form_is c.in-Err.ensures.around) enters
+
+pub returns-clause-touched : goal.returns-clause-touched
+returns-clause-touched g c = λ honest agrees levels holds.
+    let image = (g.D.Device.state c.args.device.now).disk.present in
+    let before = pages_of_map c.args.pages.now image in
+    let d = c.in_ok-descent.descent in
+    let tree = holds_tree c.args.form before c.args.root levels holds c.if-root-eq0.false in
+    let ends = c.in_ok-descent.ensures.way honest agrees levels tree in
+    let unspent : is_spent c.args.pages.now ≡ false = false_unless (is_spent c.args.pages.now) (λ spent. ok_or_err d Spent (sym c.in_ok-descent.was ∙ c.descend.ensures.spent.1 spent)) in
+    let few : length levels ≤ 20 = few_levels c.args.form before c.args.root levels (few_pages c.args.pages.now image c.requires.open unspent) tree in
+    let turns = turns_count c.args.form c.args.key.now levels d.path.items ends.reaches.top ends.reaches.below ends.reaches.leads in
+    let more = c.in_ok-entered.ensures.touched in
+    let same = ap length c.descend.ensures.untouched.touched in
+    omega (arith, few, turns, more, same)

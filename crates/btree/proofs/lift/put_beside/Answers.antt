@@ -1,0 +1,5 @@
+use Rattle.std.proofs.Common.{arith}
+use Rattle.btree.proofs.lift.put_beside.Goals as goal
+
+pub returns-clause-pages : goal.returns-clause-pages
+returns-clause-pages c = λ image can. c.in_ok-grown.ensures.pages image (record { is_in = can.is_in; lengths = can.lengths; enough = omega (arith, can.enough) })

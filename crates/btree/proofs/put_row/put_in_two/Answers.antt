@@ -1,0 +1,40 @@
+use Rattle.std.proofs.Common.{◌++◌, List, length, set, ◌∙◌, ap, arith, replicate}
+use Rattle.std.specs.Prelude.{Option, Some}
+use Rattle.station.specs.Disk.{Sector}
+use Rattle.pages.specs.Pages.{touched_of}
+use Rattle.btree.specs.Changes.{pages_of_map}
+use Rattle.btree.proofs.Dividing.{three_fit}
+use Rattle.btree.proofs.Writes.{write_two, is_low, spells_left, spells_right}
+use Rattle.btree.proofs.Touched.{touches_count, touches_again, touches_has, touches_keeps}
+use Rattle.btree.proofs.put_row.put_in_two.Goals as goal
+
+pub divide-right-requires-clause-full : goal.divide-right-requires-clause-full
+divide-right-requires-clause-full c = omega (arith, c.requires.full, three_fit c.args.node.form c.args.node.kind c.count-count.ensures.node.form)
+
+pub returns-clause-pages : goal.returns-clause-pages
+returns-clause-pages c = λ image can.
+    let node = c.args.node in
+    let old = pages_of_map c.args.pages.now image in
+    let row = c.args.key.now ++ c.args.rest.now in
+    write_two node.form node.kind old (pages_of_map c.edit-2.new.self image) c.args.page c.in_ok-new.new c.bytes-lower.result c.bytes-upper.result node.rows c.divide-right.new.node.rows c.divide-right.result.rows
+    (record {
+      zeros = replicate 4096 0;
+      is = c.in_ok-edit-2.ensures.map image
+          ∙ ap (λ (l : List (Option Sector)). set l c.in_ok-new.new (Some c.bytes-upper.result)) (c.in_ok-edit.ensures.map image ∙ ap (λ (l : List (Option Sector)). set l c.args.page (Some c.bytes-lower.result)) (c.in_ok-new.ensures.map image));
+      page_low = is_low old c.args.page can.is_in;
+      new_low = omega (arith, c.in_ok-new.ensures.page.1, c.page_count-page_count.ensures.pages image);
+      some = c.in_ok-new.ensures.page.0;
+      there = can.is_in;
+      none = c.in_ok-new.ensures.unused image;
+    })
+    (spells_left old c.args.page node c.divide-right.new.node c.divide-right.result c.args.place c.args.key.now c.args.rest.now c.bytes-lower.result can c.divide-right.ensures.rows c.requires.key c.requires.rest c.divide-right.ensures.left c.divide-right.ensures.left_enough c.bytes-lower.ensures)
+    (spells_right old c.args.page node c.divide-right.new.node c.divide-right.result c.args.place c.args.key.now c.args.rest.now c.bytes-upper.result can c.divide-right.ensures.rows c.requires.key c.requires.rest c.divide-right.ensures.right c.divide-right.ensures.right_enough c.bytes-upper.ensures)
+
+pub returns-clause-touched : goal.returns-clause-touched
+returns-clause-touched c =
+    let one = touches_count (touched_of c.args.pages.now) c.in_ok-new.new (touched_of c.allocate.new.self) c.in_ok-new.ensures.touches in
+    let two = touches_count (touched_of c.allocate.new.self) c.args.page (touched_of c.edit.new.self) c.in_ok-edit.ensures.touches in
+    let has = touches_keeps (touched_of c.allocate.new.self) c.args.page (touched_of c.edit.new.self) c.in_ok-new.new
+    (touches_has (touched_of c.args.pages.now) c.in_ok-new.new (touched_of c.allocate.new.self) c.in_ok-new.ensures.touches) c.in_ok-edit.ensures.touches in
+    let three = ap length (touches_again (touched_of c.edit.new.self) c.in_ok-new.new (touched_of c.edit-2.new.self) has c.in_ok-edit-2.ensures.touches) in
+    omega (arith, one, two, three)

@@ -1,0 +1,8 @@
+use Rattle.std.proofs.Common.{arith}
+use Rattle.btree.specs.Changes.{pages_of_map}
+use Rattle.btree.proofs.Writes.{is_low}
+use Rattle.btree.proofs.rise.lift_at.Goals as goal
+
+pub returns-then-page_count-turn-clause-damaged : goal.returns-then-page_count-turn-clause-damaged
+returns-then-page_count-turn-clause-damaged c = λ is image inner low some is_in.
+    omega (arith, is_low (pages_of_map c.args.pages.now image) c.args.turn.page is_in, c.page_count.ensures.pages image, c.page_count.ensures.count, c.if-page_count-turn.true)

@@ -1,0 +1,32 @@
+use Rattle.std.proofs.Common.{ℕ, sym, subst}
+use Rattle.std.specs.Prelude.{Option, Some}
+use Rattle.tree_pages.specs.declared.form.TreeForm.{TreeForm}
+use Rattle.btree.specs.Tree.{Holds}
+use Rattle.btree.specs.Changes.{pages_of_map, Inserts}
+use Rattle.btree.proofs.tree.Tree.insert.Goals as goal
+
+pub returns-in_err-added-clause-damaged : goal.returns-in_err-added-clause-damaged
+returns-in_err-added-clause-damaged g c = λ honest agrees is levels holds.
+    let before = pages_of_map c.args.pages.now (g.D.Device.state c.args.device.now).disk.present in
+    let told = rw is at c.from_residual.ensures.1 in
+    c.in_err-added.ensures.damaged honest agrees (cc told) levels
+    (subst (λ (f : TreeForm). Holds f before c.root-top.result levels) (sym c.form-form.ensures.is) (subst (λ (r : ℕ). Holds c.args.self.now.form before r levels) (sym c.root-top.ensures) holds))
+
+pub returns-in-Some-clause-inserted : goal.returns-in-Some-clause-inserted
+returns-in-Some-clause-inserted g c = λ honest agrees levels holds is.
+    let image = (g.D.Device.state c.args.device.now).disk.present in
+    let before = pages_of_map c.args.pages.now image in
+    let after = pages_of_map c.insert_entry.new.pages image in
+    let key = c.args.key.now in
+    let value = c.args.value.now in
+    let raw = c.in_ok-added.ensures.inserted honest agrees levels
+    (subst (λ (f : TreeForm). Holds f before c.root-top.result levels) (sym c.form-form.ensures.is) (subst (λ (r : ℕ). Holds c.args.self.now.form before r levels) (sym c.root-top.ensures) holds)) in
+    let added = subst (λ (new : Option ℕ). Inserts c.form-form.result before levels after key value new) c.in-Some.is raw in
+    subst (λ (r : ℕ). Inserts c.args.self.now.form before levels after key value (Some r)) (sym c.set_root.ensures.root)
+    (subst (λ (f : TreeForm). Inserts f before levels after key value (Some c.in-Some.root)) c.form-form.ensures.is added)
+
+pub returns-in-Some-clause-touched : goal.returns-in-Some-clause-touched
+returns-in-Some-clause-touched g c = λ honest agrees levels holds.
+    let before = pages_of_map c.args.pages.now (g.D.Device.state c.args.device.now).disk.present in
+    c.in_ok-added.ensures.touched honest agrees levels
+    (subst (λ (f : TreeForm). Holds f before c.root-top.result levels) (sym c.form-form.ensures.is) (subst (λ (r : ℕ). Holds c.args.self.now.form before r levels) (sym c.root-top.ensures) holds))

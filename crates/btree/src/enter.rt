@@ -1,0 +1,101 @@
+//! A new row comes into a tree.
+ghost use Rattle.std.specs.Prelude.{◌≡◌, ◌≤◌, ◌<◌, ◌+◌, ◌*◌, ◌↔◌, Err, Some, List, length, IfOk, IfErr, OnOk, IfSome};
+ghost use Rattle.station.specs.Disk.{Sector};
+ghost use Rattle.station.specs.Failures.{Blames};
+ghost use Rattle.pages.specs.Pages.{IsOpen, Agrees, SameCommitted, catalog_of, sectors_of, touched_of};
+ghost use Rattle.tree_pages.specs.Form.{IsForm};
+ghost use Rattle.btree.specs.Tree.{Part, IsTree};
+ghost use Rattle.btree.specs.Path.{EndsAt};
+ghost use Rattle.btree.specs.Changes.{pages_of_map, Keeps, HasKeys, Settles, Enters, IsWriteRefusal};
+
+use crate::descend::Descent;
+use crate::grown::Grown;
+use crate::lift::told;
+use crate::put_new::crown;
+use crate::put_row::put_row;
+use crate::rise::rise;
+use pages::{PageMap, PagesError};
+use station::Device;
+use tree_pages::{Kind, TreeForm};
+
+/// The page of the root, after what is told of the one there was.
+pub(crate) fn settle(
+    pages: &mut PageMap,
+    form: TreeForm,
+    root: u32,
+    told: Option<Grown>,
+) -> Result<u32, PagesError>
+    requires open { IsOpen pages.old }
+    requires form { IsForm form }
+    requires keys { IfSome told (HasKeys form) }
+    ensures settles { IfOk result (λ new. (image : List Sector) → Settles form root told (pages_of_map pages.old image) (pages_of_map pages.new image) new) }
+    ensures some { 0 < root → IfOk result (λ new. 0 < new) }
+    ensures touched { OnOk result (length (touched_of pages.new) ≤ length (touched_of pages.old) + 1) }
+    ensures keeps { Keeps pages.old pages.new }
+    ensures open { IsOpen pages.new }
+    ensures cause { IfErr result IsWriteRefusal }
+{
+    let grown = match told {
+        Some(grown) => grown,
+        None => return Ok(root),
+    };
+    match &grown.right {
+        Some(right) => {
+            let new = crown(pages, form, &grown, right)?;
+            Ok(new)
+        }
+        None => Ok(root),
+    }
+}
+
+/// Puts a row into the leaf that a descent ended at, and tells the pages above it. The answer is the page of the root then.
+pub(crate) fn enter<D: Device>(
+    pages: &mut PageMap,
+    device: &mut D,
+    form: TreeForm,
+    root: u32,
+    descent: Descent,
+    place: usize,
+    key: &[u8],
+    value: &[u8],
+) -> Result<u32, PagesError>
+    requires open { IsOpen pages.old }
+    requires sectors { sectors_of pages.old ≤ D.sectors device.old }
+    requires form { IsForm form }
+    requires leaf { (descent.leaf.form ≡ form) × (descent.leaf.kind ≡ Kind.Leaf) }
+    requires place { place ≤ length descent.leaf.rows }
+    requires key { length key.now ≡ form.key_length }
+    requires value { length value.now ≡ form.value_length }
+    ensures honest { D.is_honest device.old ↔ D.is_honest device.new }
+    ensures sectors { D.sectors device.new ≡ D.sectors device.old }
+    ensures failures { Blames (result ≡ Err PagesError.Device) (D.failures device.old) (D.failures device.new) }
+    ensures state { D.is_honest device.old → D.state device.new ≡ D.state device.old }
+    ensures history { D.is_honest device.old → D.history device.new ≡ D.history device.old }
+    ensures entered { D.is_honest device.old → Agrees pages.old (D.state device.old).disk → IfOk result (λ new.
+        Enters form root (pages_of_map pages.old (D.state device.old).disk.present) (pages_of_map pages.new (D.state device.old).disk.present) descent.path.items descent.page descent.leaf.rows descent.right
+        place key.now value.now new) }
+    ensures damaged { D.is_honest device.old → Agrees pages.old (D.state device.old).disk → result ≡ Err PagesError.Damaged →
+        (levels : List (List Part)) → IsTree form (pages_of_map pages.old (D.state device.old).disk.present) root levels →
+        EndsAt form key.now levels descent.path.items descent.page descent.leaf.rows descent.right → ⊥ }
+    ensures some { 0 < root → IfOk result (λ new. 0 < new) }
+    ensures touched { OnOk result (length (touched_of pages.new) ≤ length (touched_of pages.old) + 2 * length descent.path.items + 3) }
+    ensures committed { SameCommitted pages.old pages.new }
+    ensures catalog { catalog_of pages.new ≡ catalog_of pages.old }
+    ensures agrees { D.is_honest device.old → Agrees pages.old (D.state device.old).disk → Agrees pages.new (D.state device.new).disk }
+    ensures open { IsOpen pages.new }
+{
+    if descent.page == 0 {
+        return Err(PagesError::Damaged);
+    }
+    if pages.page_count() <= descent.page as usize {
+        return Err(PagesError::Damaged);
+    }
+    let put = put_row(pages, descent.page, descent.leaf, place, key, value)?;
+    let grown = match told(put, place) {
+        Some(grown) => grown,
+        None => return Ok(root),
+    };
+    let up = rise(pages, device, form, descent.path.as_slice(), grown)?;
+    let new = settle(pages, form, root, up)?;
+    Ok(new)
+}

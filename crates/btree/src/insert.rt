@@ -1,0 +1,127 @@
+//! A new entry.
+ghost use Rattle.std.specs.Prelude.{◌≡◌, ◌≤◌, ◌+◌, ◌↔◌, Err, Ok, Some, None, List, length, true, false, IsSome, IfOk, OnOk};
+ghost use Rattle.station.specs.Failures.{Blames};
+ghost use Rattle.pages.specs.Pages.{IsOpen, Agrees, SameCommitted, catalog_of, sectors_of, touched_of};
+ghost use Rattle.tree_pages.specs.Form.{IsForm};
+ghost use Rattle.btree.specs.Tree.{Part, Holds};
+ghost use Rattle.btree.specs.Entries.{entries_of, entry_with};
+ghost use Rattle.btree.specs.Reading.{Untouched};
+ghost use Rattle.btree.specs.Changes.{pages_of_map, Inserts};
+
+use crate::descend::descend;
+use crate::enter::enter;
+use crate::put_new::plant;
+use crate::tree::Tree;
+use pages::{PageMap, PagesError};
+use station::Device;
+use std::alloc::Global;
+use tree_pages::TreeForm;
+
+/// Puts a new entry into the tree under a root. The answer is the root's page then, or `None` where the key is there, and then
+/// nothing was changed.
+fn insert_entry<D: Device>(
+    alloc: Global,
+    pages: &mut PageMap,
+    device: &mut D,
+    form: TreeForm,
+    root: u32,
+    key: &[u8],
+    value: &[u8],
+) -> Result<Option<u32>, PagesError>
+    requires open { IsOpen pages.old }
+    requires sectors { sectors_of pages.old ≤ D.sectors device.old }
+    requires form { IsForm form }
+    requires key { length key.now ≡ form.key_length }
+    requires value { length value.now ≡ form.value_length }
+    ensures honest { D.is_honest device.old ↔ D.is_honest device.new }
+    ensures sectors { D.sectors device.new ≡ D.sectors device.old }
+    ensures failures { Blames (result ≡ Err PagesError.Device) (D.failures device.old) (D.failures device.new) }
+    ensures state { D.is_honest device.old → D.state device.new ≡ D.state device.old }
+    ensures history { D.is_honest device.old → D.history device.new ≡ D.history device.old }
+    ensures inserted { D.is_honest device.old → Agrees pages.old (D.state device.old).disk → (levels : List (List Part)) →
+        Holds form (pages_of_map pages.old (D.state device.old).disk.present) root levels →
+        IfOk result (Inserts form (pages_of_map pages.old (D.state device.old).disk.present) levels (pages_of_map pages.new (D.state device.old).disk.present) key.now value.now) }
+    ensures damaged { D.is_honest device.old → Agrees pages.old (D.state device.old).disk → result ≡ Err PagesError.Damaged →
+        (levels : List (List Part)) → Holds form (pages_of_map pages.old (D.state device.old).disk.present) root levels → ⊥ }
+    ensures there { result ≡ Ok None → Untouched pages.old pages.new }
+    ensures touched { D.is_honest device.old → Agrees pages.old (D.state device.old).disk → (levels : List (List Part)) →
+        Holds form (pages_of_map pages.old (D.state device.old).disk.present) root levels → OnOk result (length (touched_of pages.new) ≤ length (touched_of pages.old) + 42) }
+    ensures committed { SameCommitted pages.old pages.new }
+    ensures catalog { catalog_of pages.new ≡ catalog_of pages.old }
+    ensures agrees { D.is_honest device.old → Agrees pages.old (D.state device.old).disk → Agrees pages.new (D.state device.new).disk }
+    ensures open { IsOpen pages.new }
+{
+    if root == 0 {
+        let new = plant(pages, form, key, value)?;
+        return Ok(Some(new));
+    }
+    let descent = descend(alloc, pages, device, form, root, key)?;
+    let place = match descent.leaf.find(key) {
+        Ok(_) => return Ok(None),
+        Err(place) => place,
+    };
+    let entered = enter(pages, device, form, root, descent, place, key, value)?;
+    Ok(Some(entered))
+}
+
+impl Tree {
+    /// The root is another page from now on.
+    pub(crate) fn set_root(&mut self, root: u32)
+        ensures form { self.new.form ≡ self.old.form }
+        ensures root { self.new.root ≡ root }
+    {
+        self.root = root;
+    }
+
+    /// Puts a new entry into the tree. `false` tells that its key is there, and then nothing was changed. After a refusal the pages that
+    /// aren't committed are given up with the map of pages. `Damaged` tells that the pages under the root are no tree.
+    pub fn insert<D: Device>(
+        &mut self,
+        pages: &mut PageMap,
+        device: &mut D,
+        key: &[u8],
+        value: &[u8],
+    ) -> Result<bool, PagesError>
+        requires open { IsOpen pages.old }
+        requires sectors { sectors_of pages.old ≤ D.sectors device.old }
+        requires key { length key.now ≡ self.old.form.key_length }
+        requires value { length value.now ≡ self.old.form.value_length }
+        ensures honest { D.is_honest device.old ↔ D.is_honest device.new }
+        ensures sectors { D.sectors device.new ≡ D.sectors device.old }
+        ensures failures { Blames (result ≡ Err PagesError.Device) (D.failures device.old) (D.failures device.new) }
+        ensures state { D.is_honest device.old → D.state device.new ≡ D.state device.old }
+        ensures history { D.is_honest device.old → D.history device.new ≡ D.history device.old }
+
+        // The list of entries has the new one at its place, and the pages around the tree stay.
+        ensures inserted { D.is_honest device.old → Agrees pages.old (D.state device.old).disk → (levels : List (List Part)) →
+            Holds self.old.form (pages_of_map pages.old (D.state device.old).disk.present) self.old.root levels →
+            result ≡ Ok true → Inserts self.old.form (pages_of_map pages.old (D.state device.old).disk.present) levels (pages_of_map pages.new (D.state device.old).disk.present) key.now value.now (Some self.new.root) }
+        ensures there { D.is_honest device.old → Agrees pages.old (D.state device.old).disk → (levels : List (List Part)) →
+            Holds self.old.form (pages_of_map pages.old (D.state device.old).disk.present) self.old.root levels →
+            result ≡ Ok false → IsSome (entry_with (entries_of self.old.form levels) key.now) }
+        ensures same { result ≡ Ok false → Untouched pages.old pages.new × (self.new ≡ self.old) }
+        ensures damaged { D.is_honest device.old → Agrees pages.old (D.state device.old).disk → result ≡ Err PagesError.Damaged →
+            (levels : List (List Part)) → Holds self.old.form (pages_of_map pages.old (D.state device.old).disk.present) self.old.root levels → ⊥ }
+        ensures form { self.new.form ≡ self.old.form }
+
+        // At most so many pages are changed.
+        ensures touched { D.is_honest device.old → Agrees pages.old (D.state device.old).disk → (levels : List (List Part)) →
+            Holds self.old.form (pages_of_map pages.old (D.state device.old).disk.present) self.old.root levels → OnOk result (length (touched_of pages.new) ≤ length (touched_of pages.old) + 42) }
+        ensures committed { SameCommitted pages.old pages.new }
+        ensures catalog { catalog_of pages.new ≡ catalog_of pages.old }
+        ensures agrees { D.is_honest device.old → Agrees pages.old (D.state device.old).disk → Agrees pages.new (D.state device.new).disk }
+        ensures open { IsOpen pages.new }
+    {
+        let alloc = self.alloc;
+        let form = self.form();
+        let top = self.root();
+        let added = insert_entry(alloc, pages, device, form, top, key, value)?;
+        match added {
+            Some(root) => {
+                self.set_root(root);
+                Ok(true)
+            }
+            None => Ok(false),
+        }
+    }
+}
