@@ -70,6 +70,7 @@ fn put_beside(
     ensures open { IsOpen pages.new }
     ensures cause { IfErr result IsWriteRefusal }
 {
+    // That a place behind the row fits is needed below.
     let _count = node.count();
     let number = right.page.to_be_bytes();
     let grown = put_row(pages, page, node, place + 1, right.node.key(0), &number)?;

@@ -24,6 +24,7 @@ fn put_new(pages: &mut PageMap, node: TreePage) -> Result<u32, PagesError>
     ensures open { IsOpen pages.new }
     ensures cause { IfErr result IsWriteRefusal }
 {
+    // How many page numbers there are is needed below.
     let _page_count = pages.page_count();
     let page = pages.allocate()?;
     let spelled = node.bytes();

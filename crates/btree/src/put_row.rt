@@ -102,6 +102,7 @@ fn put_in_two(
     ensures open { IsOpen pages.new }
     ensures cause { IfErr result IsWriteRefusal }
 {
+    // What these two tell is needed below: the page's form is sound, and how many page numbers there are.
     let _count = node.count();
     let _page_count = pages.page_count();
     let new = pages.allocate()?;
