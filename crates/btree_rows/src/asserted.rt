@@ -1,0 +1,127 @@
+//! Calls on a page of a tree, each of which asserts first what `tree_pages` asks of its caller, and a page's bytes by the layout.
+ghost use Rattle.std.specs.Prelude.{◌≡◌};
+ghost use Rattle.tree_pages.specs.Form.{rest_length};
+
+use std::process::Abort;
+use tree_pages::{Kind, TreeForm, TreePage};
+
+/// The form of these lengths in bytes.
+pub fn form_of(key_length: usize, value_length: usize) -> TreeForm {
+    TreeForm {
+        key_length,
+        value_length,
+    }
+}
+
+/// A page without rows.
+pub fn new_page(rt: &impl Abort, form: TreeForm, kind: Kind) -> TreePage {
+    assert!(rt; form.is_possible());
+    TreePage::new(form, kind)
+}
+
+/// The page that these bytes spell, if they spell one.
+pub fn read_page(rt: &impl Abort, bytes: [u8; 4096], form: TreeForm) -> Option<TreePage> {
+    assert!(rt; form.is_possible());
+    TreePage::read(bytes, form)
+}
+
+/// The bytes of a row behind its key.
+fn rest_length(page: &TreePage) -> usize
+    ensures { result ≡ rest_length page.now.form page.now.kind }
+{
+    match page.kind() {
+        Kind::Leaf => page.form().value_length,
+        Kind::Inner => 4,
+    }
+}
+
+/// A row comes to this place.
+pub fn insert(rt: &impl Abort, page: &mut TreePage, place: usize, key: &[u8], rest: &[u8]) {
+    assert!(rt; place <= page.count());
+    assert!(rt; !page.is_full());
+    assert!(rt; key.len() == page.form().key_length);
+    assert!(rt; rest.len() == rest_length(page));
+    page.insert(place, key, rest);
+}
+
+/// A row for a child comes to this place.
+pub fn insert_child(rt: &impl Abort, page: &mut TreePage, place: usize, key: &[u8], child: u32) {
+    assert!(rt; page.kind() == Kind::Inner);
+    assert!(rt; place <= page.count());
+    assert!(rt; !page.is_full());
+    assert!(rt; key.len() == page.form().key_length);
+    page.insert_child(place, key, child);
+}
+
+/// The row at this place goes.
+pub fn remove(rt: &impl Abort, page: &mut TreePage, place: usize) {
+    assert!(rt; place < page.count());
+    page.remove(place);
+}
+
+/// The row at this place gets another key.
+pub fn set_key(rt: &impl Abort, page: &mut TreePage, place: usize, key: &[u8]) {
+    assert!(rt; place < page.count());
+    assert!(rt; key.len() == page.form().key_length);
+    page.set_key(place, key);
+}
+
+/// What stands behind the key of the row at this place becomes this.
+pub fn set_rest(rt: &impl Abort, page: &mut TreePage, place: usize, rest: &[u8]) {
+    assert!(rt; place < page.count());
+    assert!(rt; rest.len() == rest_length(page));
+    page.set_rest(place, rest);
+}
+
+/// Takes the rows from this place on out of the page.
+pub fn split_off(rt: &impl Abort, page: &mut TreePage, place: usize) -> TreePage {
+    assert!(rt; place <= page.count());
+    page.split_off(place)
+}
+
+/// The rows of another page come behind the last one.
+pub fn append(rt: &impl Abort, page: &mut TreePage, other: &TreePage) {
+    assert!(rt; other.form() == page.form());
+    assert!(rt; other.kind() == page.kind());
+    assert!(rt; page.form().is_possible());
+    let room = page.form().capacity(page.kind());
+    assert!(rt; page.count() <= room);
+    assert!(rt; other.count() <= room - page.count());
+    page.append(other);
+}
+
+/// Asserts that the row at this place has this key and this rest.
+pub fn has_row(rt: &impl Abort, page: &TreePage, place: usize, key: &[u8], rest: &[u8]) {
+    assert!(rt; place < page.count());
+    assert!(rt; page.key(place) == key, "{place}");
+    assert!(rt; page.rest(place) == rest, "{place}");
+}
+
+/// The page of the child that the row at this place names.
+pub fn child(rt: &impl Abort, page: &TreePage, place: usize) -> u32 {
+    assert!(rt; page.kind() == Kind::Inner);
+    assert!(rt; place < page.count());
+    page.child(place)
+}
+
+/// A page's bytes by the layout: the kind's byte, the number of rows, and the rows, as far as they fit.
+pub fn layout(kind: u8, count: u16, rows: &[u8]) -> [u8; 4096] {
+    let mut bytes = [0; 4096];
+    bytes[0] = kind;
+    bytes[2..4].copy_from_slice(&count.to_be_bytes());
+    if rows.len() <= 4080 {
+        bytes[16..16 + rows.len()].copy_from_slice(rows);
+    }
+    bytes
+}
+
+/// A leaf of keys of two bytes and values of three, from rows of five bytes.
+pub fn leaf_of(rt: &impl Abort, rows: &[u8]) -> TreePage {
+    let mut leaf = new_page(rt, form_of(2, 3), Kind::Leaf);
+    for row in rows.chunks_exact(5) {
+        assert!(rt; row.len() == 5);
+        let place = leaf.count();
+        insert(rt, &mut leaf, place, &row[..2], &row[2..]);
+    }
+    leaf
+}

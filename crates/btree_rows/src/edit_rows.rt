@@ -1,0 +1,196 @@
+//! Rows of searches in a page, and of its changes.
+use crate::asserted::{
+    append, form_of, insert, insert_child, layout, leaf_of, new_page, remove, set_key, set_rest,
+    split_off,
+};
+use std::process::Abort;
+use std::test::Fail;
+use tree_pages::{Kind, TreeForm, TreePage};
+
+// Below, at, between and above the keys.
+#[test]
+fn places_of_keys(rt: HostRuntime) -> Result<(), Fail> {
+    let leaf = leaf_of(&rt, b"bb111dd222ff333");
+    for (key, place) in [
+        (b"aa", Err(0)),
+        (b"bb", Ok(0)),
+        (b"bc", Err(1)),
+        (b"cz", Err(1)),
+        (b"dd", Ok(1)),
+        (b"ea", Err(2)),
+        (b"ff", Ok(2)),
+        (b"fg", Err(3)),
+        (b"zz", Err(3)),
+    ] {
+        assert_eq!(rt; leaf.find(key), place, "{key:?}");
+    }
+    let empty = leaf_of(&rt, b"");
+    assert_eq!(rt; empty.find(b"aa"), Err(0));
+    Ok(())
+}
+
+// A full leaf of the even numbers from 0 on, in two bytes.
+fn even_numbers(rt: &impl Abort) -> TreePage {
+    let mut leaf = new_page(rt, form_of(2, 3), Kind::Leaf);
+    for number in 0..816u16 {
+        let key = number.wrapping_mul(2).to_be_bytes();
+        let place = leaf.count();
+        insert(rt, &mut leaf, place, &key, b"abc");
+    }
+    leaf
+}
+
+// Keys are compared by their first byte first.
+#[test]
+fn places_in_a_full_page(rt: HostRuntime) -> Result<(), Fail> {
+    let leaf = even_numbers(&rt);
+    assert_eq!(rt; (leaf.count(), leaf.is_full()), (816, true));
+    assert!(rt; leaf.is_ascending());
+    for number in 0..816u16 {
+        let even = number.wrapping_mul(2);
+        let odd = even.wrapping_add(1);
+        let place = number as usize;
+        assert_eq!(rt; leaf.find(&even.to_be_bytes()), Ok(place), "{even}");
+        assert_eq!(rt;
+            leaf.find(&odd.to_be_bytes()),
+            Err(place.wrapping_add(1)),
+            "{odd}"
+        );
+    }
+    Ok(())
+}
+
+#[test]
+fn a_row_removed(rt: HostRuntime) -> Result<(), Fail> {
+    for (place, rows) in [(0, b"bb222cc333"), (1, b"aa111cc333"), (2, b"aa111bb222")] {
+        let mut leaf = leaf_of(&rt, b"aa111bb222cc333");
+        remove(&rt, &mut leaf, place);
+        assert_eq!(rt; leaf.count(), 2);
+        assert!(rt; leaf.bytes() == layout(1, 2, rows), "{place}");
+    }
+    let mut last = leaf_of(&rt, b"aa111");
+    remove(&rt, &mut last, 0);
+    assert!(rt; last.bytes() == layout(1, 0, b""));
+    Ok(())
+}
+
+// Also where the keys don't ascend then.
+#[test]
+fn a_key_replaced(rt: HostRuntime) -> Result<(), Fail> {
+    for (place, rows) in [
+        (0, b"xy111bb222cc333"),
+        (1, b"aa111xy222cc333"),
+        (2, b"aa111bb222xy333"),
+    ] {
+        let mut leaf = leaf_of(&rt, b"aa111bb222cc333");
+        set_key(&rt, &mut leaf, place, b"xy");
+        assert!(rt; leaf.bytes() == layout(1, 3, rows), "{place}");
+        assert_eq!(rt; leaf.is_ascending(), place == 2, "{place}");
+    }
+    Ok(())
+}
+
+#[test]
+fn a_rest_replaced(rt: HostRuntime) -> Result<(), Fail> {
+    for (place, rows) in [
+        (0, b"aaxyzbb222cc333"),
+        (1, b"aa111bbxyzcc333"),
+        (2, b"aa111bb222ccxyz"),
+    ] {
+        let mut leaf = leaf_of(&rt, b"aa111bb222cc333");
+        set_rest(&rt, &mut leaf, place, b"xyz");
+        assert!(rt; leaf.bytes() == layout(1, 3, rows), "{place}");
+    }
+    let mut page = new_page(&rt, form_of(2, 3), Kind::Inner);
+    insert_child(&rt, &mut page, 0, b"aa", 7);
+    set_rest(&rt, &mut page, 0, &[1, 2, 3, 4]);
+    assert!(rt; page.bytes() == layout(2, 1, b"aa\x01\x02\x03\x04"));
+    Ok(())
+}
+
+// The rows from a place on leave the page, and come back behind the last one.
+#[test]
+fn a_page_split_and_joined(rt: HostRuntime) -> Result<(), Fail> {
+    let rows = b"aa111bb222cc333";
+    for (place, left, right) in [(0, 0, 3), (1, 1, 2), (2, 2, 1), (3, 3, 0)] {
+        let mut leaf = leaf_of(&rt, rows);
+        let behind = split_off(&rt, &mut leaf, place);
+        let (first, second) = rows.split_at(place * 5);
+        assert!(rt; leaf.bytes() == layout(1, left, first), "{place}");
+        assert!(rt; behind.bytes() == layout(1, right, second), "{place}");
+        append(&rt, &mut leaf, &behind);
+        assert!(rt; leaf.bytes() == layout(1, 3, rows), "{place}");
+    }
+    Ok(())
+}
+
+// A full page in two halves, put together the other way round.
+#[test]
+fn halves_of_a_full_page(rt: HostRuntime) -> Result<(), Fail> {
+    let mut leaf = even_numbers(&rt);
+    let mut behind = split_off(&rt, &mut leaf, 408);
+    assert_eq!(rt; (leaf.count(), behind.count()), (408, 408));
+    assert_eq!(rt;
+        (leaf.find(&[3, 46]), behind.find(&[3, 48])),
+        (Ok(407), Ok(0))
+    );
+    append(&rt, &mut behind, &leaf);
+    assert_eq!(rt; (behind.count(), behind.is_full()), (816, true));
+    assert!(rt; !behind.is_ascending());
+    Ok(())
+}
+
+// How many rows a page takes until it is full.
+fn rows_until_full(rt: &impl Abort, form: TreeForm, kind: Kind) -> usize {
+    let bytes = [1; 1360];
+    let rest = match kind {
+        Kind::Leaf => form.value_length,
+        Kind::Inner => 4,
+    };
+    assert!(rt; form.key_length <= 1360);
+    assert!(rt; rest <= 1360);
+    let mut page = new_page(rt, form, kind);
+    for _ in 0..4081 {
+        if page.is_full() {
+            return page.count();
+        }
+        insert(rt, &mut page, 0, &bytes[..form.key_length], &bytes[..rest]);
+    }
+    page.count()
+}
+
+#[test]
+fn full_pages(rt: HostRuntime) -> Result<(), Fail> {
+    for (form, kind, rows) in [
+        (form_of(1, 0), Kind::Leaf, 4080),
+        (form_of(1, 0), Kind::Inner, 816),
+        (form_of(1, 1060), Kind::Leaf, 3),
+        (form_of(100, 0), Kind::Leaf, 40),
+        (form_of(100, 1260), Kind::Leaf, 3),
+        (form_of(100, 1260), Kind::Inner, 39),
+        (form_of(1356, 4), Kind::Inner, 3),
+    ] {
+        let told = rows_until_full(&rt, form, kind);
+        assert_eq!(rt; told, rows, "{form:?}, {kind:?}");
+    }
+    Ok(())
+}
+
+#[test]
+fn pages_whose_keys_ascend(rt: HostRuntime) -> Result<(), Fail> {
+    let (none, one) = (b"", b"aa111");
+    let (two, equal) = (b"aa222bb111", b"aa111aa222");
+    let (fallen, late) = (b"bb111aa222", b"aa111bb222cc333cc444");
+    for (rows, ascending) in [
+        (none.as_slice(), true),
+        (one.as_slice(), true),
+        (two.as_slice(), true),
+        (equal.as_slice(), false),
+        (fallen.as_slice(), false),
+        (late.as_slice(), false),
+    ] {
+        let leaf = leaf_of(&rt, rows);
+        assert_eq!(rt; leaf.is_ascending(), ascending, "{rows:?}");
+    }
+    Ok(())
+}
