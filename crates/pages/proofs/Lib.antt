@@ -18,3 +18,4 @@ pub mod Counting
 pub mod Taking
 pub mod One
 pub mod Refused
+pub mod Crowded

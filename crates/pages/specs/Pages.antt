@@ -97,3 +97,7 @@ pub record SameCommitted (old new : PageMap) : Type 0 where
 -- a commit needs at most two sectors for each page that was changed
 abbrev pub FewNeeded : Type 0
 FewNeeded = (p : PageMap) → needed_of p ≤ 2 * length (touched_of p)
+
+-- where each page number is used, fewer sectors are free than pages were changed
+abbrev pub FewFree : Type 0
+FewFree = (p : PageMap) → IsOpen p → is_spent p ≡ false → HasEachPage p → free_count (committed_of p) < length (touched_of p)

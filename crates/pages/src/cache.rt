@@ -7,6 +7,7 @@ ghost use Rattle.lru.specs.LruCache.{lru_cache, promoted, put_entries, IsValid};
 ghost use Rattle.pages.specs.Image.{pages_in};
 ghost use Rattle.pages.specs.Cache.{IsCacheOf, Recalls, forgotten};
 
+use crate::cached_page::CachedPage;
 use crate::error::PagesError;
 use crate::reading::read_page;
 use lru::LruCache;
@@ -18,7 +19,7 @@ use std::num::NonZeroUsize;
 pub(crate) fn new_cache(
     alloc: Global,
     capacity: usize,
-) -> Result<LruCache<u32, [u8; 4096]>, AllocError>
+) -> Result<LruCache<u32, CachedPage>, AllocError>
     requires { 0 < capacity }
     ensures { IfOk result (λ cache. cache ≡ lru_cache [] capacity) }
 {
@@ -27,18 +28,22 @@ pub(crate) fn new_cache(
 }
 
 /// The page of a number, if the cache has it. It becomes the most recently used one.
-fn cached_page(cache: &mut LruCache<u32, [u8; 4096]>, page: u32) -> Option<[u8; 4096]>
+fn cached_page(cache: &mut LruCache<u32, CachedPage>, page: u32) -> Option<[u8; 4096]>
     ensures value { result ≡ lookup (nat_eq page) cache.old.entries }
     ensures entries { cache.new ≡ lru_cache (promoted (nat_eq page) cache.old.entries) cache.old.cap }
     ensures none { IfNone result (cache.new ≡ cache.old) }
 {
-    cache.get(&page).copied()
+    match cache.get(&page) {
+        Some(kept) => Some(kept.bytes()),
+        None => None,
+    }
 }
 
 /// The page of a number in a table, or none: from the cache where it is there, and otherwise from the device, by way of the cache.
 /// Where memory has no place for it, it stays out of the cache.
 pub(crate) fn recall_page<D: Device>(
-    cache: &mut LruCache<u32, [u8; 4096]>,
+    alloc: Global,
+    cache: &mut LruCache<u32, CachedPage>,
     table: &[u32],
     device: &mut D,
     page: u32,
@@ -69,23 +74,29 @@ pub(crate) fn recall_page<D: Device>(
     }
     let found = read_page(table, device, page)?;
     if let Some(bytes) = found {
-        keep_page(cache, page, bytes);
+        keep_page(alloc, cache, page, bytes);
     }
     Ok(found)
 }
 
 /// A page comes into the cache, so far as memory allows.
-fn keep_page(cache: &mut LruCache<u32, [u8; 4096]>, page: u32, bytes: [u8; 4096])
+#[cold]
+#[inline(never)]
+fn keep_page(alloc: Global, cache: &mut LruCache<u32, CachedPage>, page: u32, bytes: [u8; 4096])
     ensures { (cache.new ≡ cache.old) ⊎ (cache.new ≡ lru_cache (put_entries nat_eq cache.old page bytes) cache.old.cap) }
 {
-    match cache.put(page, bytes) {
+    let kept = match CachedPage::new(alloc, bytes) {
+        Ok(kept) => kept,
+        Err(_) => return,
+    };
+    match cache.put(page, kept) {
         Ok(_) => {}
         Err(_) => {}
     }
 }
 
 /// A page leaves the cache.
-pub(crate) fn forget_page(cache: &mut LruCache<u32, [u8; 4096]>, page: u32)
+pub(crate) fn forget_page(cache: &mut LruCache<u32, CachedPage>, page: u32)
     ensures entries { cache.new ≡ forgotten page cache.old }
     ensures valid { IsValid nat_eq cache.old }
 {

@@ -3,7 +3,7 @@ ghost use Rattle.std.specs.Prelude.{◌≡◌, List};
 ghost use Rattle.station.specs.Disk.{Sector};
 ghost use Rattle.pages.specs.Layout.{IsForeign};
 ghost use Rattle.pages.specs.Image.{Map, Holds};
-ghost use Rattle.pages.specs.Pages.{FewNeeded};
+ghost use Rattle.pages.specs.Pages.{FewNeeded, FewFree};
 
 /// An image holds at most one map.
 pub fn one_map()
@@ -18,4 +18,9 @@ pub fn map_is_own()
 /// A commit needs at most two sectors for each page that was changed: one for its bytes, and one for its map sector.
 pub fn few_needed()
     ensures { FewNeeded }
+{}
+
+/// Where `allocate` answers `Full`, the volume has fewer free sectors than pages were changed since the last commit.
+pub fn few_free()
+    ensures { FewFree }
 {}

@@ -4,6 +4,7 @@
 #![tactic(auto)]
 
 mod cache;
+mod cached_page;
 mod change;
 mod commit;
 mod draft;
@@ -23,5 +24,5 @@ mod volume;
 
 pub use empty::format;
 pub use error::PagesError;
-pub use laws::{few_needed, map_is_own, one_map};
+pub use laws::{few_free, few_needed, map_is_own, one_map};
 pub use page_map::PageMap;

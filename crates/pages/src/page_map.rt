@@ -14,6 +14,7 @@ ghost use Rattle.pages.specs.Errors.{IsEditRefusal, IsAllocateRefusal, IsCommitR
 ghost use Rattle.pages.specs.Use.{free_count};
 
 use crate::cache::{forget_page, new_cache, recall_page};
+use crate::cached_page::CachedPage;
 use crate::change::{Change, find_change, set_change, unused_page};
 use crate::commit::commit_volume;
 use crate::error::PagesError;
@@ -31,7 +32,7 @@ pub struct PageMap {
     volume: VolumeMap,
     changes: Vec<Change>,
     /// Pages as committed. A page that was changed since isn't there.
-    cache: LruCache<u32, [u8; 4096]>,
+    cache: LruCache<u32, CachedPage>,
     /// The place of each page's change.
     places: HashMap<u32, usize>,
     /// Where the search for an unused page number begins.
@@ -124,6 +125,7 @@ impl PageMap {
     pub fn page_count(&self) -> usize
         ensures count { result ≡ page_count self.now }
         ensures pages { (image : List Sector) → length (map_now self.now image).pages ≡ page_count self.now }
+        ensures few { IsOpen self.now → is_spent self.now ≡ false → result ≤ 921600 }
     {
         self.volume.table.len()
     }
@@ -190,7 +192,13 @@ impl PageMap {
         }
         match find_change(&self.changes, &self.places, page) {
             Some(i) => Ok(self.changes[i].bytes),
-            None => recall_page(&mut self.cache, &self.volume.table, device, page),
+            None => recall_page(
+                self.alloc,
+                &mut self.cache,
+                &self.volume.table,
+                device,
+                page,
+            ),
         }
     }
 
@@ -201,6 +209,7 @@ impl PageMap {
         ensures map { OnOk result ((image : List Sector) → (map_now self.new image).pages ≡ slice_set (map_now self.old image).pages page (Some bytes.now)) }
         ensures catalog { catalog_of self.new ≡ catalog_of self.old }
         ensures touches { OnOk result (Touches (touched_of self.old) page (touched_of self.new)) }
+        ensures untouched { OnErr result (touched_of self.new ≡ touched_of self.old) }
         ensures err { OnErr result ((image : List Sector) → map_now self.new image ≡ map_now self.old image) }
         ensures committed { SameCommitted self.old self.new }
         ensures agrees { (disk : Disk) → Agrees self.old disk → Agrees self.new disk }
@@ -222,6 +231,7 @@ impl PageMap {
         ensures map { IfOk result (λ page. (image : List Sector) → (map_now self.new image).pages ≡ slice_set (map_now self.old image).pages page (Some (replicate 4096 0))) }
         ensures catalog { catalog_of self.new ≡ catalog_of self.old }
         ensures touches { IfOk result (λ page. Touches (touched_of self.old) page (touched_of self.new)) }
+        ensures untouched { OnErr result (touched_of self.new ≡ touched_of self.old) }
         ensures err { OnErr result ((image : List Sector) → map_now self.new image ≡ map_now self.old image) }
         ensures committed { SameCommitted self.old self.new }
         ensures agrees { (disk : Disk) → Agrees self.old disk → Agrees self.new disk }
@@ -230,6 +240,7 @@ impl PageMap {
         ensures cache { OnErr result (cache_of self.new ≡ cache_of self.old) }
         ensures open { IsOpen self.new }
         ensures full { is_spent self.old ≡ false → (result ≡ Err PagesError.Full) ↔ HasEachPage self.old }
+        ensures same { result ≡ Err PagesError.Full → self.new ≡ self.old }
         ensures cause { IsAllocateRefusal result }
         ensures spent { (result ≡ Err PagesError.Spent) ↔ (is_spent self.old ≡ true) }
     {
@@ -257,6 +268,7 @@ impl PageMap {
         ensures map { OnOk result ((image : List Sector) → (map_now self.new image).pages ≡ slice_set (map_now self.old image).pages page None) }
         ensures catalog { catalog_of self.new ≡ catalog_of self.old }
         ensures touches { OnOk result (Touches (touched_of self.old) page (touched_of self.new)) }
+        ensures untouched { OnErr result (touched_of self.new ≡ touched_of self.old) }
         ensures err { OnErr result ((image : List Sector) → map_now self.new image ≡ map_now self.old image) }
         ensures committed { SameCommitted self.old self.new }
         ensures agrees { (disk : Disk) → Agrees self.old disk → Agrees self.new disk }
@@ -281,6 +293,7 @@ impl PageMap {
         ensures map { OnOk result ((image : List Sector) → (map_now self.new image).pages ≡ slice_set (map_now self.old image).pages page bytes) }
         ensures catalog { catalog_of self.new ≡ catalog_of self.old }
         ensures touches { OnOk result (Touches (touched_of self.old) page (touched_of self.new)) }
+        ensures untouched { OnErr result (touched_of self.new ≡ touched_of self.old) }
         ensures err { OnErr result ((image : List Sector) → map_now self.new image ≡ map_now self.old image) }
         ensures committed { SameCommitted self.old self.new }
         ensures agrees { (disk : Disk) → Agrees self.old disk → Agrees self.new disk }
