@@ -27,3 +27,15 @@ pub mod Inserting
 pub mod Entering
 pub mod Valued
 pub mod Revalued
+pub mod Refused
+pub mod Lessening
+pub mod Sharing
+pub mod Mending
+pub mod Pairing
+pub mod Falling
+pub mod Pairs
+pub mod Mended
+pub mod Downward
+pub mod Giving
+pub mod Removing
+mod Examples

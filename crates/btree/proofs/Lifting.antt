@@ -48,7 +48,8 @@ renamed_stands pages page node place key low key_is can =
       enough = omega (arith, can.enough, length-set node.rows place (key ++ rest_of node.form row));
     }
 
-first_same : (place : ℕ) (rows more : List (List ℕ)) → 0 < place → place < length rows → slice_index_or (take place rows ++ more) 0 [] ≡ slice_index_or rows 0 []
+-- the first row stays where what changes is behind it
+pub first_same : (place : ℕ) (rows more : List (List ℕ)) → 0 < place → place < length rows → slice_index_or (take place rows ++ more) 0 [] ≡ slice_index_or rows 0 []
 first_same zero rows more some low = absurd (omega (arith, some))
 first_same (suc place) [] more some low = absurd (omega (arith, low))
 first_same (suc place) (row ∷ rows) more some low = refl

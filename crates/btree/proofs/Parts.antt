@@ -1,14 +1,9 @@
 -- What is read of one page of a tree.
-use Rattle.std.proofs.Common.{◌≡◌, ◌≤◌, ◌<◌, ◌+◌, ◌-◌, ◌*◌, ◌/◌, ◌^◌, ℕ, false, List, [], ◌∷◌, length, set, take, drop, refl, sym, ap, subst, ◌∙◌, arith, inl, inr, length-set}
+use Rattle.std.proofs.Common.{◌≡◌, ◌≤◌, ◌<◌, ◌+◌, ◌-◌, ◌^◌, ℕ, List, [], length, take, drop, refl, sym, ap, subst, ◌∙◌, arith, inl, inr}
 use Rattle.std.specs.Prelude.{slice_index_or, Option, Some, None}
-use Rattle.std.proofs.lemmas.List.{get_or-take, length-take-le, length-map}
+use Rattle.std.proofs.lemmas.List.{get_or-take, length-take-le}
 use Rattle.std.proofs.lemmas.List.Elements.{All-drop}
 use Rattle.station.specs.Disk.{Sector}
-use Rattle.pages.specs.declared.page_map.PageMap.{PageMap}
-use Rattle.pages.specs.declared.change.Change.{Change}
-use Rattle.pages.specs.Changes.{changed}
-use Rattle.pages.specs.Image.{pages_in, page_at}
-use Rattle.pages.specs.Pages.{map_now, is_spent, IsOpen}
 use Rattle.tree_pages.specs.declared.form.TreeForm.{TreeForm}
 use Rattle.tree_pages.specs.declared.form.Kind.{Kind}
 use Rattle.tree_pages.specs.Node.{Node}
@@ -59,17 +54,5 @@ chosen_before form key rows place some low below above =
     }
 
 -- A volume has few page numbers.
-length_applied : (pages : List (Option Sector)) (changes : List Change) → length (changed pages changes) ≡ length pages
-length_applied pages [] = refl
-length_applied pages (c ∷ changes) = length_applied (set pages c.page c.bytes) changes ∙ length-set pages c.page c.bytes
-
-count_bound : (sectors maps table : ℕ) → sectors ≤ 921600 → maps ≡ (sectors + 1023) / 1024 → table ≡ 1024 * maps → table ≤ 1048576
-count_bound sectors maps table most maps_is table_is = omega arith
-
-pub few_pages : (p : PageMap) (image : List Sector) → IsOpen p → is_spent p ≡ false → length (map_now p image).pages ≤ 2 ^ 20
-few_pages p image ready unspent =
-    let sound = (ready unspent).sound in
-    let count : length (map_now p image).pages ≡ length p.volume.table.items =
-    length_applied (pages_in image p.volume.table.items) p.changes.items ∙ length-map p.volume.table.items (page_at image) in
-    let bound = count_bound p.volume.sectors (length p.volume.maps.items) (length p.volume.table.items) sound.most sound.maps_count sound.count in
-    omega arith
+pub few_pages : (pages : List (Option Sector)) (count number : ℕ) → length pages ≡ count → number ≡ count → number ≤ 921600 → length pages ≤ 2 ^ 20
+few_pages pages count number is same few = omega arith

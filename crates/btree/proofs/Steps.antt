@@ -1,5 +1,5 @@
 -- One level of a change: a run of its parts is replaced.
-use Rattle.std.proofs.Common.{◌≡◌, ◌⊎◌, inl, inr, ⊎_elim, ℕ, List, [], ◌∷◌, ◌++◌, refl, sym, ◌∙◌, ap, subst}
+use Rattle.std.proofs.Common.{◌≡◌, ◌⊎◌, inl, inr, ⊎_elim, ℕ, List, [], ◌∷◌, ◌++◌, map, refl, sym, ◌∙◌, ap, subst}
 use Rattle.std.specs.Prelude.{Contains, Option}
 use Rattle.std.specs.List.{All}
 use Rattle.std.proofs.lemmas.List.Elements.{Contains-append_left, Contains-append_right, Contains-append_cases, All-append}
@@ -7,7 +7,7 @@ use Rattle.station.specs.Disk.{Sector}
 use Rattle.tree_pages.specs.declared.form.TreeForm.{TreeForm}
 use Rattle.tree_pages.specs.declared.form.Kind.{Kind}
 use Rattle.tree_pages.specs.declared.form.Kind.TheVariants.{Leaf, Inner}
-use Rattle.btree.specs.Tree.{Part, Stands, Joined, pages_of}
+use Rattle.btree.specs.Tree.{Part, row_of, rows_of, Stands, Joined, pages_of}
 use Rattle.btree.specs.Moves.{Moves, Once, numbers_of, Became, Replaced}
 use Rattle.btree.proofs.Runs.{in_none, once_left, once_right, once_apart}
 use Rattle.btree.proofs.Shifts.{There, Turned, kept_by, kept_stays, low_stays, moves_both, once_both}
@@ -96,6 +96,31 @@ step_stand form kind one two three before run run' after low low' s =
     (All-append (Stands form three kind) run' after s.own.stand
     (all_still form one three kind after (λ page has. kept page (Contains-append_right (numbers_of before) (numbers_of after) page has)) (all_right (Stands form one kind) run after rest)))
 
+-- The step, where the levels below became others, which the new level names.
+pub step_by : (form : TreeForm) (one two three : List (Option Sector)) (before run run' after lower lower' : List Part) (more more' : List (List Part))
+    → Joined form one ((before ++ (run ++ after)) ∷ lower ∷ more)
+    → Once (pages_of ((before ++ (run ++ after)) ∷ lower ∷ more))
+    → Became form one (lower ∷ more) two (lower' ∷ more')
+    → Replaced form Inner two run three run'
+    → rows_of (before ++ (run' ++ after)) ≡ map (row_of form) lower'
+    → Became form one ((before ++ (run ++ after)) ∷ lower ∷ more) three ((before ++ (run' ++ after)) ∷ lower' ∷ more')
+step_by form one two three before run run' after lower lower' more more' joined once low own names =
+    let under = pages_of (lower ∷ more) in
+    let under' = pages_of (lower' ∷ more') in
+    let s : Step form Inner one two three before run run' after under under' =
+    record { stand = joined.0; once = once; lower = low.moves; low_there = joined_there form two (lower' ∷ more') low.joined; low_once = low.once; own = own } in
+    record {
+      joined = (
+        step_stand form Inner one two three before run run' after under under' s,
+        names,
+        joined_still form two three (lower' ∷ more')
+            (low_stays one two three (numbers_of before ++ numbers_of after) (numbers_of run) under (numbers_of run') under' (turned form Inner one two three before run run' after under under' s))
+            low.joined,
+      );
+      once = step_once form Inner one two three before run run' after under under' s;
+      moves = step_moves form Inner one two three before run run' after under under' s;
+    }
+
 -- The step, where the next level's `low` became `low'`.
 pub step : (form : TreeForm) (one two three : List (Option Sector)) (before run run' after lower_before low low' lower_after : List Part) (more more' : List (List Part)) (left right : List (List ℕ))
     → Joined form one ((before ++ (run ++ after)) ∷ (lower_before ++ (low ++ lower_after)) ∷ more)
@@ -105,21 +130,8 @@ pub step : (form : TreeForm) (one two three : List (Option Sector)) (before run 
     → Named form before run run' lower_before low low' left right
     → Became form one ((before ++ (run ++ after)) ∷ (lower_before ++ (low ++ lower_after)) ∷ more) three ((before ++ (run' ++ after)) ∷ (lower_before ++ (low' ++ lower_after)) ∷ more')
 step form one two three before run run' after lower_before low low' lower_after more more' left right joined once lower own named =
-    let under = pages_of ((lower_before ++ (low ++ lower_after)) ∷ more) in
-    let under' = pages_of ((lower_before ++ (low' ++ lower_after)) ∷ more') in
-    let s : Step form Inner one two three before run run' after under under' =
-    record { stand = joined.0; once = once; lower = lower.moves; low_there = joined_there form two ((lower_before ++ (low' ++ lower_after)) ∷ more') lower.joined; low_once = lower.once; own = own } in
-    record {
-      joined = (
-        step_stand form Inner one two three before run run' after under under' s,
-        rows_replaced form before run run' after lower_before low low' lower_after left right named joined.1,
-        joined_still form two three ((lower_before ++ (low' ++ lower_after)) ∷ more')
-            (low_stays one two three (numbers_of before ++ numbers_of after) (numbers_of run) under (numbers_of run') under' (turned form Inner one two three before run run' after under under' s))
-            lower.joined,
-      );
-      once = step_once form Inner one two three before run run' after under under' s;
-      moves = step_moves form Inner one two three before run run' after under under' s;
-    }
+    step_by form one two three before run run' after (lower_before ++ (low ++ lower_after)) (lower_before ++ (low' ++ lower_after)) more more' joined once lower own
+    (rows_replaced form before run run' after lower_before low low' lower_after left right named joined.1)
 
 -- The step at the leaves.
 pub step_leaves : (form : TreeForm) (one three : List (Option Sector)) (before run run' after : List Part)

@@ -2,8 +2,6 @@
 use Rattle.std.specs.Prelude.{◌≡◌, ◌≢◌, ◌<◌, ◌≤◌, ◌+◌, ◌++◌, ℕ, List, [], ◌∷◌, length, take, drop, map, slice_index_or, Option, Some, None, IsSome, IfSome}
 use Rattle.station.specs.Disk.{Disk, Sector}
 use Rattle.pages.specs.declared.page_map.PageMap.{PageMap}
-use Rattle.pages.specs.declared.error.PagesError.{PagesError}
-use Rattle.pages.specs.declared.error.PagesError.TheVariants.{Device, Full, Damaged, Memory, Spent, ForeignMark}
 use Rattle.pages.specs.Pages.{map_now, catalog_of, Agrees, SameCommitted}
 use Rattle.tree_pages.specs.declared.form.TreeForm.{TreeForm}
 use Rattle.tree_pages.specs.declared.form.Kind.TheVariants.{Inner}
@@ -87,24 +85,6 @@ NeverRises form turns before from =
     (key : List ℕ) (one : List (Option Sector)) (levels : List (List Part)) (spot : Spot) (below : List Spot) (ordered : List (List ℕ)) →
     Standing form one levels → Leads form key levels turns spot below →
     Rises form one (level_of (lowest spot below) ∷ []) (lowest spot below) before ordered from → ⊥
-
--- a change that reads nothing is refused where no page number is left, where memory runs out, and where the map is spent
-abbrev pub IsWriteRefusal : PagesError → Type 0
-IsWriteRefusal Full = Unit {0}
-IsWriteRefusal Memory = Unit {0}
-IsWriteRefusal Spent = Unit {0}
-IsWriteRefusal Device = ⊥
-IsWriteRefusal Damaged = ⊥
-IsWriteRefusal ForeignMark = ⊥
-
--- and where a page is none of a tree
-abbrev pub IsLiftRefusal : PagesError → Type 0
-IsLiftRefusal Full = Unit {0}
-IsLiftRefusal Memory = Unit {0}
-IsLiftRefusal Spent = Unit {0}
-IsLiftRefusal Damaged = Unit {0}
-IsLiftRefusal Device = ⊥
-IsLiftRefusal ForeignMark = ⊥
 
 -- What levels became, with their root and the rows of their leaves.
 pub record Settled (form : TreeForm) (pages : List (Option Sector)) (old : List (List Part)) (after : List (Option Sector)) (root : ℕ) (ordered : List (List ℕ)) : Type 0 where

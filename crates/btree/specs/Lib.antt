@@ -3,8 +3,12 @@ pub mod Path
 pub mod Entries
 pub mod Laws
 pub mod Reading
+pub mod Refusals
 pub mod Rooted
 pub mod Moves
 pub mod Nodes
 pub mod Rises
 pub mod Changes
+pub mod Fates
+pub mod Falls
+pub mod Removals

@@ -59,6 +59,8 @@ pub(crate) fn descend<D: Device>(
     ensures spent { result ≡ Err PagesError.Spent ↔ is_spent pages.old ≡ true }
     ensures cause { IfErr result (IsRefusal form) }
 {
+    // How many page numbers there are is needed below.
+    let _page_count = pages.page_count();
     let mut path = SmallVec::new(alloc);
     let mut right = None;
     let mut page = root;

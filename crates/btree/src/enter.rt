@@ -1,12 +1,13 @@
 //! A new row comes into a tree.
-ghost use Rattle.std.specs.Prelude.{◌≡◌, ◌≤◌, ◌<◌, ◌+◌, ◌*◌, ◌↔◌, Err, Some, List, length, IfOk, IfErr, OnOk, IfSome};
+ghost use Rattle.std.specs.Prelude.{true, ◌≡◌, ◌≤◌, ◌<◌, ◌+◌, ◌*◌, ◌↔◌, Err, Some, List, length, IfOk, IfErr, IfSome};
 ghost use Rattle.station.specs.Disk.{Sector};
 ghost use Rattle.station.specs.Failures.{Blames};
-ghost use Rattle.pages.specs.Pages.{IsOpen, Agrees, SameCommitted, catalog_of, sectors_of, touched_of};
+ghost use Rattle.pages.specs.Pages.{IsOpen, Agrees, SameCommitted, HasEachPage, is_spent, catalog_of, sectors_of, touched_of};
 ghost use Rattle.tree_pages.specs.Form.{IsForm};
 ghost use Rattle.btree.specs.Tree.{Part, IsTree};
 ghost use Rattle.btree.specs.Path.{EndsAt};
-ghost use Rattle.btree.specs.Changes.{pages_of_map, Keeps, HasKeys, Settles, Enters, IsWriteRefusal};
+ghost use Rattle.btree.specs.Changes.{pages_of_map, Keeps, HasKeys, Settles, Enters};
+ghost use Rattle.btree.specs.Refusals.{IsWriteRefusal, IsInsertRefusal};
 
 use crate::descend::Descent;
 use crate::grown::Grown;
@@ -30,10 +31,12 @@ pub(crate) fn settle(
     requires keys { IfSome told (HasKeys form) }
     ensures settles { IfOk result (λ new. (image : List Sector) → Settles form root told (pages_of_map pages.old image) (pages_of_map pages.new image) new) }
     ensures some { 0 < root → IfOk result (λ new. 0 < new) }
-    ensures touched { OnOk result (length (touched_of pages.new) ≤ length (touched_of pages.old) + 1) }
+    ensures touched { length (touched_of pages.new) ≤ length (touched_of pages.old) + 1 }
     ensures keeps { Keeps pages.old pages.new }
     ensures open { IsOpen pages.new }
     ensures cause { IfErr result IsWriteRefusal }
+    ensures full { result ≡ Err PagesError.Full → HasEachPage pages.new }
+    ensures spent { result ≡ Err PagesError.Spent → is_spent pages.old ≡ true }
 {
     let grown = match told {
         Some(grown) => grown,
@@ -78,11 +81,14 @@ pub(crate) fn enter<D: Device>(
         (levels : List (List Part)) → IsTree form (pages_of_map pages.old (D.state device.old).disk.present) root levels →
         EndsAt form key.now levels descent.path.items descent.page descent.leaf.rows descent.right → ⊥ }
     ensures some { 0 < root → IfOk result (λ new. 0 < new) }
-    ensures touched { OnOk result (length (touched_of pages.new) ≤ length (touched_of pages.old) + 2 * length descent.path.items + 3) }
+    ensures touched { length (touched_of pages.new) ≤ length (touched_of pages.old) + 2 * length descent.path.items + 3 }
     ensures committed { SameCommitted pages.old pages.new }
     ensures catalog { catalog_of pages.new ≡ catalog_of pages.old }
     ensures agrees { D.is_honest device.old → Agrees pages.old (D.state device.old).disk → Agrees pages.new (D.state device.new).disk }
     ensures open { IsOpen pages.new }
+    ensures cause { IfErr result IsInsertRefusal }
+    ensures full { result ≡ Err PagesError.Full → HasEachPage pages.new }
+    ensures spent { result ≡ Err PagesError.Spent → is_spent pages.old ≡ true }
 {
     if descent.page == 0 {
         return Err(PagesError::Damaged);

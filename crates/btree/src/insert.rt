@@ -1,18 +1,20 @@
 //! A new entry.
-ghost use Rattle.std.specs.Prelude.{◌≡◌, ◌≤◌, ◌+◌, ◌↔◌, Err, Ok, Some, None, List, length, true, false, IsSome, IfOk, OnOk};
+ghost use Rattle.std.specs.Prelude.{◌≡◌, ◌≤◌, ◌<◌, ◌+◌, ◌↔◌, Err, Ok, Some, None, List, length, true, false, IsSome, IfOk, IfErr, OnErr};
 ghost use Rattle.station.specs.Failures.{Blames};
-ghost use Rattle.pages.specs.Pages.{IsOpen, Agrees, SameCommitted, catalog_of, sectors_of, touched_of};
+ghost use Rattle.pages.specs.Pages.{IsOpen, Agrees, SameCommitted, HasEachPage, is_spent, committed_of, catalog_of, sectors_of, touched_of};
+ghost use Rattle.pages.specs.Use.{free_count};
 ghost use Rattle.tree_pages.specs.Form.{IsForm};
 ghost use Rattle.btree.specs.Tree.{Part, Holds};
 ghost use Rattle.btree.specs.Entries.{entries_of, entry_with};
 ghost use Rattle.btree.specs.Reading.{Untouched};
 ghost use Rattle.btree.specs.Changes.{pages_of_map, Inserts};
+ghost use Rattle.btree.specs.Refusals.{IsInsertRefusal};
 
 use crate::descend::descend;
 use crate::enter::enter;
 use crate::put_new::plant;
 use crate::tree::Tree;
-use pages::{PageMap, PagesError};
+use pages::{PageMap, PagesError, few_free};
 use station::Device;
 use std::alloc::Global;
 use tree_pages::TreeForm;
@@ -45,16 +47,21 @@ fn insert_entry<D: Device>(
         (levels : List (List Part)) → Holds form (pages_of_map pages.old (D.state device.old).disk.present) root levels → ⊥ }
     ensures there { result ≡ Ok None → Untouched pages.old pages.new }
     ensures touched { D.is_honest device.old → Agrees pages.old (D.state device.old).disk → (levels : List (List Part)) →
-        Holds form (pages_of_map pages.old (D.state device.old).disk.present) root levels → OnOk result (length (touched_of pages.new) ≤ length (touched_of pages.old) + 42) }
+        Holds form (pages_of_map pages.old (D.state device.old).disk.present) root levels → length (touched_of pages.new) ≤ length (touched_of pages.old) + 42 }
     ensures committed { SameCommitted pages.old pages.new }
     ensures catalog { catalog_of pages.new ≡ catalog_of pages.old }
     ensures agrees { D.is_honest device.old → Agrees pages.old (D.state device.old).disk → Agrees pages.new (D.state device.new).disk }
     ensures open { IsOpen pages.new }
+    ensures full { result ≡ Err PagesError.Full → HasEachPage pages.new }
+    ensures spent { result ≡ Err PagesError.Spent ↔ is_spent pages.old ≡ true }
+    ensures cause { IfErr result IsInsertRefusal }
 {
     if root == 0 {
         let new = plant(pages, form, key, value)?;
         return Ok(Some(new));
     }
+    // How many page numbers there are is needed below.
+    let _page_count = pages.page_count();
     let descent = descend(alloc, pages, device, form, root, key)?;
     let place = match descent.leaf.find(key) {
         Ok(_) => return Ok(None),
@@ -74,7 +81,8 @@ impl Tree {
     }
 
     /// Puts a new entry into the tree. `false` tells that its key is there, and then nothing was changed. After a refusal the pages that
-    /// aren't committed are given up with the map of pages. `Damaged` tells that the pages under the root are no tree.
+    /// aren't committed are given up with the map of pages, and the tree has the root that it had. `Damaged` tells that the pages under
+    /// the root are no tree, `Full` that no page number is left.
     pub fn insert<D: Device>(
         &mut self,
         pages: &mut PageMap,
@@ -103,18 +111,29 @@ impl Tree {
         ensures damaged { D.is_honest device.old → Agrees pages.old (D.state device.old).disk → result ≡ Err PagesError.Damaged →
             (levels : List (List Part)) → Holds self.old.form (pages_of_map pages.old (D.state device.old).disk.present) self.old.root levels → ⊥ }
         ensures form { self.new.form ≡ self.old.form }
+        ensures refused { OnErr result (self.new ≡ self.old) }
 
-        // At most so many pages are changed.
+        // At most so many pages are changed, whatever the answer.
         ensures touched { D.is_honest device.old → Agrees pages.old (D.state device.old).disk → (levels : List (List Part)) →
-            Holds self.old.form (pages_of_map pages.old (D.state device.old).disk.present) self.old.root levels → OnOk result (length (touched_of pages.new) ≤ length (touched_of pages.old) + 42) }
+            Holds self.old.form (pages_of_map pages.old (D.state device.old).disk.present) self.old.root levels → length (touched_of pages.new) ≤ length (touched_of pages.old) + 42 }
         ensures committed { SameCommitted pages.old pages.new }
         ensures catalog { catalog_of pages.new ≡ catalog_of pages.old }
         ensures agrees { D.is_honest device.old → Agrees pages.old (D.state device.old).disk → Agrees pages.new (D.state device.new).disk }
         ensures open { IsOpen pages.new }
+
+        // `Full` tells that each page number is used, and so that few sectors were free. `Spent` comes exactly where the map is spent.
+        ensures full { result ≡ Err PagesError.Full → HasEachPage pages.new }
+        ensures room { D.is_honest device.old → Agrees pages.old (D.state device.old).disk → (levels : List (List Part)) →
+            Holds self.old.form (pages_of_map pages.old (D.state device.old).disk.present) self.old.root levels →
+            result ≡ Err PagesError.Full → free_count (committed_of pages.old) < length (touched_of pages.old) + 42 }
+        ensures spent { result ≡ Err PagesError.Spent ↔ is_spent pages.old ≡ true }
+        ensures cause { IfErr result IsInsertRefusal }
     {
         let alloc = self.alloc;
         let form = self.form();
         let top = self.root();
+        // What `Full` tells of the free sectors.
+        few_free();
         let added = insert_entry(alloc, pages, device, form, top, key, value)?;
         match added {
             Some(root) => {

@@ -1,14 +1,15 @@
 //! A page learns what became of one of its children.
-ghost use Rattle.std.specs.Prelude.{◌≡◌, ◌≤◌, ◌<◌, ◌+◌, None, List, [], ◌∷◌, length, slice_index_or, IfOk, IfErr, OnOk, IfSome, MatchOption};
+ghost use Rattle.std.specs.Prelude.{true, ◌≡◌, ◌≤◌, ◌<◌, ◌+◌, ◌↔◌, ◌⊎◌, Err, None, List, [], ◌∷◌, length, slice_index_or, IfOk, IfErr, IfSome, IsSome, MatchOption};
 ghost use Rattle.std.specs.List.{insert};
 ghost use Rattle.byteorder.specs.Endian.{big_bytes};
 ghost use Rattle.station.specs.Disk.{Sector};
-ghost use Rattle.pages.specs.Pages.{IsOpen, IsPage, touched_of};
+ghost use Rattle.pages.specs.Pages.{IsOpen, IsPage, HasEachPage, is_spent, touched_of};
 ghost use Rattle.tree_pages.specs.Keys.{rest_of};
 ghost use Rattle.btree.specs.Tree.{row_of, rows_of};
 ghost use Rattle.btree.specs.Moves.{Replaced};
 ghost use Rattle.btree.specs.Rises.{part_of, run_of};
-ghost use Rattle.btree.specs.Changes.{pages_of_map, CanStand, Keeps, IsGrown, HasKeys, Lifts, IsWriteRefusal};
+ghost use Rattle.btree.specs.Changes.{pages_of_map, CanStand, Keeps, IsGrown, HasKeys, Lifts};
+ghost use Rattle.btree.specs.Refusals.{IsPutRefusal, IsWriteRefusal};
 
 use crate::grown::{Grown, Right};
 use crate::put_row::put_row;
@@ -18,7 +19,8 @@ use tree_pages::{Kind, TreePage};
 /// What the page above has to know of a page that a row came to at a place: nothing, where the page kept its least key and gave no
 /// row away.
 pub(crate) fn told(grown: Grown, place: usize) -> Option<Grown>
-    ensures { MatchOption result ((0 < place) × (grown.right ≡ None)) (λ told. told ≡ grown) }
+    ensures is { MatchOption result ((0 < place) × (grown.right ≡ None)) (λ told. told ≡ grown) }
+    ensures needed { IfSome result (λ told. (place ≡ 0) ⊎ IsSome told.right) }
 {
     if place == 0 || grown.right.is_some() {
         return Some(grown);
@@ -33,10 +35,11 @@ pub(crate) fn put_back(pages: &mut PageMap, page: u32, node: TreePage) -> Result
     ensures is { IfOk result (λ grown. (grown.page ≡ page) × (grown.left ≡ node) × (grown.right ≡ None)) }
     ensures pages { IfOk result (λ grown. (image : List Sector) → CanStand (pages_of_map pages.old image) page node →
         Replaced node.form node.kind (pages_of_map pages.old image) (part_of page node.rows ∷ []) (pages_of_map pages.new image) (run_of grown)) }
-    ensures touched { OnOk result (length (touched_of pages.new) ≤ length (touched_of pages.old) + 1) }
+    ensures touched { length (touched_of pages.new) ≤ length (touched_of pages.old) + 1 }
     ensures keeps { Keeps pages.old pages.new }
     ensures open { IsOpen pages.new }
-    ensures cause { IfErr result IsWriteRefusal }
+    ensures cause { IfErr result IsPutRefusal }
+    ensures spent { (result ≡ Err PagesError.Spent) ↔ (is_spent pages.old ≡ true) }
 {
     let spelled = node.bytes();
     pages.edit(page, &spelled)?;
@@ -65,10 +68,12 @@ fn put_beside(
     ensures pages { IfOk result (λ grown. (image : List Sector) → CanStand (pages_of_map pages.old image) page node →
         Replaced node.form node.kind (pages_of_map pages.old image) (part_of page node.rows ∷ []) (pages_of_map pages.new image) (run_of grown)) }
     ensures grown { IfOk result (λ grown. IsGrown page node grown) }
-    ensures touched { OnOk result (length (touched_of pages.new) ≤ length (touched_of pages.old) + 2) }
+    ensures touched { length (touched_of pages.new) ≤ length (touched_of pages.old) + 2 }
     ensures keeps { Keeps pages.old pages.new }
     ensures open { IsOpen pages.new }
     ensures cause { IfErr result IsWriteRefusal }
+    ensures full { result ≡ Err PagesError.Full → HasEachPage pages.new }
+    ensures spent { (result ≡ Err PagesError.Spent) ↔ (is_spent pages.old ≡ true) }
 {
     // That a place behind the row fits is needed below.
     let _count = node.count();
@@ -95,10 +100,12 @@ pub(crate) fn lift(
         rest_of node.form (slice_index_or node.rows place []) ≡ big_bytes 4 grown.now.page →
         Lifts node.form (pages_of_map pages.old image) (pages_of_map pages.new image) page node.rows place (run_of grown.now) up) }
     ensures keys { IfOk result (λ up. IfSome up (HasKeys node.form)) }
-    ensures touched { OnOk result (length (touched_of pages.new) ≤ length (touched_of pages.old) + 2) }
+    ensures touched { length (touched_of pages.new) ≤ length (touched_of pages.old) + 2 }
     ensures keeps { Keeps pages.old pages.new }
     ensures open { IsOpen pages.new }
     ensures cause { IfErr result IsWriteRefusal }
+    ensures full { result ≡ Err PagesError.Full → HasEachPage pages.new }
+    ensures spent { (result ≡ Err PagesError.Spent) ↔ (is_spent pages.old ≡ true) }
 {
     node.set_key(place, grown.left.key(0));
     match &grown.right {

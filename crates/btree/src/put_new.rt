@@ -1,13 +1,14 @@
 //! A new page of a tree.
-ghost use Rattle.std.specs.Prelude.{◌≡◌, ◌≤◌, ◌<◌, ◌+◌, ◌++◌, List, [], ◌∷◌, length, IfOk, IfErr, OnOk};
+ghost use Rattle.std.specs.Prelude.{true, ◌≡◌, ◌≤◌, ◌<◌, ◌+◌, ◌++◌, ◌↔◌, Err, List, [], ◌∷◌, length, IfOk, IfErr};
 ghost use Rattle.std.specs.List.{All};
 ghost use Rattle.station.specs.Disk.{Sector};
-ghost use Rattle.pages.specs.Pages.{IsOpen, touched_of};
+ghost use Rattle.pages.specs.Pages.{IsOpen, HasEachPage, is_spent, touched_of};
 ghost use Rattle.tree_pages.specs.Form.{IsForm, rest_length, row_length};
 ghost use Rattle.btree.specs.Tree.{fewest, row_of};
 ghost use Rattle.btree.specs.Moves.{Replaced};
 ghost use Rattle.btree.specs.Rises.{part_of};
-ghost use Rattle.btree.specs.Changes.{pages_of_map, Keeps, IsWriteRefusal};
+ghost use Rattle.btree.specs.Changes.{pages_of_map, Keeps};
+ghost use Rattle.btree.specs.Refusals.{IsWriteRefusal};
 
 use crate::grown::{Grown, Right};
 use pages::{PageMap, PagesError};
@@ -19,10 +20,12 @@ fn put_new(pages: &mut PageMap, node: TreePage) -> Result<u32, PagesError>
     ensures some { IfOk result (λ page. 0 < page) }
     ensures pages { IfOk result (λ page. (image : List Sector) → All (λ row. length row ≡ row_length node.form node.kind) node.rows → fewest node.kind ≤ length node.rows →
         Replaced node.form node.kind (pages_of_map pages.old image) [] (pages_of_map pages.new image) (part_of page node.rows ∷ [])) }
-    ensures touched { OnOk result (length (touched_of pages.new) ≤ length (touched_of pages.old) + 1) }
+    ensures touched { length (touched_of pages.new) ≤ length (touched_of pages.old) + 1 }
     ensures keeps { Keeps pages.old pages.new }
     ensures open { IsOpen pages.new }
     ensures cause { IfErr result IsWriteRefusal }
+    ensures full { result ≡ Err PagesError.Full → HasEachPage pages.new }
+    ensures spent { (result ≡ Err PagesError.Spent) ↔ (is_spent pages.old ≡ true) }
 {
     // How many page numbers there are is needed below.
     let _page_count = pages.page_count();
@@ -47,10 +50,12 @@ pub(crate) fn plant(
     ensures some { IfOk result (λ page. 0 < page) }
     ensures pages { IfOk result (λ page. (image : List Sector) →
         Replaced form Kind.Leaf (pages_of_map pages.old image) [] (pages_of_map pages.new image) (part_of page ((key.now ++ value.now) ∷ []) ∷ [])) }
-    ensures touched { OnOk result (length (touched_of pages.new) ≤ length (touched_of pages.old) + 1) }
+    ensures touched { length (touched_of pages.new) ≤ length (touched_of pages.old) + 1 }
     ensures keeps { Keeps pages.old pages.new }
     ensures open { IsOpen pages.new }
     ensures cause { IfErr result IsWriteRefusal }
+    ensures full { result ≡ Err PagesError.Full → HasEachPage pages.new }
+    ensures spent { (result ≡ Err PagesError.Spent) ↔ (is_spent pages.old ≡ true) }
 {
     let mut leaf = TreePage::new(form, Kind::Leaf);
     leaf.insert(0, key, value);
@@ -76,10 +81,12 @@ pub(crate) fn crown(
     ensures pages { IfOk result (λ page. (image : List Sector) →
         Replaced form Kind.Inner (pages_of_map pages.old image) [] (pages_of_map pages.new image)
         (part_of page (row_of form (part_of grown.now.page grown.now.left.rows) ∷ row_of form (part_of right.now.page right.now.node.rows) ∷ []) ∷ [])) }
-    ensures touched { OnOk result (length (touched_of pages.new) ≤ length (touched_of pages.old) + 1) }
+    ensures touched { length (touched_of pages.new) ≤ length (touched_of pages.old) + 1 }
     ensures keeps { Keeps pages.old pages.new }
     ensures open { IsOpen pages.new }
     ensures cause { IfErr result IsWriteRefusal }
+    ensures full { result ≡ Err PagesError.Full → HasEachPage pages.new }
+    ensures spent { (result ≡ Err PagesError.Spent) ↔ (is_spent pages.old ≡ true) }
 {
     let mut top = TreePage::new(form, Kind::Inner);
     top.insert_child(0, grown.left.key(0), grown.page);

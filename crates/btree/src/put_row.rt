@@ -1,13 +1,14 @@
 //! A row comes into a page.
-ghost use Rattle.std.specs.Prelude.{◌≡◌, ◌≤◌, ◌<◌, ◌+◌, ◌++◌, List, [], ◌∷◌, length, IfOk, IfErr, OnOk};
+ghost use Rattle.std.specs.Prelude.{true, ◌≡◌, ◌≤◌, ◌<◌, ◌+◌, ◌++◌, ◌↔◌, Err, List, [], ◌∷◌, length, IfOk, IfErr};
 ghost use Rattle.std.specs.List.{insert};
 ghost use Rattle.station.specs.Disk.{Sector};
-ghost use Rattle.pages.specs.Pages.{IsOpen, IsPage, touched_of};
+ghost use Rattle.pages.specs.Pages.{IsOpen, IsPage, HasEachPage, is_spent, touched_of};
 ghost use Rattle.tree_pages.specs.Form.{rest_length, capacity};
 ghost use Rattle.btree.specs.Tree.{rows_of};
 ghost use Rattle.btree.specs.Moves.{Replaced};
 ghost use Rattle.btree.specs.Rises.{part_of, run_of};
-ghost use Rattle.btree.specs.Changes.{pages_of_map, CanTake, Keeps, IsGrown, IsWriteRefusal};
+ghost use Rattle.btree.specs.Changes.{pages_of_map, CanTake, Keeps, IsGrown};
+ghost use Rattle.btree.specs.Refusals.{IsPutRefusal, IsWriteRefusal};
 
 use crate::divide::divide;
 use crate::grown::{Grown, Right};
@@ -32,10 +33,12 @@ pub(crate) fn put_row(
     ensures pages { IfOk result (λ grown. (image : List Sector) → CanTake (pages_of_map pages.old image) page node →
         Replaced node.form node.kind (pages_of_map pages.old image) (part_of page node.rows ∷ []) (pages_of_map pages.new image) (run_of grown)) }
     ensures grown { IfOk result (λ grown. IsGrown page node grown) }
-    ensures touched { OnOk result (length (touched_of pages.new) ≤ length (touched_of pages.old) + 2) }
+    ensures touched { length (touched_of pages.new) ≤ length (touched_of pages.old) + 2 }
     ensures keeps { Keeps pages.old pages.new }
     ensures open { IsOpen pages.new }
     ensures cause { IfErr result IsWriteRefusal }
+    ensures full { result ≡ Err PagesError.Full → HasEachPage pages.new }
+    ensures spent { (result ≡ Err PagesError.Spent) ↔ (is_spent pages.old ≡ true) }
 {
     if node.is_full() {
         put_in_two(pages, page, node, place, key, rest)
@@ -63,10 +66,11 @@ fn put_in_one(
     ensures pages { IfOk result (λ grown. (image : List Sector) → CanTake (pages_of_map pages.old image) page node →
         Replaced node.form node.kind (pages_of_map pages.old image) (part_of page node.rows ∷ []) (pages_of_map pages.new image) (run_of grown)) }
     ensures grown { IfOk result (λ grown. IsGrown page node grown) }
-    ensures touched { OnOk result (length (touched_of pages.new) ≤ length (touched_of pages.old) + 2) }
+    ensures touched { length (touched_of pages.new) ≤ length (touched_of pages.old) + 1 }
     ensures keeps { Keeps pages.old pages.new }
     ensures open { IsOpen pages.new }
-    ensures cause { IfErr result IsWriteRefusal }
+    ensures cause { IfErr result IsPutRefusal }
+    ensures spent { (result ≡ Err PagesError.Spent) ↔ (is_spent pages.old ≡ true) }
 {
     node.insert(place, key, rest);
     let spelled = node.bytes();
@@ -97,10 +101,12 @@ fn put_in_two(
     ensures pages { IfOk result (λ grown. (image : List Sector) → CanTake (pages_of_map pages.old image) page node →
         Replaced node.form node.kind (pages_of_map pages.old image) (part_of page node.rows ∷ []) (pages_of_map pages.new image) (run_of grown)) }
     ensures grown { IfOk result (λ grown. IsGrown page node grown) }
-    ensures touched { OnOk result (length (touched_of pages.new) ≤ length (touched_of pages.old) + 2) }
+    ensures touched { length (touched_of pages.new) ≤ length (touched_of pages.old) + 2 }
     ensures keeps { Keeps pages.old pages.new }
     ensures open { IsOpen pages.new }
     ensures cause { IfErr result IsWriteRefusal }
+    ensures full { result ≡ Err PagesError.Full → HasEachPage pages.new }
+    ensures spent { (result ≡ Err PagesError.Spent) ↔ (is_spent pages.old ≡ true) }
 {
     // What these two tell is needed below: the page's form is sound, and how many page numbers there are.
     let _count = node.count();

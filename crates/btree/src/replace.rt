@@ -1,8 +1,8 @@
 //! Another value for an entry.
-ghost use Rattle.std.specs.Prelude.{◌≡◌, ◌≤◌, ◌<◌, ◌+◌, ◌++◌, ◌↔◌, Err, Ok, true, false, None, List, [], ◌∷◌, length, slice_index_or, slice_set, IsSome, IfErr, OnOk};
+ghost use Rattle.std.specs.Prelude.{◌≡◌, ◌≢◌, ◌≤◌, ◌<◌, ◌+◌, ◌++◌, ◌↔◌, Err, Ok, true, false, None, List, [], ◌∷◌, length, slice_index_or, slice_set, IsSome, IfErr, OnOk};
 ghost use Rattle.station.specs.Disk.{Sector};
 ghost use Rattle.station.specs.Failures.{Blames};
-ghost use Rattle.pages.specs.Pages.{IsOpen, Agrees, SameCommitted, catalog_of, sectors_of, touched_of};
+ghost use Rattle.pages.specs.Pages.{IsOpen, Agrees, SameCommitted, is_spent, catalog_of, sectors_of, touched_of};
 ghost use Rattle.tree_pages.specs.Form.{rest_length};
 ghost use Rattle.tree_pages.specs.Keys.{key_of};
 ghost use Rattle.btree.specs.Tree.{Part, Holds};
@@ -10,7 +10,8 @@ ghost use Rattle.btree.specs.Entries.{entries_of, entry_with, with_value};
 ghost use Rattle.btree.specs.Reading.{Untouched};
 ghost use Rattle.btree.specs.Moves.{Replaced};
 ghost use Rattle.btree.specs.Rises.{part_of};
-ghost use Rattle.btree.specs.Changes.{pages_of_map, IsIn, CanStand, Keeps, Becomes, IsLiftRefusal};
+ghost use Rattle.btree.specs.Changes.{pages_of_map, IsIn, CanStand, Keeps, Becomes};
+ghost use Rattle.btree.specs.Refusals.{IsRestRefusal, IsChangeRefusal};
 
 use crate::descend::descend;
 use crate::lift::put_back;
@@ -33,11 +34,12 @@ fn put_rest(
     ensures pages { OnOk result ((image : List Sector) → CanStand (pages_of_map pages.old image) page node →
         Replaced node.form node.kind (pages_of_map pages.old image) (part_of page node.rows ∷ []) (pages_of_map pages.new image)
         (part_of page (slice_set node.rows place (key_of node.form (slice_index_or node.rows place []) ++ rest.now)) ∷ [])) }
-    ensures touched { OnOk result (length (touched_of pages.new) ≤ length (touched_of pages.old) + 1) }
+    ensures touched { length (touched_of pages.new) ≤ length (touched_of pages.old) + 1 }
     ensures keeps { Keeps pages.old pages.new }
     ensures open { IsOpen pages.new }
     ensures damaged { result ≡ Err PagesError.Damaged → (image : List Sector) → 0 < page → IsIn (pages_of_map pages.old image) page → ⊥ }
-    ensures cause { IfErr result IsLiftRefusal }
+    ensures cause { IfErr result IsRestRefusal }
+    ensures spent { result ≡ Err PagesError.Spent → is_spent pages.old ≡ true }
 {
     if page == 0 {
         return Err(PagesError::Damaged);
@@ -52,7 +54,7 @@ fn put_rest(
 
 impl Tree {
     /// Gives the entry of a key another value. `false` tells that there is none, and then nothing was changed. Refusals are as those of
-    /// `insert`.
+    /// `insert`, but `Full` doesn't come.
     pub fn replace<D: Device>(
         &mut self,
         pages: &mut PageMap,
@@ -81,11 +83,13 @@ impl Tree {
         ensures damaged { D.is_honest device.old → Agrees pages.old (D.state device.old).disk → result ≡ Err PagesError.Damaged →
             (levels : List (List Part)) → Holds self.old.form (pages_of_map pages.old (D.state device.old).disk.present) self.old.root levels → ⊥ }
         ensures tree { self.new ≡ self.old }
-        ensures touched { OnOk result (length (touched_of pages.new) ≤ length (touched_of pages.old) + 1) }
+        ensures touched { length (touched_of pages.new) ≤ length (touched_of pages.old) + 1 }
         ensures committed { SameCommitted pages.old pages.new }
         ensures catalog { catalog_of pages.new ≡ catalog_of pages.old }
         ensures agrees { D.is_honest device.old → Agrees pages.old (D.state device.old).disk → Agrees pages.new (D.state device.new).disk }
         ensures open { IsOpen pages.new }
+        ensures spent { result ≡ Err PagesError.Spent ↔ ((is_spent pages.old ≡ true) × (self.old.root ≢ 0)) }
+        ensures cause { IfErr result IsChangeRefusal }
     {
         let alloc = self.alloc;
         let form = self.form();

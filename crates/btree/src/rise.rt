@@ -1,13 +1,14 @@
 //! A change goes up from a leaf, along the way that led down to it.
-ghost use Rattle.std.specs.Prelude.{◌≡◌, ◌≤◌, ◌<◌, ◌+◌, ◌*◌, ◌↔◌, Err, Some, List, length, slice_index_or, [], IfOk, IfErr, OnOk, IfSome};
+ghost use Rattle.std.specs.Prelude.{true, ◌≡◌, ◌≤◌, ◌<◌, ◌+◌, ◌*◌, ◌↔◌, Err, Some, List, length, slice_index_or, [], IfOk, IfErr, IfSome};
 ghost use Rattle.byteorder.specs.Endian.{big_bytes};
 ghost use Rattle.station.specs.Disk.{Sector};
 ghost use Rattle.station.specs.Failures.{Blames};
-ghost use Rattle.pages.specs.Pages.{IsOpen, Agrees, SameCommitted, catalog_of, sectors_of, touched_of};
+ghost use Rattle.pages.specs.Pages.{IsOpen, Agrees, SameCommitted, HasEachPage, is_spent, catalog_of, sectors_of, touched_of};
 ghost use Rattle.tree_pages.specs.Form.{IsForm};
 ghost use Rattle.tree_pages.specs.Keys.{rest_of};
 ghost use Rattle.btree.specs.Rises.{run_of};
-ghost use Rattle.btree.specs.Changes.{pages_of_map, IsIn, CanStand, Keeps, HasKeys, Lifts, RisesBy, NeverRises, IsLiftRefusal};
+ghost use Rattle.btree.specs.Changes.{pages_of_map, IsIn, CanStand, Keeps, HasKeys, Lifts, RisesBy, NeverRises};
+ghost use Rattle.btree.specs.Refusals.{IsLiftRefusal, IsInsertRefusal};
 
 use crate::grown::Grown;
 use crate::lift::lift;
@@ -30,12 +31,14 @@ fn lift_at(
         rest_of node.form (slice_index_or node.rows turn.place []) ≡ big_bytes 4 grown.now.page →
         Lifts node.form (pages_of_map pages.old image) (pages_of_map pages.new image) turn.page node.rows turn.place (run_of grown.now) up) }
     ensures keys { IfOk result (λ up. IfSome up (HasKeys node.form)) }
-    ensures touched { OnOk result (length (touched_of pages.new) ≤ length (touched_of pages.old) + 2) }
+    ensures touched { length (touched_of pages.new) ≤ length (touched_of pages.old) + 2 }
     ensures keeps { Keeps pages.old pages.new }
     ensures open { IsOpen pages.new }
     ensures damaged { result ≡ Err PagesError.Damaged → (image : List Sector) → node.kind ≡ Kind.Inner → turn.place < length node.rows → 0 < turn.page →
         IsIn (pages_of_map pages.old image) turn.page → ⊥ }
     ensures cause { IfErr result IsLiftRefusal }
+    ensures full { result ≡ Err PagesError.Full → HasEachPage pages.new }
+    ensures spent { result ≡ Err PagesError.Spent → is_spent pages.old ≡ true }
 {
     if node.kind() != Kind::Inner {
         return Err(PagesError::Damaged);
@@ -76,11 +79,14 @@ pub(crate) fn rise<D: Device>(
     ensures damaged { D.is_honest device.old → Agrees pages.old (D.state device.old).disk → result ≡ Err PagesError.Damaged →
         NeverRises form path.now (pages_of_map pages.old (D.state device.old).disk.present) (Some grown) }
     ensures keys { IfOk result (λ up. IfSome up (HasKeys form)) }
-    ensures touched { OnOk result (length (touched_of pages.new) ≤ length (touched_of pages.old) + 2 * length path.now) }
+    ensures touched { length (touched_of pages.new) ≤ length (touched_of pages.old) + 2 * length path.now }
     ensures committed { SameCommitted pages.old pages.new }
     ensures catalog { catalog_of pages.new ≡ catalog_of pages.old }
     ensures agrees { D.is_honest device.old → Agrees pages.old (D.state device.old).disk → Agrees pages.new (D.state device.new).disk }
     ensures open { IsOpen pages.new }
+    ensures cause { IfErr result IsInsertRefusal }
+    ensures full { result ≡ Err PagesError.Full → HasEachPage pages.new }
+    ensures spent { result ≡ Err PagesError.Spent → is_spent pages.old ≡ true }
 {
     let (turn, rest) = match path.split_first() {
         Some(pair) => pair,

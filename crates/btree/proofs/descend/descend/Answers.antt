@@ -3,7 +3,7 @@ use Rattle.std.specs.Prelude.{Option, Some, None}
 use Rattle.std.proofs.lemmas.List.{length-append}
 use Rattle.std.proofs.lemmas.Result.{err_from_is_err_and}
 use Rattle.station.specs.Disk.{Sector}
-use Rattle.pages.specs.Pages.{map_now, is_spent}
+use Rattle.pages.specs.Pages.{map_now, is_spent, page_count}
 use Rattle.pages.specs.declared.error.PagesError.TheVariants.{Damaged, Spent}
 use Rattle.tree_pages.specs.declared.form.Kind.TheVariants.{Leaf, Inner}
 use Rattle.btree.specs.Tree.{node_at, Stands}
@@ -30,7 +30,7 @@ loop-depth-init g c = record {
       let pages : List (Option Sector) = (map_now c.args.pages.now (g.D.Device.state c.args.device.now).disk.present).pages in
       let P : List Turn → Type 0 = λ turns. Along c.args.form pages levels c.args.key.now turns c.args.root None in
       subst P (sym c.new-path.ensures.items)
-      (start c.args.form pages c.args.root levels c.args.key.now (few_pages c.args.pages.now (g.D.Device.state c.args.device.now).disk.present c.requires.open unspent) tree);
+      (start c.args.form pages c.args.root levels c.args.key.now (few_pages (map_now c.args.pages.now (g.D.Device.state c.args.device.now).disk.present).pages (page_count c.args.pages.now) c.page_count-page_count.result (c.page_count-page_count.ensures.pages (g.D.Device.state c.args.device.now).disk.present) c.page_count-page_count.ensures.count (c.page_count-page_count.ensures.few c.requires.open unspent)) tree);
 }
 
 pub returns-in_err-part-clause-untouched : goal.returns-in_err-part-clause-untouched
@@ -100,4 +100,4 @@ returns-clause-damaged g c = λ h a is levels tree.
     let unspent : is_spent c.args.pages.now ≡ false = c.loop-depth.invariant.spent (omega arith) in
     let deep : 21 ≤ length c.loop-depth.path.items = omega arith in
     too_deep c.args.form (map_now c.args.pages.now (g.D.Device.state c.args.device.now).disk.present).pages c.args.root levels c.args.key.now c.loop-depth.path.items c.loop-depth.page c.loop-depth.right
-    (few_pages c.args.pages.now (g.D.Device.state c.args.device.now).disk.present c.requires.open unspent) tree (c.loop-depth.invariant.way unspent h a levels tree) deep
+    (few_pages (map_now c.args.pages.now (g.D.Device.state c.args.device.now).disk.present).pages (page_count c.args.pages.now) c.page_count-page_count.result (c.page_count-page_count.ensures.pages (g.D.Device.state c.args.device.now).disk.present) c.page_count-page_count.ensures.count (c.page_count-page_count.ensures.few c.requires.open unspent)) tree (c.loop-depth.invariant.way unspent h a levels tree) deep

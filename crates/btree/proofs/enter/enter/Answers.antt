@@ -33,7 +33,7 @@ returns-in-None-clause-entered g c = λ honest agrees.
     let row = c.args.key.now ++ c.args.value.now in
     let put = leaf_put c.args.form before one d.page d.leaf c.args.place row c.in_ok-put.put c.requires.leaf.0 c.requires.leaf.1 (c.in_ok-put.ensures.pages image) c.in_ok-put.ensures.rows c.in_ok-put.ensures.grown.page_is in
     enters_with c.args.form before one one one c.args.root c.args.root d.path.items d.page d.leaf.rows d.right c.args.place c.args.key.now c.args.value.now None None c.in_ok-put.put c.requires.key put
-    (tells_none c.args.form d.page d.leaf.rows c.args.place row c.in_ok-put.put c.in_ok-put.ensures.grown.page_is c.in_ok-put.ensures.rows c.in-None.ensures)
+    (tells_none c.args.form d.page d.leaf.rows c.args.place row c.in_ok-put.put c.in_ok-put.ensures.grown.page_is c.in_ok-put.ensures.rows c.in-None.ensures.is)
     (rises_still c.args.form one d.path.items) (settle_same c.args.form c.args.root one)
 
 pub returns-in_err-up-clause-damaged : goal.returns-in_err-up-clause-damaged
@@ -48,7 +48,7 @@ returns-in_err-up-clause-damaged g c = λ honest agrees is levels tree ends.
     let never = c.in_err-up.ensures.damaged honest (c.put_row.ensures.keeps.agrees (g.D.Device.state c.args.device.now).disk agrees) (cc told) in
     let here = subst (λ (path : List Turn). NeverRises c.args.form path one (Some c.in-Some.grown)) c.as_slice.ensures never in
     never_entered c.args.form before one c.args.root d.path.items d.page d.leaf.rows d.right c.args.place c.args.key.now row c.in_ok-put.put levels put
-    (subst (λ (grown : Grown). NeverRises c.args.form d.path.items one (Some grown)) c.in-Some.ensures here) tree ends
+    (subst (λ (grown : Grown). NeverRises c.args.form d.path.items one (Some grown)) c.in-Some.ensures.is here) tree ends
 
 pub returns-clause-entered : goal.returns-clause-entered
 returns-clause-entered g c = λ honest agrees.
@@ -65,4 +65,19 @@ returns-clause-entered g c = λ honest agrees.
     let here = subst (λ (path : List Turn). RisesBy c.args.form path one two (Some c.in-Some.grown) up) c.as_slice.ensures risen in
     enters_with c.args.form before one two after c.args.root c.in_ok-new.new d.path.items d.page d.leaf.rows d.right c.args.place c.args.key.now c.args.value.now (Some c.in_ok-put.put) up c.in_ok-put.put c.requires.key put
     (tells_some c.args.form d.page d.leaf.rows c.in_ok-put.put c.in_ok-put.ensures.grown.page_is)
-    (subst (λ (grown : Grown). RisesBy c.args.form d.path.items one two (Some grown) up) c.in-Some.ensures here) (c.in_ok-new.ensures.settles image)
+    (subst (λ (grown : Grown). RisesBy c.args.form d.path.items one two (Some grown) up) c.in-Some.ensures.is here) (c.in_ok-new.ensures.settles image)
+
+pub returns-in_err-put-clause-full : goal.returns-in_err-put-clause-full
+returns-in_err-put-clause-full g c = λ is.
+    let told = rw is at c.from_residual.ensures.1 in
+    c.in_err-put.ensures.full (cc told)
+
+pub returns-in_err-up-clause-full : goal.returns-in_err-up-clause-full
+returns-in_err-up-clause-full g c = λ is.
+    let told = rw is at c.from_residual-in_err-up.ensures.1 in
+    c.in_err-up.ensures.full (cc told)
+
+pub returns-in_err-new-clause-full : goal.returns-in_err-new-clause-full
+returns-in_err-new-clause-full g c = λ is.
+    let told = rw is at c.from_residual-in_err-new.ensures.1 in
+    c.in_err-new.ensures.full (cc told)

@@ -22,3 +22,8 @@ pub returns-in-None-right-clause-settles : goal.returns-in-None-right-clause-set
 returns-in-None-right-clause-settles c = λ image.
     let now = pages_of_map c.args.pages.now image in
     subst (λ (told : Option Grown). Settles c.args.form c.args.root told now now c.args.root) (sym c.in-Some.is) (settle_one c.args.form c.args.root now c.in-Some.grown c.in-None-right.is)
+
+pub returns-in_err-new-in-Some-right-clause-full : goal.returns-in_err-new-in-Some-right-clause-full
+returns-in_err-new-in-Some-right-clause-full c = λ is.
+    let told = rw is at c.from_residual.ensures.1 in
+    c.in_err-new-in-Some-right.ensures.full (cc told)

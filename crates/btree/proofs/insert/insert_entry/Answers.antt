@@ -1,13 +1,14 @@
-use Rattle.std.proofs.Common.{◌≡◌, ◌≤◌, List, [], length, sym, ap, subst, ◌∙◌, arith}
+use Rattle.std.proofs.Common.{◌≡◌, ◌≤◌, ◌^◌, ℕ, List, [], length, sym, ap, subst, ◌∙◌, arith}
 use Rattle.std.specs.Prelude.{Option, false, slice_index_or}
 use Rattle.station.specs.Disk.{Sector}
 use Rattle.station.specs.State.{State}
 use Rattle.pages.specs.Image.{Map}
 use Rattle.tree_pages.specs.declared.form.TreeForm.{TreeForm}
 use Rattle.tree_pages.specs.Keys.{key_of}
-use Rattle.btree.specs.Tree.{IsTree}
+use Rattle.btree.specs.Tree.{Part, IsTree}
+use Rattle.btree.specs.Path.{Turn, EndsAt}
 use Rattle.btree.specs.Changes.{pages_of_map, Enters}
-use Rattle.pages.specs.Pages.{is_spent}
+use Rattle.pages.specs.Pages.{is_spent, page_count}
 use Rattle.pages.specs.declared.error.PagesError.TheVariants.{Spent}
 use Rattle.btree.proofs.Frames.{holds_tree, false_unless, ok_or_err}
 use Rattle.btree.proofs.Parts.{few_pages}
@@ -72,16 +73,44 @@ returns-clause-inserted g c = λ honest agrees levels holds.
     came c.args.form before after c.args.root levels d.path.items d.page d.leaf.rows d.right place c.args.key.now c.args.value.now new tree (c.in_ok-descent.ensures.way honest agrees levels tree)
     c.in-Err.ensures.missing (subst (λ (f : TreeForm). FindsGap f c.args.key.now d.leaf.rows place) form_is c.in-Err.ensures.around) enters
 
+-- the turns of a descent down a tree of the map
+few_turns : (form : TreeForm) (key : List ℕ) (pages : List (Option Sector)) (root : ℕ) (levels : List (List Part)) (turns : List Turn) (page : ℕ) (rows : List (List ℕ)) (right : Option (List ℕ)) → length pages ≤ 2 ^ 20 → IsTree form pages root levels → EndsAt form key levels turns page rows right
+    → length turns ≤ 19
+few_turns form key pages root levels turns page rows right small tree ends =
+    let few = few_levels form pages root levels small tree in
+    let count = turns_count form key levels turns ends.reaches.top ends.reaches.below ends.reaches.leads in
+    omega arith
+
+pub returns-in_err-entered-clause-touched : goal.returns-in_err-entered-clause-touched
+returns-in_err-entered-clause-touched g c = λ honest agrees levels holds.
+    let image = (g.D.Device.state c.args.device.now).disk.present in
+    let before = pages_of_map c.args.pages.now image in
+    let d = c.in_ok-descent.descent in
+    let tree = holds_tree c.args.form before c.args.root levels holds c.if-root-eq0.false in
+    let unspent : is_spent c.args.pages.now ≡ false = false_unless (is_spent c.args.pages.now) (λ spent. ok_or_err d Spent (sym c.in_ok-descent.was ∙ c.descend.ensures.spent.1 spent)) in
+    let small = few_pages before (page_count c.args.pages.now) c.page_count-page_count.result (c.page_count-page_count.ensures.pages image) c.page_count-page_count.ensures.count (c.page_count-page_count.ensures.few c.requires.open unspent) in
+    let turns = few_turns c.args.form c.args.key.now before c.args.root levels d.path.items d.page d.leaf.rows d.right small tree (c.in_ok-descent.ensures.way honest agrees levels tree) in
+    let same = ap length c.descend.ensures.untouched.touched in
+    omega (arith, turns, c.enter.ensures.touched, same)
+
 pub returns-clause-touched : goal.returns-clause-touched
 returns-clause-touched g c = λ honest agrees levels holds.
     let image = (g.D.Device.state c.args.device.now).disk.present in
     let before = pages_of_map c.args.pages.now image in
     let d = c.in_ok-descent.descent in
     let tree = holds_tree c.args.form before c.args.root levels holds c.if-root-eq0.false in
-    let ends = c.in_ok-descent.ensures.way honest agrees levels tree in
     let unspent : is_spent c.args.pages.now ≡ false = false_unless (is_spent c.args.pages.now) (λ spent. ok_or_err d Spent (sym c.in_ok-descent.was ∙ c.descend.ensures.spent.1 spent)) in
-    let few : length levels ≤ 20 = few_levels c.args.form before c.args.root levels (few_pages c.args.pages.now image c.requires.open unspent) tree in
-    let turns = turns_count c.args.form c.args.key.now levels d.path.items ends.reaches.top ends.reaches.below ends.reaches.leads in
-    let more = c.in_ok-entered.ensures.touched in
+    let small = few_pages before (page_count c.args.pages.now) c.page_count-page_count.result (c.page_count-page_count.ensures.pages image) c.page_count-page_count.ensures.count (c.page_count-page_count.ensures.few c.requires.open unspent) in
+    let turns = few_turns c.args.form c.args.key.now before c.args.root levels d.path.items d.page d.leaf.rows d.right small tree (c.in_ok-descent.ensures.way honest agrees levels tree) in
     let same = ap length c.descend.ensures.untouched.touched in
-    omega (arith, few, turns, more, same)
+    omega (arith, turns, c.enter.ensures.touched, same)
+
+pub returns-in_err-new-clause-full : goal.returns-in_err-new-clause-full
+returns-in_err-new-clause-full g c = λ is.
+    let told = rw is at c.from_residual.ensures.1 in
+    c.in_err-new.ensures.full (cc told)
+
+pub returns-in_err-entered-clause-full : goal.returns-in_err-entered-clause-full
+returns-in_err-entered-clause-full g c = λ is.
+    let told = rw is at c.from_residual-in_err-entered.ensures.1 in
+    c.in_err-entered.ensures.full (cc told)

@@ -3,3 +3,8 @@ use Rattle.btree.proofs.lift.put_beside.Goals as goal
 
 pub returns-clause-pages : goal.returns-clause-pages
 returns-clause-pages c = λ image can. c.in_ok-grown.ensures.pages image (record { is_in = can.is_in; lengths = can.lengths; enough = omega (arith, can.enough) })
+
+pub returns-in_err-grown-clause-full : goal.returns-in_err-grown-clause-full
+returns-in_err-grown-clause-full c = λ is.
+    let told = rw is at c.from_residual.ensures.1 in
+    c.in_err-grown.ensures.full (cc told)

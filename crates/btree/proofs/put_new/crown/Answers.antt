@@ -32,3 +32,8 @@ returns-clause-pages c = λ image.
     (c.in_ok-page.ensures.pages image)
     (All-cons P one (two ∷ []) (omega (arith, length-append (key_of form (slice_index_or left.left.rows 0 [])) (big_bytes 4 left.page), ap length one_key, one_length))
     (All-cons P two [] (omega (arith, length-append (key_of form (slice_index_or right.node.rows 0 [])) (big_bytes 4 right.page), ap length two_key, two_length)) (All-nil P))) (omega arith)
+
+pub returns-in_err-page-clause-full : goal.returns-in_err-page-clause-full
+returns-in_err-page-clause-full c = λ is.
+    let told = rw is at c.from_residual.ensures.1 in
+    c.in_err-page.ensures.full (cc told)

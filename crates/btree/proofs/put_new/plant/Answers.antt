@@ -15,3 +15,8 @@ returns-clause-pages c = λ image.
     put_node c.args.form Leaf c.insert.new.self (row ∷ []) c.in_ok-page.page (pages_of_map c.args.pages.now image) (pages_of_map c.put_new.new.pages image)
     (c.insert.ensures ∙ ap (λ (n : Node). inserted n 0 row) c.new-leaf.ensures) (c.in_ok-page.ensures.pages image)
     (All-cons P row [] (omega (arith, length-append c.args.key.now c.args.value.now, c.requires.key, c.requires.value)) (All-nil P)) (omega arith)
+
+pub returns-in_err-page-clause-full : goal.returns-in_err-page-clause-full
+returns-in_err-page-clause-full c = λ is.
+    let told = rw is at c.from_residual.ensures.1 in
+    c.in_err-page.ensures.full (cc told)

@@ -5,6 +5,7 @@ use Rattle.pages.specs.Pages.{touched_of}
 use Rattle.btree.specs.Changes.{pages_of_map}
 use Rattle.btree.proofs.Writes.{write_new, spells_node}
 use Rattle.btree.proofs.Touched.{touches_count, touches_again, touches_has}
+use Rattle.btree.proofs.Refused.{each_used}
 use Rattle.btree.proofs.put_new.put_new.Goals as goal
 
 pub returns-clause-pages : goal.returns-clause-pages
@@ -22,3 +23,8 @@ returns-clause-touched c =
     let has = touches_has (touched_of c.args.pages.now) c.in_ok-page.page (touched_of c.allocate.new.self) c.in_ok-page.ensures.touches in
     let two = ap length (touches_again (touched_of c.allocate.new.self) c.in_ok-page.page (touched_of c.edit.new.self) has c.in_ok-edit.ensures.touches) in
     omega (arith, one, two)
+
+pub returns-in_err-page-clause-full : goal.returns-in_err-page-clause-full
+returns-in_err-page-clause-full c = λ is.
+    let told = rw is at c.from_residual.ensures.1 in
+    each_used c.args.pages.now c.allocate.new.self c.allocate.result (cc told) c.allocate.ensures.full c.allocate.ensures.same c.allocate.ensures.spent

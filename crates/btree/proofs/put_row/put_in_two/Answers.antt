@@ -6,6 +6,7 @@ use Rattle.btree.specs.Changes.{pages_of_map}
 use Rattle.btree.proofs.Dividing.{three_fit}
 use Rattle.btree.proofs.Writes.{write_two, is_low, spells_left, spells_right}
 use Rattle.btree.proofs.Touched.{touches_count, touches_again, touches_has, touches_keeps}
+use Rattle.btree.proofs.Refused.{each_used}
 use Rattle.btree.proofs.put_row.put_in_two.Goals as goal
 
 pub divide-right-requires-clause-full : goal.divide-right-requires-clause-full
@@ -38,3 +39,8 @@ returns-clause-touched c =
     (touches_has (touched_of c.args.pages.now) c.in_ok-new.new (touched_of c.allocate.new.self) c.in_ok-new.ensures.touches) c.in_ok-edit.ensures.touches in
     let three = ap length (touches_again (touched_of c.edit.new.self) c.in_ok-new.new (touched_of c.edit-2.new.self) has c.in_ok-edit-2.ensures.touches) in
     omega (arith, one, two, three)
+
+pub returns-in_err-new-clause-full : goal.returns-in_err-new-clause-full
+returns-in_err-new-clause-full c = λ is.
+    let told = rw is at c.from_residual.ensures.1 in
+    each_used c.args.pages.now c.allocate.new.self c.allocate.result (cc told) c.allocate.ensures.full c.allocate.ensures.same c.allocate.ensures.spent

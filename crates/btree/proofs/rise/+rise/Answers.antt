@@ -99,3 +99,13 @@ returns-clause-rises g t c = λ honest agrees.
     (rises_more c.args.form before two three turn rest (Some c.args.grown) c.in-Some-2.told up node risen
     (record { form_is = c.in_ok-node.ensures.shape.0; read = subst (λ (pages : List (Option Sector)). node_at c.args.form pages turn.page ≡ Some node) same read })
     lifts)
+
+pub returns-in_err-told-clause-full : goal.returns-in_err-told-clause-full
+returns-in_err-told-clause-full g t c = λ is.
+    let told = rw is at c.from_residual.ensures.1 in
+    c.in_err-told.ensures.full (cc told)
+
+pub returns-in_err-up-clause-full : goal.returns-in_err-up-clause-full
+returns-in_err-up-clause-full g t c = λ is.
+    let told = rw is at c.from_residual-in_err-up.ensures.1 in
+    c.in_err-up.ensures.full (cc told)

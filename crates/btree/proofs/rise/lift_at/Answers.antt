@@ -6,3 +6,8 @@ use Rattle.btree.proofs.rise.lift_at.Goals as goal
 pub returns-then-page_count-turn-clause-damaged : goal.returns-then-page_count-turn-clause-damaged
 returns-then-page_count-turn-clause-damaged c = λ is image inner low some is_in.
     omega (arith, is_low (pages_of_map c.args.pages.now image) c.args.turn.page is_in, c.page_count.ensures.pages image, c.page_count.ensures.count, c.if-page_count-turn.true)
+
+pub returns-in_err-up-clause-full : goal.returns-in_err-up-clause-full
+returns-in_err-up-clause-full c = λ is.
+    let told = rw is at c.from_residual.ensures.1 in
+    c.in_err-up.ensures.full (cc told)

@@ -1,8 +1,12 @@
-use Rattle.std.proofs.Common.{ℕ, sym, subst}
+use Rattle.std.proofs.Common.{◌≡◌, ℕ, false, Err, sym, subst}
 use Rattle.std.specs.Prelude.{Option, Some}
+use Rattle.pages.specs.Pages.{is_spent}
+use Rattle.pages.specs.declared.error.PagesError.TheVariants.{Full, Spent}
 use Rattle.tree_pages.specs.declared.form.TreeForm.{TreeForm}
 use Rattle.btree.specs.Tree.{Holds}
 use Rattle.btree.specs.Changes.{pages_of_map, Inserts}
+use Rattle.btree.proofs.Frames.{false_unless}
+use Rattle.btree.proofs.Refused.{few_left}
 use Rattle.btree.proofs.tree.Tree.insert.Goals as goal
 
 pub returns-in_err-added-clause-damaged : goal.returns-in_err-added-clause-damaged
@@ -30,3 +34,25 @@ returns-in-Some-clause-touched g c = λ honest agrees levels holds.
     let before = pages_of_map c.args.pages.now (g.D.Device.state c.args.device.now).disk.present in
     c.in_ok-added.ensures.touched honest agrees levels
     (subst (λ (f : TreeForm). Holds f before c.root-top.result levels) (sym c.form-form.ensures.is) (subst (λ (r : ℕ). Holds c.args.self.now.form before r levels) (sym c.root-top.ensures) holds))
+
+pub returns-in_err-added-clause-full : goal.returns-in_err-added-clause-full
+returns-in_err-added-clause-full g c = λ is.
+    let told = rw is at c.from_residual.ensures.1 in
+    c.in_err-added.ensures.full (cc told)
+
+pub returns-in_err-added-clause-touched : goal.returns-in_err-added-clause-touched
+returns-in_err-added-clause-touched g c = λ honest agrees levels holds.
+    let before = pages_of_map c.args.pages.now (g.D.Device.state c.args.device.now).disk.present in
+    c.in_err-added.ensures.touched honest agrees levels
+    (subst (λ (f : TreeForm). Holds f before c.root-top.result levels) (sym c.form-form.ensures.is) (subst (λ (r : ℕ). Holds c.args.self.now.form before r levels) (sym c.root-top.ensures) holds))
+
+pub returns-in_err-added-clause-room : goal.returns-in_err-added-clause-room
+returns-in_err-added-clause-room g c = λ honest agrees levels holds is.
+    let old = c.args.pages.now in
+    let before = pages_of_map old (g.D.Device.state c.args.device.now).disk.present in
+    let told = rw is at c.from_residual.ensures.1 in
+    let touched = c.in_err-added.ensures.touched honest agrees levels
+    (subst (λ (f : TreeForm). Holds f before c.root-top.result levels) (sym c.form-form.ensures.is) (subst (λ (r : ℕ). Holds c.args.self.now.form before r levels) (sym c.root-top.ensures) holds)) in
+    let full : c.insert_entry.result ≡ Err Full = cc told in
+    let unspent : is_spent old ≡ false = false_unless (is_spent old) (λ was. let other : c.insert_entry.result ≡ Err Spent = c.insert_entry.ensures.spent.1 was in cc) in
+    few_left old c.insert_entry.new.pages 42 c.few_free.ensures c.insert_entry.ensures.open c.insert_entry.ensures.committed unspent (c.insert_entry.ensures.full full) touched

@@ -1,0 +1,157 @@
+use Rattle.std.proofs.Common.{◌≡◌, ◌≤◌, ◌+◌, List, [], length, ◌++◌, take, drop, sym, ap, subst, ◌∙◌}
+use Rattle.std.specs.Prelude.{Option, false}
+use Rattle.station.specs.Disk.{Sector}
+use Rattle.station.specs.State.{State}
+use Rattle.pages.specs.Image.{Map}
+use Rattle.pages.specs.Pages.{is_spent, page_count, touched_of}
+use Rattle.pages.specs.declared.error.PagesError.TheVariants.{Spent}
+use Rattle.tree_pages.specs.declared.form.TreeForm.{TreeForm}
+use Rattle.tree_pages.specs.declared.form.Kind.TheVariants.{Leaf}
+use Rattle.btree.specs.Path.{Turn}
+use Rattle.btree.specs.Changes.{pages_of_map, IsIn, CanStand}
+use Rattle.btree.specs.Fates.{Fares, spare}
+use Rattle.btree.specs.Falls.{FallsBy, NeverFalls}
+use Rattle.btree.proofs.Frames.{holds_tree, false_unless, ok_or_err}
+use Rattle.btree.proofs.Parts.{few_pages}
+use Rattle.btree.proofs.Depth.{few_levels}
+use Rattle.btree.proofs.Searches.{FindsGap}
+use Rattle.btree.proofs.Entering.{end_stands, end_in, turns_count}
+use Rattle.btree.proofs.Lessening.{has_room, true_or_false}
+use Rattle.btree.proofs.Removing.{TakenOut, went, never_went, never_left, not_there, few_touched}
+use Rattle.btree.proofs.remove.remove_entry.Goals as goal
+
+pub returns-in_err-descent-clause-catalog : goal.returns-in_err-descent-clause-catalog
+returns-in_err-descent-clause-catalog g c = ap (λ (m : Map). m.catalog) (c.descend.ensures.untouched.map [])
+
+pub returns-in-Err-clause-removed : goal.returns-in-Err-clause-removed
+returns-in-Err-clause-removed g c = λ honest agrees levels holds.
+    let image = (g.D.Device.state c.args.device.now).disk.present in
+    let before = pages_of_map c.args.pages.now image in
+    let d = c.in_ok-descent.descent in
+    let tree = holds_tree c.args.form before c.args.root levels holds c.if-root-eq0.false in
+    not_there c.args.form before (pages_of_map c.descend.new.pages image) c.args.root levels d.path.items d.page d.leaf.rows d.right c.in-Err.field-0 c.args.key.now tree (c.in_ok-descent.ensures.way honest agrees levels tree)
+    c.in-Err.ensures.missing (subst (λ (f : TreeForm). FindsGap f c.args.key.now d.leaf.rows c.in-Err.field-0) c.in_ok-descent.ensures.leaf.0 c.in-Err.ensures.around)
+
+pub returns-in-Err-clause-catalog : goal.returns-in-Err-clause-catalog
+returns-in-Err-clause-catalog g c = ap (λ (m : Map). m.catalog) (c.descend.ensures.untouched.map [])
+
+pub returns-then-not-is_page-clause-damaged : goal.returns-then-not-is_page-clause-damaged
+returns-then-not-is_page-clause-damaged g c = λ honest agrees is levels holds.
+    let image = (g.D.Device.state c.args.device.now).disk.present in
+    let before = pages_of_map c.args.pages.now image in
+    let d = c.in_ok-descent.descent in
+    let tree = holds_tree c.args.form before c.args.root levels holds c.if-root-eq0.false in
+    let end = end_stands c.args.form c.args.key.now before c.args.root levels d.path.items d.page d.leaf.rows d.right tree (c.in_ok-descent.ensures.way honest agrees levels tree) in
+    let same = ap (λ (m : Map). m.pages) (c.descend.ensures.untouched.map image) in
+    true_or_false (c.is_page.ensures.is.1 (has_room (pages_of_map c.descend.new.pages image) (page_count c.descend.new.pages) d.page (c.is_page.ensures.count image) end.some (subst (λ (pages : List (Option Sector)). IsIn pages d.page) (sym same) (end_in c.args.form before d.page d.leaf.rows end)))) c.if-not-is_page.true
+
+pub returns-then-not-is_page-clause-catalog : goal.returns-then-not-is_page-clause-catalog
+returns-then-not-is_page-clause-catalog g c = ap (λ (m : Map). m.catalog) (c.descend.ensures.untouched.map [])
+
+pub returns-in_err-out-clause-catalog : goal.returns-in_err-out-clause-catalog
+returns-in_err-out-clause-catalog g c = c.take_out.ensures.keeps.catalog ∙ ap (λ (m : Map). m.catalog) (c.descend.ensures.untouched.map [])
+
+pub returns-in_err-fate-clause-catalog : goal.returns-in_err-fate-clause-catalog
+returns-in_err-fate-clause-catalog g c = c.fall.ensures.catalog ∙ c.take_out.ensures.keeps.catalog ∙ ap (λ (m : Map). m.catalog) (c.descend.ensures.untouched.map [])
+
+pub returns-in_err-new-clause-catalog : goal.returns-in_err-new-clause-catalog
+returns-in_err-new-clause-catalog g c = c.settle_less.ensures.keeps.catalog ∙ c.fall.ensures.catalog ∙ c.take_out.ensures.keeps.catalog ∙ ap (λ (m : Map). m.catalog) (c.descend.ensures.untouched.map [])
+
+pub returns-clause-catalog : goal.returns-clause-catalog
+returns-clause-catalog g c = c.settle_less.ensures.keeps.catalog ∙ c.fall.ensures.catalog ∙ c.take_out.ensures.keeps.catalog ∙ ap (λ (m : Map). m.catalog) (c.descend.ensures.untouched.map [])
+
+pub returns-in_err-fate-clause-damaged : goal.returns-in_err-fate-clause-damaged
+returns-in_err-fate-clause-damaged g c = λ honest agrees is levels holds.
+    let image = (g.D.Device.state c.args.device.now).disk.present in
+    let before = pages_of_map c.args.pages.now image in
+    let one = pages_of_map c.take_out.new.pages image in
+    let d = c.in_ok-descent.descent in
+    let out = c.in_ok-out.out in
+    let place = c.in-Ok.place in
+    let tree = holds_tree c.args.form before c.args.root levels holds c.if-root-eq0.false in
+    let same = ap (λ (m : Map). m.pages) (c.descend.ensures.untouched.map image) in
+    let taken : TakenOut c.args.form c.args.key.now before one d.page d.leaf place out = record {
+      form_is = c.in_ok-descent.ensures.leaf.0;
+      kind_is = c.in_ok-descent.ensures.leaf.1;
+      low = c.in-Ok.ensures.found.0;
+      here = c.in-Ok.ensures.found.1;
+      finds = c.in-Ok.ensures.around;
+      fares = subst (λ (pages : List (Option Sector)). CanStand pages d.page d.leaf → Fares d.leaf.form Leaf pages one d.page d.leaf.rows (take place d.leaf.rows ++ drop (place + 1) d.leaf.rows) out) same (c.in_ok-out.ensures.pages image);
+    } in
+    let told = rw is at c.from_residual-in_err-fate.ensures.1 in
+    let disk = (g.D.Device.state c.descend.new.device).disk in
+    let raw = c.in_err-fate.ensures.damaged (c.descend.ensures.honest.0 honest) (c.take_out.ensures.keeps.agrees disk (c.descend.ensures.agrees honest agrees)) (cc told) in
+    let never = subst (λ (path : List Turn). NeverFalls c.args.form path one out) c.as_slice.ensures
+    (subst (λ (s : State). NeverFalls c.args.form c.as_slice.result.now (pages_of_map c.take_out.new.pages s.disk.present) out) (c.descend.ensures.state honest) raw) in
+    never_went c.args.form before one c.args.root levels d.path.items d.page d.leaf d.right place c.args.key.now out tree (c.in_ok-descent.ensures.way honest agrees levels tree) taken never
+
+pub returns-in_err-new-clause-damaged : goal.returns-in_err-new-clause-damaged
+returns-in_err-new-clause-damaged g c = λ honest agrees is levels holds.
+    let image = (g.D.Device.state c.args.device.now).disk.present in
+    let before = pages_of_map c.args.pages.now image in
+    let one = pages_of_map c.take_out.new.pages image in
+    let two = pages_of_map c.fall.new.pages image in
+    let d = c.in_ok-descent.descent in
+    let out = c.in_ok-out.out in
+    let fate = c.in_ok-fate.fate in
+    let place = c.in-Ok.place in
+    let tree = holds_tree c.args.form before c.args.root levels holds c.if-root-eq0.false in
+    let same = ap (λ (m : Map). m.pages) (c.descend.ensures.untouched.map image) in
+    let taken : TakenOut c.args.form c.args.key.now before one d.page d.leaf place out = record {
+      form_is = c.in_ok-descent.ensures.leaf.0;
+      kind_is = c.in_ok-descent.ensures.leaf.1;
+      low = c.in-Ok.ensures.found.0;
+      here = c.in-Ok.ensures.found.1;
+      finds = c.in-Ok.ensures.around;
+      fares = subst (λ (pages : List (Option Sector)). CanStand pages d.page d.leaf → Fares d.leaf.form Leaf pages one d.page d.leaf.rows (take place d.leaf.rows ++ drop (place + 1) d.leaf.rows) out) same (c.in_ok-out.ensures.pages image);
+    } in
+    let told = rw is at c.from_residual-in_err-new.ensures.1 in
+    let disk = (g.D.Device.state c.descend.new.device).disk in
+    let raw = c.in_ok-fate.ensures.falls (c.descend.ensures.honest.0 honest) (c.take_out.ensures.keeps.agrees disk (c.descend.ensures.agrees honest agrees)) in
+    let falls = subst (λ (path : List Turn). FallsBy c.args.form path one two out fate) c.as_slice.ensures
+    (subst (λ (s : State). FallsBy c.args.form c.as_slice.result.now (pages_of_map c.take_out.new.pages s.disk.present) (pages_of_map c.fall.new.pages s.disk.present) out fate) (c.descend.ensures.state honest) raw) in
+    never_left c.args.form before one two c.args.root levels d.path.items d.page d.leaf d.right place c.args.key.now out fate tree (c.in_ok-descent.ensures.way honest agrees levels tree) taken falls
+    (c.in_err-new.ensures.damaged (cc told) image c.args.form)
+
+pub returns-clause-removed : goal.returns-clause-removed
+returns-clause-removed g c = λ honest agrees levels holds.
+    let image = (g.D.Device.state c.args.device.now).disk.present in
+    let before = pages_of_map c.args.pages.now image in
+    let one = pages_of_map c.take_out.new.pages image in
+    let two = pages_of_map c.fall.new.pages image in
+    let after = pages_of_map c.settle_less.new.pages image in
+    let d = c.in_ok-descent.descent in
+    let out = c.in_ok-out.out in
+    let fate = c.in_ok-fate.fate in
+    let place = c.in-Ok.place in
+    let tree = holds_tree c.args.form before c.args.root levels holds c.if-root-eq0.false in
+    let same = ap (λ (m : Map). m.pages) (c.descend.ensures.untouched.map image) in
+    let taken : TakenOut c.args.form c.args.key.now before one d.page d.leaf place out = record {
+      form_is = c.in_ok-descent.ensures.leaf.0;
+      kind_is = c.in_ok-descent.ensures.leaf.1;
+      low = c.in-Ok.ensures.found.0;
+      here = c.in-Ok.ensures.found.1;
+      finds = c.in-Ok.ensures.around;
+      fares = subst (λ (pages : List (Option Sector)). CanStand pages d.page d.leaf → Fares d.leaf.form Leaf pages one d.page d.leaf.rows (take place d.leaf.rows ++ drop (place + 1) d.leaf.rows) out) same (c.in_ok-out.ensures.pages image);
+    } in
+    let disk = (g.D.Device.state c.descend.new.device).disk in
+    let raw = c.in_ok-fate.ensures.falls (c.descend.ensures.honest.0 honest) (c.take_out.ensures.keeps.agrees disk (c.descend.ensures.agrees honest agrees)) in
+    let falls = subst (λ (path : List Turn). FallsBy c.args.form path one two out fate) c.as_slice.ensures
+    (subst (λ (s : State). FallsBy c.args.form c.as_slice.result.now (pages_of_map c.take_out.new.pages s.disk.present) (pages_of_map c.fall.new.pages s.disk.present) out fate) (c.descend.ensures.state honest) raw) in
+    went c.args.form before one two after c.args.root c.in_ok-new.new levels d.path.items d.page d.leaf d.right place c.args.key.now out fate tree (c.in_ok-descent.ensures.way honest agrees levels tree) taken falls
+    (c.in_ok-new.ensures.settles image c.args.form)
+
+pub returns-clause-touched : goal.returns-clause-touched
+returns-clause-touched g c = λ honest agrees levels holds.
+    let image = (g.D.Device.state c.args.device.now).disk.present in
+    let before = pages_of_map c.args.pages.now image in
+    let d = c.in_ok-descent.descent in
+    let tree = holds_tree c.args.form before c.args.root levels holds c.if-root-eq0.false in
+    let ends = c.in_ok-descent.ensures.way honest agrees levels tree in
+    let unspent : is_spent c.args.pages.now ≡ false = false_unless (is_spent c.args.pages.now) (λ spent. ok_or_err d Spent (sym c.in_ok-descent.was ∙ c.descend.ensures.spent.1 spent)) in
+    let small = few_pages before (page_count c.args.pages.now) c.page_count-page_count.result (c.page_count-page_count.ensures.pages image) c.page_count-page_count.ensures.count (c.page_count-page_count.ensures.few c.requires.open unspent) in
+    let few : length levels ≤ 20 = few_levels c.args.form before c.args.root levels small tree in
+    few_touched (length (touched_of c.args.pages.now)) (length (touched_of c.descend.new.pages)) (length (touched_of c.take_out.new.pages)) (length (touched_of c.fall.new.pages)) (length (touched_of c.settle_less.new.pages))
+    (spare c.in_ok-out.out) (spare c.in_ok-fate.fate) (length c.as_slice.result.now) (length d.path.items) (length levels)
+    (ap length c.descend.ensures.untouched.touched) c.in_ok-out.ensures.touched c.in_ok-fate.ensures.touched c.in_ok-new.ensures.touched
+    (ap length c.as_slice.ensures) (turns_count c.args.form c.args.key.now levels d.path.items ends.reaches.top ends.reaches.below ends.reaches.leads) few

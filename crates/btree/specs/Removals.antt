@@ -1,0 +1,12 @@
+-- A tree without an entry.
+use Rattle.std.specs.Prelude.{◌≡◌, ℕ, List, Option, Some, None, IsSome}
+use Rattle.station.specs.Disk.{Sector}
+use Rattle.tree_pages.specs.declared.form.TreeForm.{TreeForm}
+use Rattle.btree.specs.Tree.{Part}
+use Rattle.btree.specs.Entries.{entries_of, entry_with, without}
+use Rattle.btree.specs.Changes.{Becomes}
+
+-- after a removal: the root of the tree without the entry of that key, which was there; or none, where it wasn't
+abbrev pub Removes : TreeForm → List (Option Sector) → List (List Part) → List (Option Sector) → List ℕ → Option ℕ → Type 0
+Removes form before old after key None = entry_with (entries_of form old) key ≡ None
+Removes form before old after key (Some root) = IsSome (entry_with (entries_of form old) key) × Becomes form before old after root (without (entries_of form old) key)

@@ -1,0 +1,169 @@
+//! An entry leaves a tree.
+ghost use Rattle.std.specs.Prelude.{◌≡◌, ◌≢◌, ◌≤◌, ◌<◌, ◌+◌, ◌↔◌, Err, Ok, Some, None, true, false, List, length, IfOk, IfErr, OnOk, OnErr};
+ghost use Rattle.station.specs.Disk.{Sector};
+ghost use Rattle.station.specs.Failures.{Blames};
+ghost use Rattle.pages.specs.Pages.{IsOpen, Agrees, SameCommitted, is_spent, catalog_of, sectors_of, touched_of};
+ghost use Rattle.tree_pages.specs.Form.{IsForm};
+ghost use Rattle.btree.specs.Tree.{Part, Holds};
+ghost use Rattle.btree.specs.Entries.{entries_of, entry_with};
+ghost use Rattle.btree.specs.Reading.{Untouched};
+ghost use Rattle.btree.specs.Changes.{pages_of_map, IsIn, Keeps};
+ghost use Rattle.btree.specs.Fates.{spare};
+ghost use Rattle.btree.specs.Falls.{GaveWay, SettlesLess, NeverSettles, GivesWay};
+ghost use Rattle.btree.specs.Removals.{Removes};
+ghost use Rattle.btree.specs.Refusals.{IsRestRefusal, IsChangeRefusal};
+
+use crate::descend::descend;
+use crate::fall::fall;
+use crate::fate::{Child, Fate};
+use crate::put_less::{is_page, take_out};
+use crate::tree::Tree;
+use pages::{PageMap, PagesError};
+use station::Device;
+use std::alloc::Global;
+use tree_pages::{Kind, TreeForm};
+
+/// An inner page with one row gives way to the child that it names.
+fn give_way(pages: &mut PageMap, lone: Child) -> Result<u32, PagesError>
+    requires open { IsOpen pages.old }
+    requires lone { (lone.node.kind ≡ Kind.Inner) × (length lone.node.rows ≡ 1) }
+    ensures gives { IfOk result (λ new. (image : List Sector) → GaveWay (pages_of_map pages.old image) (pages_of_map pages.new image) lone new) }
+    ensures touched { OnOk result (length (touched_of pages.new) ≤ length (touched_of pages.old) + 1) }
+    ensures keeps { Keeps pages.old pages.new }
+    ensures open { IsOpen pages.new }
+    ensures damaged { result ≡ Err PagesError.Damaged → (image : List Sector) → 0 < lone.page → IsIn (pages_of_map pages.old image) lone.page → ⊥ }
+    ensures spent { result ≡ Err PagesError.Spent → is_spent pages.old ≡ true }
+    ensures cause { IfErr result IsRestRefusal }
+{
+    if !is_page(pages, lone.page) {
+        return Err(PagesError::Damaged);
+    }
+    pages.release(lone.page)?;
+    Ok(lone.node.child(0))
+}
+
+/// The page of the root, after what became of the one there was: 0 where it is gone.
+fn settle_less(pages: &mut PageMap, root: u32, fate: Fate) -> Result<u32, PagesError>
+    requires open { IsOpen pages.old }
+    requires one { GivesWay fate }
+    ensures settles { IfOk result (λ new. (image : List Sector) (form : TreeForm) → SettlesLess form root fate (pages_of_map pages.old image) (pages_of_map pages.new image) new) }
+    ensures touched { OnOk result (length (touched_of pages.new) ≤ length (touched_of pages.old) + spare fate) }
+    ensures keeps { Keeps pages.old pages.new }
+    ensures open { IsOpen pages.new }
+    ensures damaged { result ≡ Err PagesError.Damaged → (image : List Sector) (form : TreeForm) → NeverSettles form root fate (pages_of_map pages.old image) }
+    ensures spent { result ≡ Err PagesError.Spent → is_spent pages.old ≡ true }
+    ensures cause { IfErr result IsRestRefusal }
+{
+    match fate {
+        Fate::Kept => Ok(root),
+        Fate::Renamed(_child) => Ok(root),
+        Fate::Gone => Ok(0),
+        Fate::Lone(child) => give_way(pages, child),
+    }
+}
+
+/// Takes the entry of a key out of the tree under a root. The answer is the root's page then, or `None` where the key isn't there, and
+/// then nothing was changed.
+fn remove_entry<D: Device>(
+    alloc: Global,
+    pages: &mut PageMap,
+    device: &mut D,
+    form: TreeForm,
+    root: u32,
+    key: &[u8],
+) -> Result<Option<u32>, PagesError>
+    requires open { IsOpen pages.old }
+    requires sectors { sectors_of pages.old ≤ D.sectors device.old }
+    requires form { IsForm form }
+    ensures honest { D.is_honest device.old ↔ D.is_honest device.new }
+    ensures sectors { D.sectors device.new ≡ D.sectors device.old }
+    ensures failures { Blames (result ≡ Err PagesError.Device) (D.failures device.old) (D.failures device.new) }
+    ensures state { D.is_honest device.old → D.state device.new ≡ D.state device.old }
+    ensures history { D.is_honest device.old → D.history device.new ≡ D.history device.old }
+    ensures removed { D.is_honest device.old → Agrees pages.old (D.state device.old).disk → (levels : List (List Part)) →
+        Holds form (pages_of_map pages.old (D.state device.old).disk.present) root levels →
+        IfOk result (Removes form (pages_of_map pages.old (D.state device.old).disk.present) levels (pages_of_map pages.new (D.state device.old).disk.present) key.now) }
+    ensures damaged { D.is_honest device.old → Agrees pages.old (D.state device.old).disk → result ≡ Err PagesError.Damaged →
+        (levels : List (List Part)) → Holds form (pages_of_map pages.old (D.state device.old).disk.present) root levels → ⊥ }
+    ensures missing { result ≡ Ok None → Untouched pages.old pages.new }
+    ensures touched { D.is_honest device.old → Agrees pages.old (D.state device.old).disk → (levels : List (List Part)) →
+        Holds form (pages_of_map pages.old (D.state device.old).disk.present) root levels → OnOk result (length (touched_of pages.new) ≤ length (touched_of pages.old) + 42) }
+    ensures committed { SameCommitted pages.old pages.new }
+    ensures catalog { catalog_of pages.new ≡ catalog_of pages.old }
+    ensures agrees { D.is_honest device.old → Agrees pages.old (D.state device.old).disk → Agrees pages.new (D.state device.new).disk }
+    ensures open { IsOpen pages.new }
+    ensures spent { result ≡ Err PagesError.Spent ↔ ((is_spent pages.old ≡ true) × (root ≢ 0)) }
+    ensures cause { IfErr result IsChangeRefusal }
+{
+    if root == 0 {
+        return Ok(None);
+    }
+    // How many page numbers there are is needed below.
+    let _page_count = pages.page_count();
+    let descent = descend(alloc, pages, device, form, root, key)?;
+    let place = match descent.leaf.find(key) {
+        Ok(place) => place,
+        Err(_) => return Ok(None),
+    };
+    if !is_page(pages, descent.page) {
+        return Err(PagesError::Damaged);
+    }
+    let out = take_out(pages, descent.page, descent.leaf, place)?;
+    let fate = fall(pages, device, form, descent.path.as_slice(), out)?;
+    let new = settle_less(pages, root, fate)?;
+    Ok(Some(new))
+}
+
+impl Tree {
+    /// Takes the entry of a key out of the tree. `false` tells that there is none, and then nothing was changed. After a refusal the pages
+    /// that aren't committed are given up with the map of pages. `Damaged` tells that the pages under the root are no tree.
+    pub fn remove<D: Device>(
+        &mut self,
+        pages: &mut PageMap,
+        device: &mut D,
+        key: &[u8],
+    ) -> Result<bool, PagesError>
+        requires open { IsOpen pages.old }
+        requires sectors { sectors_of pages.old ≤ D.sectors device.old }
+        ensures honest { D.is_honest device.old ↔ D.is_honest device.new }
+        ensures sectors { D.sectors device.new ≡ D.sectors device.old }
+        ensures failures { Blames (result ≡ Err PagesError.Device) (D.failures device.old) (D.failures device.new) }
+        ensures state { D.is_honest device.old → D.state device.new ≡ D.state device.old }
+        ensures history { D.is_honest device.old → D.history device.new ≡ D.history device.old }
+
+        // The list of entries is without the one of the key, and the pages around the tree stay.
+        ensures removed { D.is_honest device.old → Agrees pages.old (D.state device.old).disk → (levels : List (List Part)) →
+            Holds self.old.form (pages_of_map pages.old (D.state device.old).disk.present) self.old.root levels →
+            result ≡ Ok true → Removes self.old.form (pages_of_map pages.old (D.state device.old).disk.present) levels (pages_of_map pages.new (D.state device.old).disk.present) key.now (Some self.new.root) }
+        ensures missing { D.is_honest device.old → Agrees pages.old (D.state device.old).disk → (levels : List (List Part)) →
+            Holds self.old.form (pages_of_map pages.old (D.state device.old).disk.present) self.old.root levels →
+            result ≡ Ok false → entry_with (entries_of self.old.form levels) key.now ≡ None }
+        ensures same { result ≡ Ok false → Untouched pages.old pages.new × (self.new ≡ self.old) }
+        ensures damaged { D.is_honest device.old → Agrees pages.old (D.state device.old).disk → result ≡ Err PagesError.Damaged →
+            (levels : List (List Part)) → Holds self.old.form (pages_of_map pages.old (D.state device.old).disk.present) self.old.root levels → ⊥ }
+        ensures form { self.new.form ≡ self.old.form }
+
+        // At most so many pages are changed.
+        ensures touched { D.is_honest device.old → Agrees pages.old (D.state device.old).disk → (levels : List (List Part)) →
+            Holds self.old.form (pages_of_map pages.old (D.state device.old).disk.present) self.old.root levels → OnOk result (length (touched_of pages.new) ≤ length (touched_of pages.old) + 42) }
+        ensures committed { SameCommitted pages.old pages.new }
+        ensures catalog { catalog_of pages.new ≡ catalog_of pages.old }
+        ensures agrees { D.is_honest device.old → Agrees pages.old (D.state device.old).disk → Agrees pages.new (D.state device.new).disk }
+        ensures open { IsOpen pages.new }
+        ensures refused { OnErr result (self.new ≡ self.old) }
+        ensures spent { result ≡ Err PagesError.Spent ↔ ((is_spent pages.old ≡ true) × (self.old.root ≢ 0)) }
+        ensures cause { IfErr result IsChangeRefusal }
+    {
+        let alloc = self.alloc;
+        let form = self.form();
+        let top = self.root();
+        let removed = remove_entry(alloc, pages, device, form, top, key)?;
+        match removed {
+            Some(root) => {
+                self.set_root(root);
+                Ok(true)
+            }
+            None => Ok(false),
+        }
+    }
+}
