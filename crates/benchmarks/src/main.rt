@@ -4,6 +4,8 @@
 mod decimals;
 mod sources;
 mod sparse;
+mod tree_volume;
+mod trees;
 mod volumes;
 
 use std::io;
@@ -17,11 +19,12 @@ fn main(rt: HostRuntime) -> io::Result<()> {
             "memory" => sources::measure_memory(&rt)?,
             "decimals" => decimals::measure(&rt)?,
             "volumes" => volumes::measure(&rt)?,
+            "trees" => trees::measure(&rt)?,
             other => println!(rt; "there is no measurement {other}")?,
         }
     }
     if !named {
-        println!(rt; "measurements: sources, memory, decimals, volumes")?;
+        println!(rt; "measurements: sources, memory, decimals, volumes, trees")?;
     }
     Ok(())
 }
