@@ -1,9 +1,34 @@
-//! Calls on a page of a tree, each of which asserts first what `tree_pages` asks of its caller, and a page's bytes by the layout.
+//! Assertions of the rows, as functions; calls on a page of a tree, each of which asserts first what `tree_pages` asks of its caller;
+//! and a page's bytes by the layout.
+//!
+//! A call of an assertion is proved at once. A macro in a test makes a path of its own there, on which everything that the test holds has
+//! to be accounted for.
 ghost use Rattle.std.specs.Prelude.{◌≡◌};
 ghost use Rattle.tree_pages.specs.Form.{rest_length};
 
+use std::fmt::Debug;
 use std::process::Abort;
 use tree_pages::{Kind, TreeForm, TreePage};
+
+/// Asserts that this is so.
+pub fn holds(rt: &impl Abort, fact: bool) {
+    assert!(rt; fact);
+}
+
+/// Asserts that what was told is what is expected.
+pub fn same<T: PartialEq + Debug + Drop>(rt: &impl Abort, told: T, expected: T) {
+    assert_eq!(rt; told, expected);
+}
+
+/// Asserts that what was told in a row is what is expected.
+pub fn same_in<T: PartialEq + Debug + Drop>(
+    rt: &impl Abort,
+    row: &impl Debug,
+    told: T,
+    expected: T,
+) {
+    assert_eq!(rt; told, expected, "{row:?}");
+}
 
 /// The form of these lengths in bytes.
 pub fn form_of(key_length: usize, value_length: usize) -> TreeForm {
@@ -113,6 +138,14 @@ pub fn layout(kind: u8, count: u16, rows: &[u8]) -> [u8; 4096] {
         bytes[16..16 + rows.len()].copy_from_slice(rows);
     }
     bytes
+}
+
+/// Asserts that a page has these bytes by the layout.
+pub fn has_bytes(rt: &impl Abort, page: &TreePage, kind: u8, count: u16, rows: &[u8]) {
+    assert!(rt;
+        page.bytes() == layout(kind, count, rows),
+        "{kind}, {count}, {rows:?}"
+    );
 }
 
 /// A leaf of keys of two bytes and values of three, from rows of five bytes.

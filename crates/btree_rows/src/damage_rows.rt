@@ -1,13 +1,12 @@
 //! Rows of pages that are no tree: each call that meets such a page answers `Damaged`, ends, and changes nothing.
-use crate::asserted::{form_of, layout};
+use crate::asserted::{form_of, layout, same, same_in};
 use crate::entries::{key_bytes, last};
 use crate::planted::{Planted, plant_inner, plant_leaves};
-use crate::volume::{Volume, tree_of};
+use crate::volume::{Volume, tree_of, works};
 use btree::Entry;
 use pages::PagesError;
 use std::alloc::Global;
 use std::process::Abort;
-use std::test::Fail;
 
 // The form of these rows has keys of four bytes and values of three, so that a leaf has room for 582 rows, and an inner page for 510.
 const LEAF_ROOM: u16 = 582;
@@ -17,18 +16,12 @@ const INNER_ROOM: u16 = 510;
 fn is_damaged(rt: &impl Abort, answer: Result<Option<Entry>, PagesError>, asked: &str, row: &str) {
     match answer {
         Ok(_) => panic!(rt; "{asked} of {row} answers"),
-        Err(error) => assert_eq!(rt; error, PagesError::Damaged, "{asked} of {row}"),
+        Err(error) => same_in(rt, &(asked, row), error, PagesError::Damaged),
     }
 }
 
 // Each call answers `Damaged`, for keys below, at and above those of the rows.
-fn refuses(
-    rt: &impl Abort,
-    alloc: Global,
-    volume: &mut Volume,
-    root: u32,
-    row: &str,
-) -> Result<(), Fail> {
+fn refuses(rt: &impl Abort, alloc: Global, volume: &mut Volume, root: u32, row: &str) {
     let tree = tree_of(rt, alloc, form_of(4, 3), root);
     let touched = volume.touched();
     is_damaged(rt, volume.first(rt, &tree), "first", row);
@@ -39,23 +32,21 @@ fn refuses(
         is_damaged(rt, volume.seek(rt, &tree, key), "seek", row);
         is_damaged(rt, volume.next(rt, &tree, key), "next", row);
     }
-    assert_eq!(rt; volume.touched(), touched);
-    Ok(())
+    same(rt, volume.touched(), touched);
 }
 
 // A root that has no page in the map.
 #[test]
-fn no_page(rt: HostRuntime) -> Result<(), Fail> {
-    let mut volume = Volume::empty(&rt, rt.alloc())?;
+fn no_page(rt: HostRuntime) {
+    let mut volume = Volume::empty(&rt, rt.alloc());
     for root in [1, 5, 1023, 1024, 4_294_967_295] {
-        refuses(&rt, rt.alloc(), &mut volume, root, "a root without a page")?;
+        refuses(&rt, rt.alloc(), &mut volume, root, "a root without a page");
     }
-    Ok(())
 }
 
 // A root whose bytes are no page of a tree, or too few rows.
 #[test]
-fn no_page_of_a_tree(rt: HostRuntime) -> Result<(), Fail> {
+fn no_page_of_a_tree(rt: HostRuntime) {
     for (kind, count, row) in [
         (0, 0, "kind 0"),
         (0, 1, "kind 0 with a row"),
@@ -67,105 +58,103 @@ fn no_page_of_a_tree(rt: HostRuntime) -> Result<(), Fail> {
         (2, INNER_ROOM + 1, "an inner page with a row too many"),
         (1, 65_535, "a leaf with far too many rows"),
     ] {
-        let mut volume = Volume::empty(&rt, rt.alloc())?;
-        let root = volume.put(&rt, &layout(kind, count, b"\0\0\0\x0Aabc"))?;
-        refuses(&rt, rt.alloc(), &mut volume, root, row)?;
+        let mut volume = Volume::empty(&rt, rt.alloc());
+        let root = volume.put(&rt, &layout(kind, count, b"\0\0\0\x0Aabc"));
+        refuses(&rt, rt.alloc(), &mut volume, root, row);
     }
-    Ok(())
 }
 
 // An inner page of two children that are the same page.
-fn twice(rt: &impl Abort, volume: &mut Volume, page: u32) -> Result<Planted, Fail> {
+fn twice(rt: &impl Abort, volume: &mut Volume, page: u32) -> Planted {
     let children = [Planted { least: 10, page }, Planted { least: 20, page }];
     plant_inner(rt, volume, form_of(4, 3), &children)
 }
 
 #[test]
-fn one_child(rt: HostRuntime) -> Result<(), Fail> {
+fn one_child(rt: HostRuntime) {
     let form = form_of(4, 3);
-    let mut volume = Volume::empty(&rt, rt.alloc())?;
-    let leaves = plant_leaves(&rt, rt.alloc(), &mut volume, form, &[2])?;
-    let inner = plant_inner(&rt, &mut volume, form, &leaves)?;
+    let mut volume = Volume::empty(&rt, rt.alloc());
+    let leaves = plant_leaves(&rt, rt.alloc(), &mut volume, form, &[2]);
+    let inner = plant_inner(&rt, &mut volume, form, &leaves);
     refuses(
         &rt,
         rt.alloc(),
         &mut volume,
         inner.page,
         "an inner page of one child",
-    )?;
-    let above = twice(&rt, &mut volume, inner.page)?;
-    refuses(&rt, rt.alloc(), &mut volume, above.page, "a page above it")
+    );
+    let above = twice(&rt, &mut volume, inner.page);
+    refuses(&rt, rt.alloc(), &mut volume, above.page, "a page above it");
 }
 
 // Children that have no page in the map: 0, one that isn't used, and ones that the volume doesn't have.
 #[test]
-fn children_without_a_page(rt: HostRuntime) -> Result<(), Fail> {
+fn children_without_a_page(rt: HostRuntime) {
     for child in [0, 900, 1023, 1024, 4_294_967_295] {
-        let mut volume = Volume::empty(&rt, rt.alloc())?;
-        let inner = twice(&rt, &mut volume, child)?;
+        let mut volume = Volume::empty(&rt, rt.alloc());
+        let inner = twice(&rt, &mut volume, child);
         refuses(
             &rt,
             rt.alloc(),
             &mut volume,
             inner.page,
             "a child without a page",
-        )?;
+        );
     }
-    Ok(())
 }
 
 // An inner page that is its own child, and two that are each other's.
 #[test]
-fn children_of_themselves(rt: HostRuntime) -> Result<(), Fail> {
-    let mut volume = Volume::empty(&rt, rt.alloc())?;
-    let own = volume.put(&rt, &[0; 4096])?;
+fn children_of_themselves(rt: HostRuntime) {
+    let mut volume = Volume::empty(&rt, rt.alloc());
+    let own = volume.put(&rt, &[0; 4096]);
     let rows = [
         [0, 0, 0, 10],
         own.to_be_bytes(),
         [0, 0, 0, 20],
         own.to_be_bytes(),
     ];
-    volume.edit(&rt, own, &layout(2, 2, rows.as_flattened()))?;
-    refuses(&rt, rt.alloc(), &mut volume, own, "its own child")?;
-    let above = twice(&rt, &mut volume, own)?;
+    volume.edit(&rt, own, &layout(2, 2, rows.as_flattened()));
+    refuses(&rt, rt.alloc(), &mut volume, own, "its own child");
+    let above = twice(&rt, &mut volume, own);
     let rows = [
         [0, 0, 0, 10],
         above.page.to_be_bytes(),
         [0, 0, 0, 20],
         above.page.to_be_bytes(),
     ];
-    volume.edit(&rt, own, &layout(2, 2, rows.as_flattened()))?;
-    refuses(&rt, rt.alloc(), &mut volume, own, "each other's child")?;
-    volume.commit(&rt)?;
-    let mut again = volume.reopened(&rt, rt.alloc(), 1)?;
+    volume.edit(&rt, own, &layout(2, 2, rows.as_flattened()));
+    refuses(&rt, rt.alloc(), &mut volume, own, "each other's child");
+    works(&rt, volume.commit(&rt));
+    volume.reopen(&rt, rt.alloc(), 1);
     refuses(
         &rt,
         rt.alloc(),
-        &mut again,
+        &mut volume,
         own,
         "each other's child, committed",
-    )
+    );
 }
 
 // 22 inner pages above a leaf: more levels than a tree has.
 #[test]
-fn too_many_levels(rt: HostRuntime) -> Result<(), Fail> {
+fn too_many_levels(rt: HostRuntime) {
     let form = form_of(4, 3);
-    let mut volume = Volume::empty(&rt, rt.alloc())?;
-    let leaves = plant_leaves(&rt, rt.alloc(), &mut volume, form, &[2])?;
+    let mut volume = Volume::empty(&rt, rt.alloc());
+    let leaves = plant_leaves(&rt, rt.alloc(), &mut volume, form, &[2]);
     assert!(rt; leaves.len() == 1);
     let mut page = leaves[0].page;
     for _ in 0..22 {
-        page = twice(&rt, &mut volume, page)?.page;
+        page = twice(&rt, &mut volume, page).page;
     }
-    refuses(&rt, rt.alloc(), &mut volume, page, "22 inner pages")?;
-    volume.commit(&rt)?;
-    let mut again = volume.reopened(&rt, rt.alloc(), 64)?;
+    refuses(&rt, rt.alloc(), &mut volume, page, "22 inner pages");
+    works(&rt, volume.commit(&rt));
+    volume.reopen(&rt, rt.alloc(), 64);
     refuses(
         &rt,
         rt.alloc(),
-        &mut again,
+        &mut volume,
         page,
         "22 inner pages, committed",
-    )
+    );
 }

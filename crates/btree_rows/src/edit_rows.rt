@@ -1,15 +1,14 @@
 //! Rows of searches in a page, and of its changes.
 use crate::asserted::{
-    append, form_of, insert, insert_child, layout, leaf_of, new_page, remove, set_key, set_rest,
-    split_off,
+    append, form_of, has_bytes, holds, insert, insert_child, leaf_of, new_page, remove, same,
+    same_in, set_key, set_rest, split_off,
 };
 use std::process::Abort;
-use std::test::Fail;
 use tree_pages::{Kind, TreeForm, TreePage};
 
 // Below, at, between and above the keys.
 #[test]
-fn places_of_keys(rt: HostRuntime) -> Result<(), Fail> {
+fn places_of_keys(rt: HostRuntime) {
     let leaf = leaf_of(&rt, b"bb111dd222ff333");
     for (key, place) in [
         (b"aa", Err(0)),
@@ -22,11 +21,10 @@ fn places_of_keys(rt: HostRuntime) -> Result<(), Fail> {
         (b"fg", Err(3)),
         (b"zz", Err(3)),
     ] {
-        assert_eq!(rt; leaf.find(key), place, "{key:?}");
+        same_in(&rt, &key, leaf.find(key), place);
     }
     let empty = leaf_of(&rt, b"");
-    assert_eq!(rt; empty.find(b"aa"), Err(0));
-    Ok(())
+    same(&rt, empty.find(b"aa"), Err(0));
 }
 
 // A full leaf of the even numbers from 0 on, in two bytes.
@@ -42,41 +40,40 @@ fn even_numbers(rt: &impl Abort) -> TreePage {
 
 // Keys are compared by their first byte first.
 #[test]
-fn places_in_a_full_page(rt: HostRuntime) -> Result<(), Fail> {
+fn places_in_a_full_page(rt: HostRuntime) {
     let leaf = even_numbers(&rt);
-    assert_eq!(rt; (leaf.count(), leaf.is_full()), (816, true));
-    assert!(rt; leaf.is_ascending());
+    same(&rt, (leaf.count(), leaf.is_full()), (816, true));
+    holds(&rt, leaf.is_ascending());
     for number in 0..816u16 {
         let even = number.wrapping_mul(2);
         let odd = even.wrapping_add(1);
         let place = number as usize;
-        assert_eq!(rt; leaf.find(&even.to_be_bytes()), Ok(place), "{even}");
-        assert_eq!(rt;
+        same_in(&rt, &even, leaf.find(&even.to_be_bytes()), Ok(place));
+        same_in(
+            &rt,
+            &odd,
             leaf.find(&odd.to_be_bytes()),
             Err(place.wrapping_add(1)),
-            "{odd}"
         );
     }
-    Ok(())
 }
 
 #[test]
-fn a_row_removed(rt: HostRuntime) -> Result<(), Fail> {
+fn a_row_removed(rt: HostRuntime) {
     for (place, rows) in [(0, b"bb222cc333"), (1, b"aa111cc333"), (2, b"aa111bb222")] {
         let mut leaf = leaf_of(&rt, b"aa111bb222cc333");
         remove(&rt, &mut leaf, place);
-        assert_eq!(rt; leaf.count(), 2);
-        assert!(rt; leaf.bytes() == layout(1, 2, rows), "{place}");
+        same(&rt, leaf.count(), 2);
+        has_bytes(&rt, &leaf, 1, 2, rows);
     }
     let mut last = leaf_of(&rt, b"aa111");
     remove(&rt, &mut last, 0);
-    assert!(rt; last.bytes() == layout(1, 0, b""));
-    Ok(())
+    has_bytes(&rt, &last, 1, 0, b"");
 }
 
 // Also where the keys don't ascend then.
 #[test]
-fn a_key_replaced(rt: HostRuntime) -> Result<(), Fail> {
+fn a_key_replaced(rt: HostRuntime) {
     for (place, rows) in [
         (0, b"xy111bb222cc333"),
         (1, b"aa111xy222cc333"),
@@ -84,14 +81,13 @@ fn a_key_replaced(rt: HostRuntime) -> Result<(), Fail> {
     ] {
         let mut leaf = leaf_of(&rt, b"aa111bb222cc333");
         set_key(&rt, &mut leaf, place, b"xy");
-        assert!(rt; leaf.bytes() == layout(1, 3, rows), "{place}");
-        assert_eq!(rt; leaf.is_ascending(), place == 2, "{place}");
+        has_bytes(&rt, &leaf, 1, 3, rows);
+        same_in(&rt, &place, leaf.is_ascending(), place == 2);
     }
-    Ok(())
 }
 
 #[test]
-fn a_rest_replaced(rt: HostRuntime) -> Result<(), Fail> {
+fn a_rest_replaced(rt: HostRuntime) {
     for (place, rows) in [
         (0, b"aaxyzbb222cc333"),
         (1, b"aa111bbxyzcc333"),
@@ -99,45 +95,43 @@ fn a_rest_replaced(rt: HostRuntime) -> Result<(), Fail> {
     ] {
         let mut leaf = leaf_of(&rt, b"aa111bb222cc333");
         set_rest(&rt, &mut leaf, place, b"xyz");
-        assert!(rt; leaf.bytes() == layout(1, 3, rows), "{place}");
+        has_bytes(&rt, &leaf, 1, 3, rows);
     }
     let mut page = new_page(&rt, form_of(2, 3), Kind::Inner);
     insert_child(&rt, &mut page, 0, b"aa", 7);
     set_rest(&rt, &mut page, 0, &[1, 2, 3, 4]);
-    assert!(rt; page.bytes() == layout(2, 1, b"aa\x01\x02\x03\x04"));
-    Ok(())
+    has_bytes(&rt, &page, 2, 1, b"aa\x01\x02\x03\x04");
 }
 
 // The rows from a place on leave the page, and come back behind the last one.
 #[test]
-fn a_page_split_and_joined(rt: HostRuntime) -> Result<(), Fail> {
+fn a_page_split_and_joined(rt: HostRuntime) {
     let rows = b"aa111bb222cc333";
     for (place, left, right) in [(0, 0, 3), (1, 1, 2), (2, 2, 1), (3, 3, 0)] {
         let mut leaf = leaf_of(&rt, rows);
         let behind = split_off(&rt, &mut leaf, place);
         let (first, second) = rows.split_at(place * 5);
-        assert!(rt; leaf.bytes() == layout(1, left, first), "{place}");
-        assert!(rt; behind.bytes() == layout(1, right, second), "{place}");
+        has_bytes(&rt, &leaf, 1, left, first);
+        has_bytes(&rt, &behind, 1, right, second);
         append(&rt, &mut leaf, &behind);
-        assert!(rt; leaf.bytes() == layout(1, 3, rows), "{place}");
+        has_bytes(&rt, &leaf, 1, 3, rows);
     }
-    Ok(())
 }
 
 // A full page in two halves, put together the other way round.
 #[test]
-fn halves_of_a_full_page(rt: HostRuntime) -> Result<(), Fail> {
+fn halves_of_a_full_page(rt: HostRuntime) {
     let mut leaf = even_numbers(&rt);
     let mut behind = split_off(&rt, &mut leaf, 408);
-    assert_eq!(rt; (leaf.count(), behind.count()), (408, 408));
-    assert_eq!(rt;
+    same(&rt, (leaf.count(), behind.count()), (408, 408));
+    same(
+        &rt,
         (leaf.find(&[3, 46]), behind.find(&[3, 48])),
-        (Ok(407), Ok(0))
+        (Ok(407), Ok(0)),
     );
     append(&rt, &mut behind, &leaf);
-    assert_eq!(rt; (behind.count(), behind.is_full()), (816, true));
-    assert!(rt; !behind.is_ascending());
-    Ok(())
+    same(&rt, (behind.count(), behind.is_full()), (816, true));
+    holds(&rt, !behind.is_ascending());
 }
 
 // How many rows a page takes until it is full.
@@ -160,7 +154,7 @@ fn rows_until_full(rt: &impl Abort, form: TreeForm, kind: Kind) -> usize {
 }
 
 #[test]
-fn full_pages(rt: HostRuntime) -> Result<(), Fail> {
+fn full_pages(rt: HostRuntime) {
     for (form, kind, rows) in [
         (form_of(1, 0), Kind::Leaf, 4080),
         (form_of(1, 0), Kind::Inner, 816),
@@ -171,13 +165,12 @@ fn full_pages(rt: HostRuntime) -> Result<(), Fail> {
         (form_of(1356, 4), Kind::Inner, 3),
     ] {
         let told = rows_until_full(&rt, form, kind);
-        assert_eq!(rt; told, rows, "{form:?}, {kind:?}");
+        same_in(&rt, &(form, kind), told, rows);
     }
-    Ok(())
 }
 
 #[test]
-fn pages_whose_keys_ascend(rt: HostRuntime) -> Result<(), Fail> {
+fn pages_whose_keys_ascend(rt: HostRuntime) {
     let (none, one) = (b"", b"aa111");
     let (two, equal) = (b"aa222bb111", b"aa111aa222");
     let (fallen, late) = (b"bb111aa222", b"aa111bb222cc333cc444");
@@ -190,7 +183,6 @@ fn pages_whose_keys_ascend(rt: HostRuntime) -> Result<(), Fail> {
         (late.as_slice(), false),
     ] {
         let leaf = leaf_of(&rt, rows);
-        assert_eq!(rt; leaf.is_ascending(), ascending, "{rows:?}");
+        same_in(&rt, &rows, leaf.is_ascending(), ascending);
     }
-    Ok(())
 }

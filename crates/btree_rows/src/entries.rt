@@ -1,4 +1,5 @@
 //! Entries by their number: its key, and its value. The entries of a tree of these rows are 10, 20, 30 and so on.
+use crate::asserted::same_in;
 use btree::Entry;
 use std::process::Abort;
 use tree_pages::TreeForm;
@@ -38,13 +39,17 @@ pub fn is_entry(
         (Some(entry), Some(told)) => {
             let key = key_bytes(told);
             let value = value_bytes(told);
-            assert!(rt;
-                entry.key() == last(rt, &key, form.key_length),
-                "{asked} {number}"
+            same_in(
+                rt,
+                &(asked, number),
+                entry.key(),
+                last(rt, &key, form.key_length),
             );
-            assert!(rt;
-                entry.value() == last(rt, &value, form.value_length),
-                "{asked} {number}"
+            same_in(
+                rt,
+                &(asked, number),
+                entry.value(),
+                last(rt, &value, form.value_length),
             );
         }
         (None, Some(_)) => panic!(rt; "{asked} {number}: none"),

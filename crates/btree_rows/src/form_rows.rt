@@ -1,11 +1,10 @@
 //! Rows of forms: which are possible, how long their rows are, and how many fit.
-use crate::asserted::form_of;
-use std::test::Fail;
+use crate::asserted::{form_of, same, same_in};
 use tree_pages::{Kind, MOST_ROW_BYTES, ROW_BYTES};
 
 // Three rows of either kind fit into 4,080 bytes: a leaf's row has 1,360 at most, and so has a key with 4 bytes.
 #[test]
-fn possible_forms(rt: HostRuntime) -> Result<(), Fail> {
+fn possible_forms(rt: HostRuntime) {
     for (key_length, value_length, possible) in [
         (0, 0, false),
         (0, 1360, false),
@@ -28,14 +27,13 @@ fn possible_forms(rt: HostRuntime) -> Result<(), Fail> {
         (usize::MAX, usize::MAX, false),
     ] {
         let told = form_of(key_length, value_length).is_possible();
-        assert_eq!(rt; told, possible, "{key_length}, {value_length}");
+        same_in(&rt, &(key_length, value_length), told, possible);
     }
-    Ok(())
 }
 
 // The bytes of a row and the rows of a page, of leaves and of inner pages.
 #[test]
-fn rows_that_fit(rt: HostRuntime) -> Result<(), Fail> {
+fn rows_that_fit(rt: HostRuntime) {
     for (key_length, value_length, leaf, inner) in [
         (1, 0, (1, 4080), (5, 816)),
         (1, 1060, (1061, 3), (5, 816)),
@@ -50,15 +48,13 @@ fn rows_that_fit(rt: HostRuntime) -> Result<(), Fail> {
         let form = form_of(key_length, value_length);
         assert!(rt; form.is_possible());
         let leaves = (form.row_length(Kind::Leaf), form.capacity(Kind::Leaf));
-        assert_eq!(rt; leaves, leaf, "{key_length}, {value_length}");
+        same_in(&rt, &(key_length, value_length), leaves, leaf);
         let inners = (form.row_length(Kind::Inner), form.capacity(Kind::Inner));
-        assert_eq!(rt; inners, inner, "{key_length}, {value_length}");
+        same_in(&rt, &(key_length, value_length), inners, inner);
     }
-    Ok(())
 }
 
 #[test]
-fn bytes_for_rows(rt: HostRuntime) -> Result<(), Fail> {
-    assert_eq!(rt; (ROW_BYTES, MOST_ROW_BYTES), (4080, 1360));
-    Ok(())
+fn bytes_for_rows(rt: HostRuntime) {
+    same(&rt, (ROW_BYTES, MOST_ROW_BYTES), (4080, 1360));
 }

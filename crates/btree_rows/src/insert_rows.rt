@@ -1,12 +1,11 @@
 //! Rows of new entries and new values: trees that grow in several orders, with commits on the way, and what is read of them then.
-use crate::asserted::form_of;
+use crate::asserted::{form_of, holds, same, same_in};
 use crate::entries::{is_entry, key_bytes, last, value_bytes};
 use crate::reading_rows::{reads, walks};
-use crate::volume::{Volume, tree_of};
+use crate::volume::{Volume, found, tree_of, works};
 use btree::Tree;
 use std::alloc::Global;
 use std::process::Abort;
-use std::test::Fail;
 use tree_pages::TreeForm;
 
 /// The order in which entries come.
@@ -42,13 +41,13 @@ fn insert(
     tree: &mut Tree,
     number: u32,
     value_of: u32,
-) -> Result<bool, Fail> {
+) -> bool {
     let form = tree.form();
     let key = key_bytes(number);
     let value = value_bytes(value_of);
     let key = last(rt, &key, form.key_length);
     let value = last(rt, &value, form.value_length);
-    Ok(volume.insert(rt, tree, key, value)?)
+    volume.insert(rt, tree, key, value)
 }
 
 // Gives the entry of a number the value of another number.
@@ -58,13 +57,13 @@ fn replace(
     tree: &mut Tree,
     number: u32,
     value_of: u32,
-) -> Result<bool, Fail> {
+) -> bool {
     let form = tree.form();
     let key = key_bytes(number);
     let value = value_bytes(value_of);
     let key = last(rt, &key, form.key_length);
     let value = last(rt, &value, form.value_length);
-    Ok(volume.replace(rt, tree, key, value)?)
+    volume.replace(rt, tree, key, value)
 }
 
 // A tree into which so many entries came in an order, with a commit after each hundred.
@@ -75,50 +74,53 @@ fn grown(
     form: TreeForm,
     order: Order,
     entries: u32,
-) -> Result<Tree, Fail> {
+) -> Tree {
     let mut tree = tree_of(rt, alloc, form, 0);
     for step in 0..entries {
         let number = number_at(order, step, entries);
-        assert!(rt; insert(rt, volume, &mut tree, number, number)?, "{number}");
+        same_in(
+            rt,
+            &number,
+            insert(rt, volume, &mut tree, number, number),
+            true,
+        );
         if step % 100 == 99 {
-            volume.commit(rt)?;
+            works(rt, volume.commit(rt));
         }
     }
-    volume.commit(rt)?;
-    Ok(tree)
+    works(rt, volume.commit(rt));
+    tree
 }
 
 // Leaves of 39 rows of 104 bytes. What was committed is there once the volume is opened again.
 #[test]
-fn five_thousand_entries(rt: HostRuntime) -> Result<(), Fail> {
+fn five_thousand_entries(rt: HostRuntime) {
     for order in [Order::Ascending, Order::Descending, Order::Alternating] {
-        let mut volume = Volume::empty(&rt, rt.alloc())?;
+        let mut volume = Volume::empty(&rt, rt.alloc());
         let form = form_of(4, 100);
-        let tree = grown(&rt, rt.alloc(), &mut volume, form, order, 5000)?;
-        walks(&rt, &mut volume, &tree, 5000)?;
-        let mut again = volume.reopened(&rt, rt.alloc(), 64)?;
-        walks(&rt, &mut again, &tree, 5000)?;
+        let tree = grown(&rt, rt.alloc(), &mut volume, form, order, 5000);
+        walks(&rt, &mut volume, &tree, 5000);
+        volume.reopen(&rt, rt.alloc(), 64);
+        walks(&rt, &mut volume, &tree, 5000);
     }
-    Ok(())
 }
 
 // Leaves of 3 rows and inner pages of 39, so trees of three levels; each number is asked for.
 #[test]
-fn trees_of_three_levels(rt: HostRuntime) -> Result<(), Fail> {
+fn trees_of_three_levels(rt: HostRuntime) {
     for order in [Order::Ascending, Order::Descending, Order::Alternating] {
-        let mut volume = Volume::empty(&rt, rt.alloc())?;
+        let mut volume = Volume::empty(&rt, rt.alloc());
         let form = form_of(100, 1060);
-        let tree = grown(&rt, rt.alloc(), &mut volume, form, order, 240)?;
-        reads(&rt, &mut volume, &tree, 240)?;
+        let tree = grown(&rt, rt.alloc(), &mut volume, form, order, 240);
+        reads(&rt, &mut volume, &tree, 240);
     }
-    Ok(())
 }
 
 // Ascending entries leave full leaves: 5,000 rows of 104 bytes take 129 leaves, and a root above them. With their map sector and the
 // two roots of the volume 891 sectors of 1,024 are free.
 #[test]
-fn full_leaves(rt: HostRuntime) -> Result<(), Fail> {
-    let mut volume = Volume::empty(&rt, rt.alloc())?;
+fn full_leaves(rt: HostRuntime) {
+    let mut volume = Volume::empty(&rt, rt.alloc());
     grown(
         &rt,
         rt.alloc(),
@@ -126,46 +128,44 @@ fn full_leaves(rt: HostRuntime) -> Result<(), Fail> {
         form_of(4, 100),
         Order::Ascending,
         5000,
-    )?;
-    assert_eq!(rt; volume.free_sectors(), 891);
-    Ok(())
+    );
+    same(&rt, volume.free_sectors(), 891);
 }
 
 // A key that is there isn't inserted again, and keeps its value; a key that isn't there gets no value.
 #[test]
-fn keys_that_are_there(rt: HostRuntime) -> Result<(), Fail> {
-    let mut volume = Volume::empty(&rt, rt.alloc())?;
+fn keys_that_are_there(rt: HostRuntime) {
+    let mut volume = Volume::empty(&rt, rt.alloc());
     let form = form_of(4, 100);
-    let mut tree = grown(&rt, rt.alloc(), &mut volume, form, Order::Alternating, 200)?;
-    assert!(rt; !insert(&rt, &mut volume, &mut tree, 70, 80)?);
-    assert!(rt; !replace(&rt, &mut volume, &mut tree, 75, 80)?);
-    assert_eq!(rt; volume.touched(), 0);
-    reads(&rt, &mut volume, &tree, 200)?;
-    assert!(rt; replace(&rt, &mut volume, &mut tree, 70, 80)?);
-    assert_eq!(rt; volume.touched(), 1);
+    let mut tree = grown(&rt, rt.alloc(), &mut volume, form, Order::Alternating, 200);
+    holds(&rt, !insert(&rt, &mut volume, &mut tree, 70, 80));
+    holds(&rt, !replace(&rt, &mut volume, &mut tree, 75, 80));
+    same(&rt, volume.touched(), 0);
+    reads(&rt, &mut volume, &tree, 200);
+    holds(&rt, replace(&rt, &mut volume, &mut tree, 70, 80));
+    same(&rt, volume.touched(), 1);
     let key = key_bytes(70);
-    let found = volume.get(&rt, &tree, last(&rt, &key, 4))?;
-    match found {
-        Some(entry) => assert!(rt; entry.value() == last(&rt, &value_bytes(80), 100)),
+    let replaced = found(&rt, volume.get(&rt, &tree, last(&rt, &key, 4)));
+    match replaced {
+        Some(entry) => same(&rt, entry.value(), last(&rt, &value_bytes(80), 100)),
         None => panic!(rt; "none"),
     }
-    assert!(rt; replace(&rt, &mut volume, &mut tree, 70, 70)?);
-    reads(&rt, &mut volume, &tree, 200)
+    holds(&rt, replace(&rt, &mut volume, &mut tree, 70, 70));
+    reads(&rt, &mut volume, &tree, 200);
 }
 
 // A tree without entries, of keys and values of few bytes and of many.
 #[test]
-fn the_first_entry(rt: HostRuntime) -> Result<(), Fail> {
+fn the_first_entry(rt: HostRuntime) {
     for (key_length, value_length) in [(1, 0), (4, 3), (100, 1060)] {
-        let mut volume = Volume::empty(&rt, rt.alloc())?;
+        let mut volume = Volume::empty(&rt, rt.alloc());
         let form = form_of(key_length, value_length);
         let mut tree = tree_of(&rt, rt.alloc(), form, 0);
-        assert!(rt; !replace(&rt, &mut volume, &mut tree, 10, 10)?);
-        assert!(rt; insert(&rt, &mut volume, &mut tree, 10, 10)?);
-        assert!(rt; tree.root() != 0);
-        assert_eq!(rt; volume.touched(), 1);
-        let found = volume.first(&rt, &tree)?;
-        is_entry(&rt, form, found, Some(10), "first", 10);
+        holds(&rt, !replace(&rt, &mut volume, &mut tree, 10, 10));
+        holds(&rt, insert(&rt, &mut volume, &mut tree, 10, 10));
+        holds(&rt, tree.root() != 0);
+        same(&rt, volume.touched(), 1);
+        let first = found(&rt, volume.first(&rt, &tree));
+        is_entry(&rt, form, first, Some(10), "first", 10);
     }
-    Ok(())
 }

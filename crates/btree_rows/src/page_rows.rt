@@ -1,42 +1,40 @@
 //! Rows of a page's bytes, and of what is read from them.
 use crate::asserted::{
-    child, form_of, has_row, insert, insert_child, layout, leaf_of, new_page, read_page,
+    child, form_of, has_bytes, has_row, insert, insert_child, layout, leaf_of, new_page, read_page,
+    same, same_in,
 };
-use std::test::Fail;
 use tree_pages::Kind;
 
 // Three rows that come in mixed order of places.
 #[test]
-fn bytes_of_a_leaf(rt: HostRuntime) -> Result<(), Fail> {
+fn bytes_of_a_leaf(rt: HostRuntime) {
     let mut leaf = new_page(&rt, form_of(2, 3), Kind::Leaf);
-    assert!(rt; leaf.bytes() == layout(1, 0, b""));
+    has_bytes(&rt, &leaf, 1, 0, b"");
     insert(&rt, &mut leaf, 0, b"cc", b"333");
-    assert!(rt; leaf.bytes() == layout(1, 1, b"cc333"));
+    has_bytes(&rt, &leaf, 1, 1, b"cc333");
     insert(&rt, &mut leaf, 0, b"aa", b"111");
-    assert!(rt; leaf.bytes() == layout(1, 2, b"aa111cc333"));
+    has_bytes(&rt, &leaf, 1, 2, b"aa111cc333");
     insert(&rt, &mut leaf, 1, b"bb", b"222");
-    assert!(rt; leaf.bytes() == layout(1, 3, b"aa111bb222cc333"));
-    Ok(())
+    has_bytes(&rt, &leaf, 1, 3, b"aa111bb222cc333");
 }
 
 #[test]
-fn bytes_of_an_inner_page(rt: HostRuntime) -> Result<(), Fail> {
+fn bytes_of_an_inner_page(rt: HostRuntime) {
     let mut page = new_page(&rt, form_of(2, 3), Kind::Inner);
-    assert!(rt; page.bytes() == layout(2, 0, b""));
+    has_bytes(&rt, &page, 2, 0, b"");
     insert_child(&rt, &mut page, 0, b"mm", 0x0102_0304);
     insert_child(&rt, &mut page, 0, b"aa", 7);
     insert(&rt, &mut page, 2, b"zz", &[255, 255, 255, 255]);
     let rows = b"aa\x00\x00\x00\x07mm\x01\x02\x03\x04zz\xFF\xFF\xFF\xFF";
-    assert!(rt; page.bytes() == layout(2, 3, rows));
+    has_bytes(&rt, &page, 2, 3, rows);
     for (place, number) in [(0, 7), (1, 0x0102_0304), (2, 4_294_967_295)] {
-        assert_eq!(rt; child(&rt, &page, place), number);
+        same(&rt, child(&rt, &page, place), number);
     }
-    Ok(())
 }
 
 // What stands in a page's bytes is read back, whatever stands in those that no reader looks at.
 #[test]
-fn a_leaf_read_back(rt: HostRuntime) -> Result<(), Fail> {
+fn a_leaf_read_back(rt: HostRuntime) {
     let plain = leaf_of(&rt, b"aa111bb222cc333").bytes();
     let mut marked = plain;
     marked[1] = 9;
@@ -46,18 +44,17 @@ fn a_leaf_read_back(rt: HostRuntime) -> Result<(), Fail> {
         let Some(leaf) = read_page(&rt, bytes, form_of(2, 3)) else {
             panic!(rt; "it is a page");
         };
-        assert_eq!(rt; (leaf.count(), leaf.kind()), (3, Kind::Leaf));
-        assert_eq!(rt; leaf.form(), form_of(2, 3));
+        same(&rt, (leaf.count(), leaf.kind()), (3, Kind::Leaf));
+        same(&rt, leaf.form(), form_of(2, 3));
         has_row(&rt, &leaf, 0, b"aa", b"111");
         has_row(&rt, &leaf, 1, b"bb", b"222");
         has_row(&rt, &leaf, 2, b"cc", b"333");
     }
-    Ok(())
 }
 
 // The kind is 1 or 2, and the rows fit: 4,080 divided by a row's length, cut down.
 #[test]
-fn bytes_that_are_a_page(rt: HostRuntime) -> Result<(), Fail> {
+fn bytes_that_are_a_page(rt: HostRuntime) {
     for (form, kind, count, rows) in [
         (form_of(2, 3), 0, 0, None),
         (form_of(2, 3), 0, 1, None),
@@ -87,7 +84,6 @@ fn bytes_that_are_a_page(rt: HostRuntime) -> Result<(), Fail> {
     ] {
         let read = read_page(&rt, layout(kind, count, b""), form);
         let told = read.map(|page| page.count());
-        assert_eq!(rt; told, rows, "{form:?}, {kind}, {count}");
+        same_in(&rt, &(form, kind, count), told, rows);
     }
-    Ok(())
 }

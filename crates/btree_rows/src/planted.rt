@@ -4,7 +4,6 @@ use crate::entries::{key_bytes, last, value_bytes};
 use crate::volume::Volume;
 use std::alloc::Global;
 use std::process::Abort;
-use std::test::Fail;
 use tree_pages::{Kind, TreeForm};
 
 /// A page of a tree, and the number of the least key below it.
@@ -21,7 +20,7 @@ fn plant_leaf(
     form: TreeForm,
     before: u32,
     count: u32,
-) -> Result<Planted, Fail> {
+) -> Planted {
     let mut leaf = new_page(rt, form, Kind::Leaf);
     for place in 0..count {
         let number = before.wrapping_add(place).wrapping_add(1).wrapping_mul(10);
@@ -35,10 +34,10 @@ fn plant_leaf(
             last(rt, &value, form.value_length),
         );
     }
-    Ok(Planted {
+    Planted {
         least: before.wrapping_add(1).wrapping_mul(10),
-        page: volume.put(rt, &leaf.bytes())?,
-    })
+        page: volume.put(rt, &leaf.bytes()),
+    }
 }
 
 /// Puts leaves on pages, each of so many entries.
@@ -48,14 +47,15 @@ pub fn plant_leaves(
     volume: &mut Volume,
     form: TreeForm,
     counts: &[u32],
-) -> Result<Vec<Planted>, Fail> {
+) -> Vec<Planted> {
     let mut level = Vec::new(alloc);
     let mut before = 0u32;
     for count in counts.iter() {
-        level.push(plant_leaf(rt, volume, form, before, *count)?)?;
+        let leaf = plant_leaf(rt, volume, form, before, *count);
+        assert!(rt; level.push(leaf).is_ok());
         before = before.wrapping_add(*count);
     }
-    Ok(level)
+    level
 }
 
 /// Puts an inner page with these children on a page.
@@ -64,7 +64,7 @@ pub fn plant_inner(
     volume: &mut Volume,
     form: TreeForm,
     children: &[Planted],
-) -> Result<Planted, Fail> {
+) -> Planted {
     let mut page = new_page(rt, form, Kind::Inner);
     for child in children.iter() {
         let key = key_bytes(child.least);
@@ -78,10 +78,10 @@ pub fn plant_inner(
         );
     }
     assert!(rt; !children.is_empty());
-    Ok(Planted {
+    Planted {
         least: children[0].least,
-        page: volume.put(rt, &page.bytes())?,
-    })
+        page: volume.put(rt, &page.bytes()),
+    }
 }
 
 /// Puts the level above another one on pages, each with so many children.
@@ -92,17 +92,18 @@ fn plant_level(
     form: TreeForm,
     below: &[Planted],
     counts: &[u32],
-) -> Result<Vec<Planted>, Fail> {
+) -> Vec<Planted> {
     let mut level = Vec::new(alloc);
     let mut rest = below;
     for count in counts.iter() {
         assert!(rt; *count as usize <= rest.len());
         let (children, behind) = rest.split_at(*count as usize);
-        level.push(plant_inner(rt, volume, form, children)?)?;
+        let page = plant_inner(rt, volume, form, children);
+        assert!(rt; level.push(page).is_ok());
         rest = behind;
     }
     assert!(rt; rest.is_empty());
-    Ok(level)
+    level
 }
 
 /// Puts a tree on pages: how many rows each page has, level by level, the leaves first. The answer is its root's page.
@@ -113,11 +114,11 @@ pub fn plant(
     form: TreeForm,
     leaves: &[u32],
     inner: &[&[u32]],
-) -> Result<u32, Fail> {
-    let mut level = plant_leaves(rt, alloc, volume, form, leaves)?;
+) -> u32 {
+    let mut level = plant_leaves(rt, alloc, volume, form, leaves);
     for counts in inner.iter() {
-        level = plant_level(rt, alloc, volume, form, &level, counts)?;
+        level = plant_level(rt, alloc, volume, form, &level, counts);
     }
     assert!(rt; level.len() == 1);
-    Ok(level[0].page)
+    level[0].page
 }

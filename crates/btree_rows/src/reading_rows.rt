@@ -1,13 +1,12 @@
 //! Rows of what is read of a tree: each number from 0 to behind the last entry, for each call, before a commit, after it, and with
 //! the volume opened again.
-use crate::asserted::form_of;
+use crate::asserted::{form_of, same};
 use crate::entries::{is_entry, key_bytes, last};
 use crate::planted::plant;
-use crate::volume::{Volume, tree_of};
+use crate::volume::{Volume, found, tree_of, works};
 use btree::Tree;
 use std::alloc::Global;
 use std::process::Abort;
-use std::test::Fail;
 use tree_pages::TreeForm;
 
 // The first entry from a number on, of so many entries.
@@ -23,31 +22,24 @@ fn from_on(number: u32, entries: u32) -> Option<u32> {
 // The entry of a number, of so many entries.
 fn with(number: u32, entries: u32) -> Option<u32> {
     if number % 10 == 0 {
-        from_on(number, entries).filter(|found| *found == number)
+        from_on(number, entries).filter(|least| *least == number)
     } else {
         None
     }
 }
 
 // Asks for a number by each call that takes a key.
-fn asks(
-    rt: &impl Abort,
-    volume: &mut Volume,
-    tree: &Tree,
-    number: u32,
-    entries: u32,
-) -> Result<(), Fail> {
+fn asks(rt: &impl Abort, volume: &mut Volume, tree: &Tree, number: u32, entries: u32) {
     let form = tree.form();
     let bytes = key_bytes(number);
     let key = last(rt, &bytes, form.key_length);
-    let got = volume.get(rt, tree, key)?;
+    let got = found(rt, volume.get(rt, tree, key));
     is_entry(rt, form, got, with(number, entries), "get", number);
-    let sought = volume.seek(rt, tree, key)?;
+    let sought = found(rt, volume.seek(rt, tree, key));
     is_entry(rt, form, sought, from_on(number, entries), "seek", number);
-    let following = volume.next(rt, tree, key)?;
+    let following = found(rt, volume.next(rt, tree, key));
     let after = from_on(number.wrapping_add(1), entries);
     is_entry(rt, form, following, after, "next", number);
-    Ok(())
 }
 
 // Asks for each number from one on, up to but without the end.
@@ -58,32 +50,30 @@ fn asks_each(
     first: u32,
     end: u32,
     entries: u32,
-) -> Result<(), Fail> {
+) {
     for number in first..end {
-        asks(rt, volume, tree, number, entries)?;
+        asks(rt, volume, tree, number, entries);
     }
-    Ok(())
 }
 
 // Goes from the first entry to behind the last, each time by the key of the entry that was answered.
-pub fn walks(rt: &impl Abort, volume: &mut Volume, tree: &Tree, entries: u32) -> Result<(), Fail> {
-    let mut entry = volume.first(rt, tree)?;
+pub fn walks(rt: &impl Abort, volume: &mut Volume, tree: &Tree, entries: u32) {
+    let mut entry = found(rt, volume.first(rt, tree));
     for step in 0..entries {
         let number = step.wrapping_add(1).wrapping_mul(10);
-        let Some(found) = entry else {
+        let Some(now) = entry else {
             panic!(rt; "none in place of {number}");
         };
-        entry = volume.next(rt, tree, found.key())?;
-        is_entry(rt, tree.form(), Some(found), Some(number), "walk", number);
+        entry = found(rt, volume.next(rt, tree, now.key()));
+        is_entry(rt, tree.form(), Some(now), Some(number), "walk", number);
     }
     assert!(rt; entry.is_none(), "one behind the last");
-    Ok(())
 }
 
-pub fn reads(rt: &impl Abort, volume: &mut Volume, tree: &Tree, entries: u32) -> Result<(), Fail> {
+pub fn reads(rt: &impl Abort, volume: &mut Volume, tree: &Tree, entries: u32) {
     let end = entries.wrapping_mul(10).wrapping_add(15);
-    asks_each(rt, volume, tree, 0, end, entries)?;
-    walks(rt, volume, tree, entries)
+    asks_each(rt, volume, tree, 0, end, entries);
+    walks(rt, volume, tree, entries);
 }
 
 // Plants a tree and reads it, on its way to the disk and back.
@@ -94,63 +84,60 @@ fn plants(
     leaves: &[u32],
     inner: &[&[u32]],
     entries: u32,
-) -> Result<(), Fail> {
-    let mut volume = Volume::empty(rt, alloc)?;
-    let root = plant(rt, alloc, &mut volume, form, leaves, inner)?;
+) {
+    let mut volume = Volume::empty(rt, alloc);
+    let root = plant(rt, alloc, &mut volume, form, leaves, inner);
     let tree = tree_of(rt, alloc, form, root);
-    assert_eq!(rt; (tree.form(), tree.root()), (form, root));
-    reads(rt, &mut volume, &tree, entries)?;
-    volume.commit(rt)?;
-    reads(rt, &mut volume, &tree, entries)?;
-    let mut small = volume.reopened(rt, alloc, 1)?;
-    reads(rt, &mut small, &tree, entries)?;
-    let mut large = small.reopened(rt, alloc, 64)?;
-    reads(rt, &mut large, &tree, entries)
+    same(rt, (tree.form(), tree.root()), (form, root));
+    reads(rt, &mut volume, &tree, entries);
+    works(rt, volume.commit(rt));
+    reads(rt, &mut volume, &tree, entries);
+    volume.reopen(rt, alloc, 1);
+    reads(rt, &mut volume, &tree, entries);
+    volume.reopen(rt, alloc, 64);
+    reads(rt, &mut volume, &tree, entries);
 }
 
 // The lengths of keys and values.
 const FORMS: [(usize, usize); 6] = [(4, 3), (4, 0), (1, 0), (1, 1060), (100, 0), (100, 1060)];
 
 #[test]
-fn one_leaf(rt: HostRuntime) -> Result<(), Fail> {
+fn one_leaf(rt: HostRuntime) {
     for (key_length, value_length) in FORMS {
         let form = form_of(key_length, value_length);
         for entries in [1, 2, 3] {
-            plants(&rt, rt.alloc(), form, &[entries], &[], entries)?;
+            plants(&rt, rt.alloc(), form, &[entries], &[], entries);
         }
     }
-    Ok(())
 }
 
 #[test]
-fn two_levels(rt: HostRuntime) -> Result<(), Fail> {
+fn two_levels(rt: HostRuntime) {
     let (two, three) = ([2], [3]);
     for (key_length, value_length) in FORMS {
         let form = form_of(key_length, value_length);
         let upper = [two.as_slice()];
-        plants(&rt, rt.alloc(), form, &[1, 1], &upper, 2)?;
-        plants(&rt, rt.alloc(), form, &[3, 2], &upper, 5)?;
+        plants(&rt, rt.alloc(), form, &[1, 1], &upper, 2);
+        plants(&rt, rt.alloc(), form, &[3, 2], &upper, 5);
         let upper = [three.as_slice()];
-        plants(&rt, rt.alloc(), form, &[3, 1, 2], &upper, 6)?;
+        plants(&rt, rt.alloc(), form, &[3, 1, 2], &upper, 6);
     }
-    Ok(())
 }
 
 #[test]
-fn three_levels(rt: HostRuntime) -> Result<(), Fail> {
+fn three_levels(rt: HostRuntime) {
     let (uneven, even, top) = ([2, 3], [2, 2], [2]);
     for (key_length, value_length) in FORMS {
         let form = form_of(key_length, value_length);
         let upper = [uneven.as_slice(), top.as_slice()];
-        plants(&rt, rt.alloc(), form, &[2, 1, 3, 2, 1], &upper, 9)?;
+        plants(&rt, rt.alloc(), form, &[2, 1, 3, 2, 1], &upper, 9);
         let upper = [even.as_slice(), top.as_slice()];
-        plants(&rt, rt.alloc(), form, &[1, 1, 1, 1], &upper, 4)?;
+        plants(&rt, rt.alloc(), form, &[1, 1, 1, 1], &upper, 4);
     }
-    Ok(())
 }
 
 #[test]
-fn five_levels(rt: HostRuntime) -> Result<(), Fail> {
+fn five_levels(rt: HostRuntime) {
     let (lowest, low, high, top) = ([2; 8], [2; 4], [2; 2], [2]);
     let upper = [
         lowest.as_slice(),
@@ -160,62 +147,58 @@ fn five_levels(rt: HostRuntime) -> Result<(), Fail> {
     ];
     for (key_length, value_length) in FORMS {
         let form = form_of(key_length, value_length);
-        plants(&rt, rt.alloc(), form, &[1; 16], &upper, 16)?;
+        plants(&rt, rt.alloc(), form, &[1; 16], &upper, 16);
     }
-    Ok(())
 }
 
 // Leaves of 510 rows of 8 bytes, and an inner page of 510 children: numbers at both ends, and about the 510th entry.
 #[test]
-fn full_pages(rt: HostRuntime) -> Result<(), Fail> {
+fn full_pages(rt: HostRuntime) {
     let (two_leaves, two) = ([510; 2], [2]);
     let (leaves, most) = ([1; 510], [510]);
     for (counts, upper, entries) in [
         (two_leaves.as_slice(), two.as_slice(), 1020),
         (leaves.as_slice(), most.as_slice(), 510),
     ] {
-        let mut volume = Volume::empty(&rt, rt.alloc())?;
+        let mut volume = Volume::empty(&rt, rt.alloc());
         let form = form_of(4, 4);
-        let root = plant(&rt, rt.alloc(), &mut volume, form, counts, &[upper])?;
+        let root = plant(&rt, rt.alloc(), &mut volume, form, counts, &[upper]);
         let tree = tree_of(&rt, rt.alloc(), form, root);
         for first in [0u32, 2490, 5090, 10190] {
             let end = first.wrapping_add(35);
-            asks_each(&rt, &mut volume, &tree, first, end, entries)?;
+            asks_each(&rt, &mut volume, &tree, first, end, entries);
         }
     }
-    Ok(())
 }
 
 // Without a root there are no entries, whatever the pages.
 #[test]
-fn no_root(rt: HostRuntime) -> Result<(), Fail> {
+fn no_root(rt: HostRuntime) {
     for (key_length, value_length) in FORMS {
         let form = form_of(key_length, value_length);
         let tree = tree_of(&rt, rt.alloc(), form, 0);
-        assert_eq!(rt; (tree.form(), tree.root()), (form, 0));
-        let mut volume = Volume::empty(&rt, rt.alloc())?;
-        reads(&rt, &mut volume, &tree, 0)?;
-        plant(&rt, rt.alloc(), &mut volume, form, &[3], &[])?;
-        reads(&rt, &mut volume, &tree, 0)?;
+        same(&rt, (tree.form(), tree.root()), (form, 0));
+        let mut volume = Volume::empty(&rt, rt.alloc());
+        reads(&rt, &mut volume, &tree, 0);
+        plant(&rt, rt.alloc(), &mut volume, form, &[3], &[]);
+        reads(&rt, &mut volume, &tree, 0);
     }
-    Ok(())
 }
 
 // Two trees in one volume, and a change of one that isn't committed.
 #[test]
-fn trees_beside_each_other(rt: HostRuntime) -> Result<(), Fail> {
+fn trees_beside_each_other(rt: HostRuntime) {
     let two = [2];
     let (one_form, other_form) = (form_of(4, 3), form_of(100, 0));
-    let mut volume = Volume::empty(&rt, rt.alloc())?;
+    let mut volume = Volume::empty(&rt, rt.alloc());
     let upper = [two.as_slice()];
-    let root = plant(&rt, rt.alloc(), &mut volume, one_form, &[2, 3], &upper)?;
+    let root = plant(&rt, rt.alloc(), &mut volume, one_form, &[2, 3], &upper);
     let one = tree_of(&rt, rt.alloc(), one_form, root);
-    volume.commit(&rt)?;
-    let root = plant(&rt, rt.alloc(), &mut volume, other_form, &[1, 1], &upper)?;
+    works(&rt, volume.commit(&rt));
+    let root = plant(&rt, rt.alloc(), &mut volume, other_form, &[1, 1], &upper);
     let other = tree_of(&rt, rt.alloc(), other_form, root);
     let touched = volume.touched();
-    reads(&rt, &mut volume, &one, 5)?;
-    reads(&rt, &mut volume, &other, 2)?;
-    assert_eq!(rt; volume.touched(), touched);
-    Ok(())
+    reads(&rt, &mut volume, &one, 5);
+    reads(&rt, &mut volume, &other, 2);
+    same(&rt, volume.touched(), touched);
 }

@@ -1,13 +1,12 @@
 //! Rows of a device that fails, and of a volume that a refused commit has spent.
-use crate::asserted::form_of;
+use crate::asserted::{form_of, same, same_in};
 use crate::entries::{is_entry, key_bytes, last};
 use crate::planted::plant;
-use crate::volume::{Volume, tree_of};
+use crate::volume::{Volume, found, tree_of, works};
 use btree::{Entry, Tree};
 use pages::PagesError;
 use std::alloc::Global;
 use std::process::Abort;
-use std::test::Fail;
 
 // A call of a tree of nine entries, with a number and the number of its answer.
 #[derive(Clone, Copy)]
@@ -55,20 +54,39 @@ fn refusal(answer: Result<Option<Entry>, PagesError>) -> Option<PagesError> {
 }
 
 // A tree of three levels and nine entries: leaves of 10 and 20, 30, 40 to 60, 70 and 80, and 90.
-fn three_levels(rt: &impl Abort, alloc: Global, volume: &mut Volume) -> Result<Tree, Fail> {
+fn three_levels(rt: &impl Abort, alloc: Global, volume: &mut Volume) -> Tree {
     let (upper, top) = ([2, 3], [2]);
     let form = form_of(4, 3);
     let inner = [upper.as_slice(), top.as_slice()];
-    let root = plant(rt, alloc, volume, form, &[2, 1, 3, 2, 1], &inner)?;
-    Ok(tree_of(rt, alloc, form, root))
+    let root = plant(rt, alloc, volume, form, &[2, 1, 3, 2, 1], &inner);
+    tree_of(rt, alloc, form, root)
 }
 
-// Each of the three reads of a descent fails; the next attempt answers.
+// The read with this number fails in a call; the next attempt answers.
+fn fails(
+    rt: &impl Abort,
+    alloc: Global,
+    volume: &mut Volume,
+    tree: &Tree,
+    call: Call,
+    capacity: usize,
+    failing: u64,
+) {
+    volume.reopen(rt, alloc, capacity);
+    volume.fail_at(failing);
+    let told = refusal(answer(rt, volume, tree, call));
+    same_in(rt, &failing, told, Some(PagesError::Device));
+    let entry = found(rt, answer(rt, volume, tree, call));
+    let number = number_of(call);
+    is_entry(rt, tree.form(), entry, Some(number), "again", number);
+}
+
+// Each of the three reads of a descent fails.
 #[test]
-fn a_device_that_fails(rt: HostRuntime) -> Result<(), Fail> {
-    let mut volume = Volume::empty(&rt, rt.alloc())?;
-    let tree = three_levels(&rt, rt.alloc(), &mut volume)?;
-    volume.commit(&rt)?;
+fn a_device_that_fails(rt: HostRuntime) {
+    let mut volume = Volume::empty(&rt, rt.alloc());
+    let tree = three_levels(&rt, rt.alloc(), &mut volume);
+    works(&rt, volume.commit(&rt));
     for call in [
         Call::Get(50, 50),
         Call::Seek(45, 50),
@@ -79,26 +97,19 @@ fn a_device_that_fails(rt: HostRuntime) -> Result<(), Fail> {
     ] {
         for capacity in [1, 64] {
             for failing in [1, 2, 3] {
-                volume = volume.reopened(&rt, rt.alloc(), capacity)?;
-                volume.fail_at(failing);
-                let told = refusal(answer(&rt, &mut volume, &tree, call));
-                assert_eq!(rt; told, Some(PagesError::Device), "{failing}");
-                let entry = answer(&rt, &mut volume, &tree, call)?;
-                let number = number_of(call);
-                is_entry(&rt, tree.form(), entry, Some(number), "again", number);
+                fails(&rt, rt.alloc(), &mut volume, &tree, call, capacity, failing);
             }
         }
     }
-    Ok(())
 }
 
 // A refused commit spends the volume, for a tree that has a root.
 #[test]
-fn a_spent_volume(rt: HostRuntime) -> Result<(), Fail> {
-    let mut volume = Volume::empty(&rt, rt.alloc())?;
-    let tree = three_levels(&rt, rt.alloc(), &mut volume)?;
+fn a_spent_volume(rt: HostRuntime) {
+    let mut volume = Volume::empty(&rt, rt.alloc());
+    let tree = three_levels(&rt, rt.alloc(), &mut volume);
     volume.fail_at(1);
-    assert_eq!(rt; volume.commit(&rt), Err(PagesError::Device));
+    same(&rt, volume.commit(&rt), Err(PagesError::Device));
     for call in [
         Call::Get(50, 50),
         Call::Seek(45, 50),
@@ -106,7 +117,6 @@ fn a_spent_volume(rt: HostRuntime) -> Result<(), Fail> {
         Call::First(10),
     ] {
         let told = refusal(answer(&rt, &mut volume, &tree, call));
-        assert_eq!(rt; told, Some(PagesError::Spent));
+        same(&rt, told, Some(PagesError::Spent));
     }
-    Ok(())
 }

@@ -1,13 +1,43 @@
 //! An opened volume and the station that it is on, with the calls that rows of trees make, each of which asserts first what is asked
 //! of its caller.
+//!
+//! No test has a `?`: what a row expects to work is asserted, since each `?` in a test is one more path on which everything has to be
+//! let go, and proved so.
 use btree::{Entry, Tree};
 use pages::{PageMap, PagesError, format};
 use station::{Device, MemoryStation};
-use std::alloc::Global;
+use std::alloc::{AllocError, Global};
 use std::marker::Model;
 use std::process::Abort;
-use std::test::Fail;
 use tree_pages::TreeForm;
+
+/// Asserts that a call wasn't refused.
+pub fn works(rt: &impl Abort, answer: Result<(), PagesError>) {
+    assert_eq!(rt; answer, Ok(()));
+}
+
+/// The entry that was answered, if there is one, by a call that wasn't refused.
+pub fn found(rt: &impl Abort, answer: Result<Option<Entry>, PagesError>) -> Option<Entry> {
+    match answer {
+        Ok(entry) => entry,
+        Err(error) => panic!(rt; "{error:?}"),
+    }
+}
+
+fn station_of_zeros(alloc: Global) -> Result<MemoryStation, AllocError> {
+    let bytes = vec![in alloc; [0; 4096]; 1024]?;
+    MemoryStation::new(alloc, bytes, Vec::new(alloc))
+}
+
+/// A station of 1,024 sectors with an empty volume.
+fn new_volume(rt: &impl Abort, alloc: Global) -> MemoryStation {
+    let Ok(mut station) = station_of_zeros(alloc) else {
+        panic!(rt; "no memory");
+    };
+    assert!(rt; station.count() == 1024);
+    assert!(rt; format(&mut station).is_ok());
+    station
+}
 
 /// An opened volume on its station.
 #[derive(Drop)]
@@ -30,41 +60,38 @@ impl Model for Volume {
 
 impl Volume {
     /// An empty volume of 1,024 sectors, with a cache of two pages.
-    pub fn empty(rt: &impl Abort, alloc: Global) -> Result<Volume, Fail> {
-        let bytes = vec![in alloc; [0; 4096]; 1024]?;
-        let mut station = MemoryStation::new(alloc, bytes, Vec::new(alloc))?;
-        assert!(rt; station.count() == 1024);
-        format(&mut station)?;
-        let pages = PageMap::open(alloc, &mut station, 2)?;
-        Ok(Volume { pages, station })
+    pub fn empty(rt: &impl Abort, alloc: Global) -> Volume {
+        let mut station = new_volume(rt, alloc);
+        match PageMap::open(alloc, &mut station, 2) {
+            Ok(pages) => Volume { pages, station },
+            Err(error) => panic!(rt; "open: {error:?}"),
+        }
     }
 
-    /// The volume opened again, with a cache of so many pages, from 1 to 4,096. What wasn't committed is gone.
-    pub fn reopened(self, rt: &impl Abort, alloc: Global, capacity: usize) -> Result<Volume, Fail> {
-        let Volume { mut station, .. } = self;
+    /// Opens the volume again, with a cache of so many pages, from 1 to 4,096. What wasn't committed is gone.
+    pub fn reopen(&mut self, rt: &impl Abort, alloc: Global, capacity: usize) {
         assert!(rt; 1 <= capacity);
         assert!(rt; capacity <= 4096);
-        let pages = PageMap::open(alloc, &mut station, capacity)?;
-        Ok(Volume { pages, station })
+        match PageMap::open(alloc, &mut self.station, capacity) {
+            Ok(pages) => self.pages = pages,
+            Err(error) => panic!(rt; "open: {error:?}"),
+        }
     }
 
     /// Puts bytes on a page that wasn't used. The answer is its number.
-    pub fn put(&mut self, rt: &impl Abort, bytes: &[u8; 4096]) -> Result<u32, PagesError> {
-        let number = self.pages.allocate()?;
-        self.edit(rt, number, bytes)?;
-        Ok(number)
+    pub fn put(&mut self, rt: &impl Abort, bytes: &[u8; 4096]) -> u32 {
+        let Ok(number) = self.pages.allocate() else {
+            panic!(rt; "no page");
+        };
+        self.edit(rt, number, bytes);
+        number
     }
 
     /// Puts bytes on this page.
-    pub fn edit(
-        &mut self,
-        rt: &impl Abort,
-        number: u32,
-        bytes: &[u8; 4096],
-    ) -> Result<(), PagesError> {
+    pub fn edit(&mut self, rt: &impl Abort, number: u32, bytes: &[u8; 4096]) {
         assert!(rt; 0 < number);
         assert!(rt; (number as usize) < self.pages.page_count());
-        self.pages.edit(number, bytes)
+        works(rt, self.pages.edit(number, bytes));
     }
 
     /// Commits what was put there.
@@ -88,29 +115,23 @@ impl Volume {
         self.pages.free_sectors()
     }
 
-    pub fn insert(
-        &mut self,
-        rt: &impl Abort,
-        tree: &mut Tree,
-        key: &[u8],
-        value: &[u8],
-    ) -> Result<bool, PagesError> {
+    pub fn insert(&mut self, rt: &impl Abort, tree: &mut Tree, key: &[u8], value: &[u8]) -> bool {
         assert!(rt; self.pages.sectors() <= self.station.count());
         assert!(rt; key.len() == tree.form().key_length);
         assert!(rt; value.len() == tree.form().value_length);
-        tree.insert(&mut self.pages, &mut self.station, key, value)
+        match tree.insert(&mut self.pages, &mut self.station, key, value) {
+            Ok(is_new) => is_new,
+            Err(error) => panic!(rt; "insert: {error:?}"),
+        }
     }
 
-    pub fn replace(
-        &mut self,
-        rt: &impl Abort,
-        tree: &mut Tree,
-        key: &[u8],
-        value: &[u8],
-    ) -> Result<bool, PagesError> {
+    pub fn replace(&mut self, rt: &impl Abort, tree: &mut Tree, key: &[u8], value: &[u8]) -> bool {
         assert!(rt; self.pages.sectors() <= self.station.count());
         assert!(rt; value.len() == tree.form().value_length);
-        tree.replace(&mut self.pages, &mut self.station, key, value)
+        match tree.replace(&mut self.pages, &mut self.station, key, value) {
+            Ok(is_there) => is_there,
+            Err(error) => panic!(rt; "replace: {error:?}"),
+        }
     }
 
     pub fn get(

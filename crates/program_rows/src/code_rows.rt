@@ -1,5 +1,6 @@
 //! Rows of code, its images and its runs: HELLO at each budget, failing shows, images cut and changed.
 
+use crate::asserted::{same, same_in};
 use code_image::{Code, ImageError, Instruction, LiteralIndex, from_bytes, to_bytes, verify};
 use codegen::generate;
 use machine::{Ended, Machine, Refusal};
@@ -118,8 +119,8 @@ fn hello_at_each_budget(rt: HostRuntime) -> Result<(), Fail> {
     ];
     for (budget, end, bytes) in rows.iter() {
         let (ended, shown) = run(rt.alloc(), hello(rt.alloc())?, *budget)?;
-        assert_eq!(rt; ended, *end);
-        assert_eq!(rt; shown.as_slice(), *bytes);
+        same(&rt, ended, *end);
+        same(&rt, shown.as_slice(), *bytes);
     }
     Ok(())
 }
@@ -130,8 +131,8 @@ fn the_last_paragraph_ends_without_budget(rt: HostRuntime) -> Result<(), Fail> {
     let statements = list(alloc, display(alloc, 5, b"HELLO")?)?;
     let code = generate(alloc, &program(alloc, statements)?)?;
     let (ended, shown) = run(alloc, code, 1)?;
-    assert_eq!(rt; ended, Ended::Stopped);
-    assert_eq!(rt; shown.as_slice(), b"HELLO\n".as_slice());
+    same(&rt, ended, Ended::Stopped);
+    same(&rt, shown.as_slice(), b"HELLO\n".as_slice());
     Ok(())
 }
 
@@ -150,8 +151,8 @@ fn literals_are_shown_as_written(rt: HostRuntime) -> Result<(), Fail> {
     };
     let code = generate(alloc, &program(alloc, list(alloc, statement)?)?)?;
     let (ended, shown) = run(alloc, code, 1)?;
-    assert_eq!(rt; ended, Ended::Stopped);
-    assert_eq!(rt; shown.as_slice(), b"A12.50it's-007+.5".as_slice());
+    same(&rt, ended, Ended::Stopped);
+    same(&rt, shown.as_slice(), b"A12.50it's-007+.5".as_slice());
     Ok(())
 }
 
@@ -162,16 +163,16 @@ fn a_failing_show_is_refused(rt: HostRuntime) -> Result<(), Fail> {
         let mut station = new_station(rt.alloc())?;
         station.fail_at(*call);
         let (ended, shown) = run_on(rt.alloc(), &mut station, three_shows(rt.alloc())?, ENOUGH)?;
-        assert_eq!(rt; ended, Ended::Refused(Refusal::Device));
-        assert_eq!(rt; Refusal::Device.number(), 80);
-        assert_eq!(rt; shown.as_slice(), *bytes);
+        same(&rt, ended, Ended::Refused(Refusal::Device));
+        same(&rt, Refusal::Device.number(), 80);
+        same(&rt, shown.as_slice(), *bytes);
     }
     // the fourth show never comes
     let mut station = new_station(rt.alloc())?;
     station.fail_at(4);
     let (ended, shown) = run_on(rt.alloc(), &mut station, three_shows(rt.alloc())?, ENOUGH)?;
-    assert_eq!(rt; ended, Ended::Stopped);
-    assert_eq!(rt; shown.as_slice(), b"A\nBC\nD\n".as_slice());
+    same(&rt, ended, Ended::Stopped);
+    same(&rt, shown.as_slice(), b"A\nBC\nD\n".as_slice());
     Ok(())
 }
 
@@ -207,10 +208,10 @@ fn fault(alloc: Global, bytes: &[u8]) -> u8 {
 fn the_image_of_hello(rt: HostRuntime) -> Result<(), Fail> {
     let alloc = rt.alloc();
     let image = to_bytes(alloc, &hello(alloc)?)?;
-    assert_eq!(rt; image.as_slice(), hello_image(alloc)?.as_slice());
+    same(&rt, image.as_slice(), hello_image(alloc)?.as_slice());
     let (ended, shown) = run(alloc, from_bytes(alloc, &image)?, 2)?;
-    assert_eq!(rt; ended, Ended::Stopped);
-    assert_eq!(rt; shown.as_slice(), b"HELLO\n".as_slice());
+    same(&rt, ended, Ended::Stopped);
+    same(&rt, shown.as_slice(), b"HELLO\n".as_slice());
     Ok(())
 }
 
@@ -220,11 +221,11 @@ fn an_image_cut_short(rt: HostRuntime) -> Result<(), Fail> {
     let image = hello_image(alloc)?;
     for cut in 0..image.len() {
         let expected = if cut < 8 { 70 } else { 71 };
-        assert_eq!(rt; fault(alloc, &image[..cut]), expected, "{cut}");
+        same_in(&rt, &cut, fault(alloc, &image[..cut]), expected);
     }
     let mut longer = hello_image(alloc)?;
     longer.push(0)?;
-    assert_eq!(rt; fault(alloc, &longer), 71);
+    same(&rt, fault(alloc, &longer), 71);
     Ok(())
 }
 
@@ -260,9 +261,14 @@ fn an_image_with_one_byte_changed(rt: HostRuntime) -> Result<(), Fail> {
     for at in 0..image.len() {
         for other in 0..=255u8 {
             let changed = with_byte(alloc, image.as_slice(), at, other)?;
-            assert!(rt; is_harmless(alloc, changed.as_slice())?, "{at} {other}");
+            same_in(
+                &rt,
+                &(at, other),
+                is_harmless(alloc, changed.as_slice())?,
+                true,
+            );
             if at < 8 && changed != image {
-                assert_eq!(rt; fault(alloc, changed.as_slice()), 70, "{at} {other}");
+                same_in(&rt, &(at, other), fault(alloc, changed.as_slice()), 70);
             }
         }
     }
@@ -294,44 +300,48 @@ fn code_that_a_machine_refuses(rt: HostRuntime) -> Result<(), Fail> {
     let second = Instruction::Show {
         literal: LiteralIndex { number: 1 },
     };
-    assert_eq!(rt;
+    same(
+        &rt,
         verdict(code(alloc, &[tick, first, Instruction::Stop], &[0, 2])?),
-        0
+        0,
     );
-    assert_eq!(rt; verdict(code(alloc, &[Instruction::Stop], &[])?), 0);
+    same(&rt, verdict(code(alloc, &[Instruction::Stop], &[])?), 0);
     // the second literal of one
-    assert_eq!(rt;
+    same(
+        &rt,
         verdict(code(alloc, &[tick, second, Instruction::Stop], &[0])?),
-        73
+        73,
     );
     // a paragraph that starts after the code
-    assert_eq!(rt;
+    same(
+        &rt,
         verdict(code(alloc, &[tick, first, Instruction::Stop], &[3])?),
-        73
+        73,
     );
     // stop isn't last, or there is no instruction
-    assert_eq!(rt;
+    same(
+        &rt,
         verdict(code(alloc, &[tick, Instruction::Stop, first], &[0])?),
-        74
+        74,
     );
-    assert_eq!(rt; verdict(code(alloc, &[], &[])?), 74);
+    same(&rt, verdict(code(alloc, &[], &[])?), 74);
     Ok(())
 }
 
 #[test]
 fn bytes_that_are_no_image(rt: HostRuntime) -> Result<(), Fail> {
     let alloc = rt.alloc();
-    assert_eq!(rt; fault(alloc, b""), 70);
-    assert_eq!(rt; fault(alloc, b"COBIMG02"), 70);
-    assert_eq!(rt; fault(alloc, b"COBIMG01"), 71);
+    same(&rt, fault(alloc, b""), 70);
+    same(&rt, fault(alloc, b"COBIMG02"), 70);
+    same(&rt, fault(alloc, b"COBIMG01"), 71);
     // an entry in the table of areas
-    assert_eq!(rt; fault(alloc, b"COBIMG01\0\0\0\0\0\0\0\x01"), 72);
+    same(&rt, fault(alloc, b"COBIMG01\0\0\0\0\0\0\0\x01"), 72);
     // an instruction of an unknown kind
     for kind in [0, 4, 255] {
         let mut image = hello_image(alloc)?;
         image.pop();
         image.push(kind)?;
-        assert_eq!(rt; fault(alloc, &image), 72, "{kind}");
+        same_in(&rt, &kind, fault(alloc, &image), 72);
     }
     Ok(())
 }

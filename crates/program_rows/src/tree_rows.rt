@@ -1,5 +1,6 @@
 //! Rows of trees: which source texts have a tree and what it is, and where the others are refused.
 
+use crate::asserted::{same, same_in};
 use divisions::{ParseFault, parse};
 use source_lines::logical;
 use source_tree::{Operand, Program, Statement};
@@ -191,7 +192,7 @@ fn trees_of_source_texts(rt: HostRuntime) -> Result<(), Fail> {
     for (body, expected) in TREES.iter() {
         let source = format!(in rt.alloc(); "{HEADER}{body}")?;
         let program = tree(rt.alloc(), source.as_str())??;
-        assert_eq!(rt; shape(rt.alloc(), &program)?.as_str(), *expected, "{body}");
+        same_in(&rt, &body, shape(rt.alloc(), &program)?.as_str(), *expected);
     }
     Ok(())
 }
@@ -200,17 +201,19 @@ fn trees_of_source_texts(rt: HostRuntime) -> Result<(), Fail> {
 fn texts_without_a_tree(rt: HostRuntime) -> Result<(), Fail> {
     for (body, number, line, column) in FAULTS.iter() {
         let source = format!(in rt.alloc(); "{HEADER}{body}")?;
-        assert_eq!(rt;
+        same_in(
+            &rt,
+            &body,
             fault(rt.alloc(), source.as_str())?,
             (*number, *line, *column),
-            "{body}"
         );
     }
     for (source, number, line, column) in TEXTS.iter() {
-        assert_eq!(rt;
+        same_in(
+            &rt,
+            &source,
             fault(rt.alloc(), source)?,
             (*number, *line, *column),
-            "{source}"
         );
     }
     Ok(())
@@ -236,6 +239,6 @@ fn operands_in_order(rt: HostRuntime) -> Result<(), Fail> {
             }
         }
     }
-    assert_eq!(rt; columns.as_slice(), [20, 24, 28].as_slice());
+    same(&rt, columns.as_slice(), [20, 24, 28].as_slice());
     Ok(())
 }

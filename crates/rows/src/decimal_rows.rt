@@ -1,7 +1,8 @@
 //! Rows of `Dec`: sums, products, quotients, what receivers keep, order, digits. A number is a coefficient and a scale.
+use crate::asserted::{holds, same, same_in};
 use decimal18::{Dec, Rounding, Size};
 use std::cmp::Ordering;
-use std::test::Fail;
+use std::process::Abort;
 
 type Number = (i128, u8);
 
@@ -18,11 +19,17 @@ const TEN_TO_18: i128 = 1_000_000_000_000_000_000;
 
 const NINES: i128 = 999_999_999_999_999_999;
 
-fn dec(number: Number) -> Result<Dec, Size> {
-    if number.0.unsigned_abs() < TEN_TO_38 && number.1 <= 18 {
-        Ok(Dec::new(number.0, number.1))
-    } else {
-        Err(Size)
+fn dec(rt: &impl Abort, number: Number) -> Dec {
+    assert!(rt; number.0.unsigned_abs() < TEN_TO_38);
+    assert!(rt; number.1 <= 18);
+    Dec::new(number.0, number.1)
+}
+
+// The number that a call answered.
+fn told_by(rt: &impl Abort, answer: Result<Dec, Size>) -> Dec {
+    match answer {
+        Ok(number) => number,
+        Err(_) => panic!(rt; "no number"),
     }
 }
 
@@ -60,14 +67,13 @@ const SUMS: [(Number, Number, Option<Number>, Option<Number>); 11] = [
 ];
 
 #[test]
-fn sums_and_differences(rt: HostRuntime) -> Result<(), Fail> {
+fn sums_and_differences(rt: HostRuntime) {
     for (one, two, sum, difference) in SUMS.iter() {
-        let (left, right) = (dec(*one)?, dec(*two)?);
-        assert_eq!(rt; told(left.add(right)), *sum, "{one:?} + {two:?}");
-        assert_eq!(rt; told(right.add(left)), *sum, "{two:?} + {one:?}");
-        assert_eq!(rt; told(left.sub(right)), *difference, "{one:?} - {two:?}");
+        let (left, right) = (dec(&rt, *one), dec(&rt, *two));
+        same_in(&rt, &(one, two), told(left.add(right)), *sum);
+        same_in(&rt, &(two, one), told(right.add(left)), *sum);
+        same_in(&rt, &(one, two), told(left.sub(right)), *difference);
     }
-    Ok(())
 }
 
 const PRODUCTS: [(Number, Number, Option<Number>); 12] = [
@@ -100,13 +106,12 @@ const PRODUCTS: [(Number, Number, Option<Number>); 12] = [
 ];
 
 #[test]
-fn products(rt: HostRuntime) -> Result<(), Fail> {
+fn products(rt: HostRuntime) {
     for (one, two, product) in PRODUCTS.iter() {
-        let (left, right) = (dec(*one)?, dec(*two)?);
-        assert_eq!(rt; told(left.mul(right)), *product, "{one:?} * {two:?}");
-        assert_eq!(rt; told(right.mul(left)), *product, "{two:?} * {one:?}");
+        let (left, right) = (dec(&rt, *one), dec(&rt, *two));
+        same_in(&rt, &(one, two), told(left.mul(right)), *product);
+        same_in(&rt, &(two, one), told(right.mul(left)), *product);
     }
-    Ok(())
 }
 
 const QUOTIENTS: [(Number, Number, Option<Number>); 17] = [
@@ -137,12 +142,11 @@ const QUOTIENTS: [(Number, Number, Option<Number>); 17] = [
 ];
 
 #[test]
-fn quotients(rt: HostRuntime) -> Result<(), Fail> {
+fn quotients(rt: HostRuntime) {
     for (dividend, divisor, quotient) in QUOTIENTS.iter() {
-        let found = told(dec(*dividend)?.div(dec(*divisor)?));
-        assert_eq!(rt; found, *quotient, "{dividend:?} / {divisor:?}");
+        let found = told(dec(&rt, *dividend).div(dec(&rt, *divisor)));
+        same_in(&rt, &(dividend, divisor), found, *quotient);
     }
-    Ok(())
 }
 
 // A number, the digits and decimals of its receiver and its rounding, what the receiver holds where a size error is told, and
@@ -272,21 +276,16 @@ const RECEIVERS: [(Number, u8, u8, Rounding, Option<Number>, Number); 34] = [
 ];
 
 #[test]
-fn receivers(rt: HostRuntime) -> Result<(), Fail> {
+fn receivers(rt: HostRuntime) {
     for (number, digits, scale, rounding, fit, cut) in RECEIVERS.iter() {
         let (digits, scale) = (*digits, *scale);
         assert!(rt; digits <= 38 && scale <= 18 && scale <= digits);
-        let whole = dec(*number)?;
+        let whole = dec(&rt, *number);
         let fitted = told(whole.fit(digits, scale, *rounding));
-        assert_eq!(rt; fitted, *fit, "{number:?} in {digits}, {scale}");
+        same_in(&rt, &(number, digits, scale), fitted, *fit);
         let kept = whole.cut(digits, scale, *rounding);
-        assert_eq!(rt;
-            told(Ok(kept)),
-            Some(*cut),
-            "{number:?} in {digits}, {scale}"
-        );
+        same_in(&rt, &(number, digits, scale), told(Ok(kept)), Some(*cut));
     }
-    Ok(())
 }
 
 // Dividend, divisor, the decimals of the quotient's receiver, the quotient cut to these, and the remainder.
@@ -298,16 +297,19 @@ const REMAINDERS: [(Number, Number, u8, Number, Number); 4] = [
 ];
 
 #[test]
-fn remainders(rt: HostRuntime) -> Result<(), Fail> {
+fn remainders(rt: HostRuntime) {
     for (one, two, scale, quotient, remainder) in REMAINDERS.iter() {
-        let (dividend, divisor) = (dec(*one)?, dec(*two)?);
+        let (dividend, divisor) = (dec(&rt, *one), dec(&rt, *two));
         let scale = *scale;
         assert!(rt; scale <= 18);
-        let cut = dividend.div(divisor)?.cut(38, scale, Rounding::Truncated);
-        assert_eq!(rt; told(Ok(cut)), Some(*quotient));
-        assert_eq!(rt; told(dividend.sub(cut.mul(divisor)?)), Some(*remainder));
+        let cut = told_by(&rt, dividend.div(divisor)).cut(38, scale, Rounding::Truncated);
+        same(&rt, told(Ok(cut)), Some(*quotient));
+        same(
+            &rt,
+            told(dividend.sub(told_by(&rt, cut.mul(divisor)))),
+            Some(*remainder),
+        );
     }
-    Ok(())
 }
 
 const ORDERS: [(Number, Number, Ordering); 10] = [
@@ -324,38 +326,37 @@ const ORDERS: [(Number, Number, Ordering); 10] = [
 ];
 
 #[test]
-fn order_of_values(rt: HostRuntime) -> Result<(), Fail> {
+fn order_of_values(rt: HostRuntime) {
     for (one, two, order) in ORDERS.iter() {
-        let (left, right) = (dec(*one)?, dec(*two)?);
-        assert_eq!(rt; left.cmp(&right), *order, "{one:?} and {two:?}");
-        assert_eq!(rt; right.cmp(&left), order.reverse(), "{two:?} and {one:?}");
-        assert_eq!(rt;
-            left == right,
-            *order == Ordering::Equal,
-            "{one:?} and {two:?}"
-        );
+        let (left, right) = (dec(&rt, *one), dec(&rt, *two));
+        same_in(&rt, &(one, two), left.cmp(&right), *order);
+        same_in(&rt, &(two, one), right.cmp(&left), order.reverse());
+        same_in(&rt, &(one, two), left == right, *order == Ordering::Equal);
     }
-    Ok(())
 }
 
 #[test]
-fn digits_and_integers(rt: HostRuntime) -> Result<(), Fail> {
-    assert_eq!(rt; told(Dec::integer(MOST)), Some((MOST, 0)));
-    assert_eq!(rt; told(Dec::integer(-MOST)), Some((-MOST, 0)));
-    assert_eq!(rt; told(Dec::integer(MOST + 1)), None);
-    assert_eq!(rt; told(Dec::from_digits(true, b"0012", 1)), Some((-12, 1)));
-    assert_eq!(rt; told(Dec::from_digits(false, b"", 2)), Some((0, 2)));
-    assert_eq!(rt; told(Ok(-dec((5, 1))?)), Some((-5, 1)));
-    assert_eq!(rt; dec((1200, 2))?.to_integer(), Some(12));
-    assert_eq!(rt; dec((-1200, 2))?.to_integer(), Some(-12));
-    assert_eq!(rt; dec((1250, 2))?.to_integer(), None);
-    let number = dec((-12345, 2))?;
-    assert_eq!(rt;
-        (number.digit(0), number.digit(4), number.digit(5)),
-        (5, 1, 0)
+fn digits_and_integers(rt: HostRuntime) {
+    same(&rt, told(Dec::integer(MOST)), Some((MOST, 0)));
+    same(&rt, told(Dec::integer(-MOST)), Some((-MOST, 0)));
+    same(&rt, told(Dec::integer(MOST + 1)), None);
+    same(
+        &rt,
+        told(Dec::from_digits(true, b"0012", 1)),
+        Some((-12, 1)),
     );
-    assert!(rt; number.is_negative() && !number.is_zero());
-    assert_eq!(rt; number.magnitude(), 12345);
-    assert_eq!(rt; Size.number(), 2);
-    Ok(())
+    same(&rt, told(Dec::from_digits(false, b"", 2)), Some((0, 2)));
+    same(&rt, told(Ok(-dec(&rt, (5, 1)))), Some((-5, 1)));
+    same(&rt, dec(&rt, (1200, 2)).to_integer(), Some(12));
+    same(&rt, dec(&rt, (-1200, 2)).to_integer(), Some(-12));
+    same(&rt, dec(&rt, (1250, 2)).to_integer(), None);
+    let number = dec(&rt, (-12345, 2));
+    same(
+        &rt,
+        (number.digit(0), number.digit(4), number.digit(5)),
+        (5, 1, 0),
+    );
+    holds(&rt, number.is_negative() && !number.is_zero());
+    same(&rt, number.magnitude(), 12345);
+    same(&rt, Size.number(), 2);
 }

@@ -3,6 +3,8 @@
 #![tactic(auto)]
 
 #[cfg(test)]
+mod asserted;
+#[cfg(test)]
 mod decimal_rows;
 #[cfg(test)]
 mod picture_rows;

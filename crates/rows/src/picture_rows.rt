@@ -1,5 +1,8 @@
 //! Rows of `Picture::read`: categories, sizes, digit places, scales and signs, and texts without a form.
+use crate::asserted::{same, same_in};
 use picture::{Category, Picture, PictureFault, Place, Suppression};
+use std::alloc::Global;
+use std::process::Abort;
 use std::test::Fail;
 
 // A picture's category, its size in characters, its digit places, how many of them stand after the point, and its sign.
@@ -69,7 +72,7 @@ fn texts_with_a_form(rt: HostRuntime) -> Result<(), Fail> {
             picture.scale(),
             picture.is_signed(),
         );
-        assert_eq!(rt; told, *summary, "{text}");
+        same_in(&rt, &text, told, *summary);
     }
     Ok(())
 }
@@ -122,15 +125,39 @@ fn texts_without_a_form(rt: HostRuntime) -> Result<(), Fail> {
             Ok(_) => Some(0),
             Err(fault) => fault.number(),
         };
-        assert_eq!(rt; number, Some(20), "{text}");
+        same_in(&rt, &text, number, Some(20));
     }
-    assert_eq!(rt; PictureFault::NoForm.number(), Some(20));
+    same(&rt, PictureFault::NoForm.number(), Some(20));
     Ok(())
 }
 
+// Asserts what a picture's places are.
+fn has_places(rt: &impl Abort, alloc: Global, text: &[u8], places: &[Place]) {
+    match Picture::read(alloc, text) {
+        Ok(picture) => same(rt, picture.places(), places),
+        Err(_) => panic!(rt; "no picture"),
+    }
+}
+
+// Asserts what region of a picture is suppressed, if there is one.
+fn has_region(
+    rt: &impl Abort,
+    alloc: Global,
+    text: &str,
+    expected: Option<(Suppression, usize, usize)>,
+) {
+    let found = match Picture::read(alloc, text.as_bytes()) {
+        Ok(picture) => match picture.region {
+            Some(region) => Some((region.by, region.begin, region.end)),
+            None => None,
+        },
+        Err(_) => panic!(rt; "no picture"),
+    };
+    same_in(rt, &text, found, expected);
+}
+
 #[test]
-fn places_and_the_region(rt: HostRuntime) -> Result<(), Fail> {
-    let money = Picture::read(rt.alloc(), b"$$,$$9.99")?;
+fn places_and_the_region(rt: HostRuntime) {
     let places = [
         Place::FirstFloating,
         Place::Floating,
@@ -142,30 +169,22 @@ fn places_and_the_region(rt: HostRuntime) -> Result<(), Fail> {
         Place::Digit,
         Place::Digit,
     ];
-    assert_eq!(rt; money.places(), places.as_slice());
-    let balance = Picture::read(rt.alloc(), b"+ZZ9")?;
+    has_places(&rt, rt.alloc(), b"$$,$$9.99", &places);
     let signed = [
         Place::Plus,
         Place::Suppressed,
         Place::Suppressed,
         Place::Digit,
     ];
-    assert_eq!(rt; balance.places(), signed.as_slice());
-    let credit = Picture::read(rt.alloc(), b"9CR")?;
+    has_places(&rt, rt.alloc(), b"+ZZ9", &signed);
     let letters = [Place::Digit, Place::Negative(b'C'), Place::Negative(b'R')];
-    assert_eq!(rt; credit.places(), letters.as_slice());
+    has_places(&rt, rt.alloc(), b"9CR", &letters);
     for (text, region) in [
         ("$$,$$9.99", Some((Suppression::FloatingCurrency, 0, 5))),
         ("+ZZ9", Some((Suppression::Spaces, 1, 3))),
         ("ZZZ.ZZ", Some((Suppression::Spaces, 0, 3))),
         ("9CR", None),
     ] {
-        let picture = Picture::read(rt.alloc(), text.as_bytes())?;
-        let found = match picture.region {
-            Some(region) => Some((region.by, region.begin, region.end)),
-            None => None,
-        };
-        assert_eq!(rt; found, region, "{text}");
+        has_region(&rt, rt.alloc(), text, region);
     }
-    Ok(())
 }

@@ -1,5 +1,7 @@
 //! Rows of `logical`: what the reference format makes of a source text, and its faults with their places.
+use crate::asserted::{same, same_in};
 use source_lines::{Character, SourceFault, logical};
+use std::process::Abort;
 use std::test::Fail;
 
 // A source text, and the bytes of its characters.
@@ -109,7 +111,7 @@ fn are(characters: &[Character], bytes: &[u8]) -> bool {
 fn characters_of_source_texts(rt: HostRuntime) -> Result<(), Fail> {
     for (name, source, bytes) in TEXTS.iter() {
         let lines = logical(rt.alloc(), source)?;
-        assert!(rt; are(lines.characters(), bytes), "{name}");
+        same_in(&rt, &name, are(lines.characters(), bytes), true);
     }
     Ok(())
 }
@@ -125,9 +127,21 @@ fn faults_and_their_places(rt: HostRuntime) -> Result<(), Fail> {
             ),
             _ => (0, 0, 0),
         };
-        assert_eq!(rt; found, *fault, "{name}");
+        same_in(&rt, &name, found, *fault);
     }
     Ok(())
+}
+
+// Asserts a character, and its place.
+fn is_at(rt: &impl Abort, one: Option<&Character>, byte: u8, line: u32, column: u8) {
+    match one {
+        Some(one) => same(
+            rt,
+            (one.byte, one.place.line, one.place.column),
+            (byte, line, column),
+        ),
+        None => panic!(rt; "no character"),
+    }
 }
 
 /// `DISPLAY "AB` from column 12, continued by `"CD".` from column 12: AB, 50 spaces, CD.
@@ -136,16 +150,12 @@ fn a_continued_literal_runs_through_column_72(rt: HostRuntime) -> Result<(), Fai
     let source: &[u8] = b"           DISPLAY \"AB\n      -    \"CD\".\n";
     let lines = logical(rt.alloc(), source)?;
     let characters = lines.characters();
-    assert_eq!(rt; characters.len(), 70);
-    assert_eq!(rt; characters[14].byte, b'B');
-    assert_eq!(rt; characters[15].byte, b' ');
-    assert_eq!(rt; characters[64].byte, b' ');
-    assert_eq!(rt; characters[64].place.line, 1);
-    assert_eq!(rt; characters[64].place.column, 72);
-    assert_eq!(rt; characters[65].byte, b'C');
-    assert_eq!(rt; characters[65].place.line, 2);
-    assert_eq!(rt; characters[65].place.column, 13);
-    assert_eq!(rt; characters[69].byte, b' ');
+    same(&rt, characters.len(), 70);
+    is_at(&rt, characters.get(14), b'B', 1, 22);
+    is_at(&rt, characters.get(15), b' ', 1, 23);
+    is_at(&rt, characters.get(64), b' ', 1, 72);
+    is_at(&rt, characters.get(65), b'C', 2, 13);
+    same(&rt, characters.get(69).map(|one| one.byte), Some(b' '));
     Ok(())
 }
 
@@ -153,17 +163,18 @@ fn a_continued_literal_runs_through_column_72(rt: HostRuntime) -> Result<(), Fai
 #[test]
 fn the_most_bytes(rt: HostRuntime) -> Result<(), Fail> {
     let mut source = vec![in rt.alloc(); b'*'; 8_000_000]?;
-    assert_eq!(rt;
+    same(
+        &rt,
         logical(rt.alloc(), source.as_slice())?.characters().len(),
-        0
+        0,
     );
     source.push(b'*')?;
     match logical(rt.alloc(), source.as_slice()) {
         Err(SourceFault::Refused(fault)) => {
-            assert_eq!(rt; fault.kind.number(), 13);
-            assert_eq!(rt; (fault.place.line, fault.place.column), (1, 1));
+            same(&rt, fault.kind.number(), 13);
+            same(&rt, (fault.place.line, fault.place.column), (1, 1));
         }
-        _ => assert!(rt; false),
+        _ => panic!(rt; "not refused"),
     }
     Ok(())
 }

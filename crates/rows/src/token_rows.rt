@@ -1,4 +1,5 @@
 //! Rows of `scan`: the tokens of a source text with their kinds and places, and its faults.
+use crate::asserted::{same, same_in};
 use source_lines::{Lines, SourceFault, logical};
 use sqlite_items::Items;
 use std::alloc::{AllocError, Global};
@@ -137,14 +138,15 @@ const FAULTS: [(&str, u8, u8); 16] = [
 fn kinds_of_tokens(rt: HostRuntime) -> Result<(), Fail> {
     for (text, kinds) in KINDS.iter() {
         let tokens = scan(rt.alloc(), &lines_of(rt.alloc(), text.as_bytes())?)?;
-        assert_eq!(rt; tokens.len(), kinds.len(), "{text}");
+        same_in(&rt, &text, tokens.len(), kinds.len());
         for (token, kind) in tokens.as_slice().iter().zip(kinds.iter()) {
-            assert_eq!(rt; shown(rt.alloc(), token)?.as_str(), *kind, "{text}");
+            same_in(&rt, &text, shown(rt.alloc(), token)?.as_str(), *kind);
             // A token's place is its first character's: the text begins in column 8 and its characters are counted from 0.
-            assert_eq!(rt; token.place.line, 1);
-            assert_eq!(rt;
+            same(&rt, token.place.line, 1);
+            same(
+                &rt,
                 usize::from(token.place.column),
-                token.span.start.wrapping_add(8)
+                token.span.start.wrapping_add(8),
             );
         }
     }
@@ -158,7 +160,7 @@ fn faults_and_their_places(rt: HostRuntime) -> Result<(), Fail> {
             Err(TokenFault::Refused(fault)) => (fault.kind.number(), fault.place.column),
             _ => (0, 0),
         };
-        assert_eq!(rt; found, (*number, *column), "{text}");
+        same_in(&rt, &text, found, (*number, *column));
     }
     Ok(())
 }
@@ -201,18 +203,19 @@ fn reserved_words(rt: HostRuntime) -> Result<(), Fail> {
     let mut count = 0u32;
     for (word, kind) in WORDS.split_whitespace().zip(RESERVED.split_whitespace()) {
         let tokens = scan(rt.alloc(), &lines_of(rt.alloc(), word.as_bytes())?)?;
-        assert_eq!(rt; tokens.len(), 1, "{word}");
+        same_in(&rt, &word, tokens.len(), 1);
         let expected = format!(in rt.alloc(); "reserved {kind}")?;
         for token in tokens.as_slice() {
-            assert_eq!(rt;
+            same_in(
+                &rt,
+                &word,
                 shown(rt.alloc(), token)?.as_str(),
                 expected.as_str(),
-                "{word}"
             );
         }
         count = count.wrapping_add(1);
     }
-    assert_eq!(rt; count, 186);
+    same(&rt, count, 186);
     Ok(())
 }
 
@@ -239,23 +242,24 @@ fn sizes_of_literals(rt: HostRuntime) -> Result<(), Fail> {
         let lines = logical(rt.alloc(), source.as_slice())?;
         let found = match scan(rt.alloc(), &lines) {
             Err(TokenFault::Refused(fault)) => {
-                assert_eq!(rt;
+                same_in(
+                    &rt,
+                    &letters,
                     (fault.place.line, fault.place.column),
                     (1, 12),
-                    "{letters}"
                 );
                 fault.kind.number()
             }
             Err(TokenFault::Memory) => 255,
             Ok(tokens) => {
-                assert_eq!(rt; tokens.len(), 1, "{letters}");
+                same_in(&rt, &letters, tokens.len(), 1);
                 for token in tokens.as_slice() {
-                    assert_eq!(rt; literal_size(token), Some(letters));
+                    same(&rt, literal_size(token), Some(letters));
                 }
                 0
             }
         };
-        assert_eq!(rt; found, number, "{letters}");
+        same_in(&rt, &letters, found, number);
     }
     Ok(())
 }

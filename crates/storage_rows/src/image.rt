@@ -1,8 +1,8 @@
 //! The sectors of a volume as they stand on the device: numbers of four bytes, the first byte the highest.
 use crate::opened::filled;
-use station::{Device, DeviceError, MemoryStation};
+use station::{Device, MemoryStation};
 use std::alloc::{AllocError, Global};
-use std::test::Fail;
+use std::process::Abort;
 
 /// How many sectors the volume of `image_with` has.
 pub const SECTORS: u32 = 1500;
@@ -54,39 +54,39 @@ pub fn put_word(bytes: &mut [u8; 4096], place: usize, word: u32) {
 }
 
 /// The bytes of a sector of a station.
-pub fn sector_bytes(station: &mut MemoryStation, sector: u32) -> Result<[u8; 4096], DeviceError> {
+pub fn sector_bytes(rt: &impl Abort, station: &mut MemoryStation, sector: u32) -> [u8; 4096] {
     let mut bytes = filled(0);
-    if sector >= station.count() {
-        return Err(DeviceError::Failed);
-    }
-    station.read(sector, &mut bytes)?;
-    Ok(bytes)
+    assert!(rt; sector < station.count());
+    assert!(rt; station.read(sector, &mut bytes).is_ok());
+    bytes
 }
 
 /// All sectors of a station.
-pub fn image_of(alloc: Global, station: &mut MemoryStation) -> Result<Vec<[u8; 4096]>, Fail> {
+pub fn image_of(rt: &impl Abort, alloc: Global, station: &mut MemoryStation) -> Vec<[u8; 4096]> {
     let mut image = Vec::new(alloc);
     for sector in 0..station.count() {
-        image.push(sector_bytes(station, sector)?)?;
+        let bytes = sector_bytes(rt, station, sector);
+        assert!(rt; image.push(bytes).is_ok());
     }
-    Ok(image)
+    image
 }
 
 /// The sectors that are not as they were, in ascending order.
 pub fn changed(
+    rt: &impl Abort,
     alloc: Global,
     station: &mut MemoryStation,
     before: &[[u8; 4096]],
-) -> Result<Vec<u32>, Fail> {
+) -> Vec<u32> {
     let mut sectors = Vec::new(alloc);
     let mut sector = 0u32;
     for old in before.iter() {
-        if sector_bytes(station, sector)? != *old {
-            sectors.push(sector)?;
+        if sector_bytes(rt, station, sector) != *old {
+            assert!(rt; sectors.push(sector).is_ok());
         }
         sector = sector.wrapping_add(1);
     }
-    Ok(sectors)
+    sectors
 }
 
 /// A change to an image.
@@ -158,8 +158,7 @@ pub fn image_with(alloc: Global, generation: u64) -> Result<Vec<[u8; 4096]>, All
     Ok(image)
 }
 
-/// A station with the volume of `image_with` after these changes.
-pub fn station_with(
+fn changed_image(
     alloc: Global,
     generation: u64,
     edits: &[Edit],
@@ -172,4 +171,17 @@ pub fn station_with(
         return Err(AllocError);
     }
     MemoryStation::new(alloc, image, Vec::new(alloc))
+}
+
+/// A station with the volume of `image_with` after these changes.
+pub fn station_with(
+    rt: &impl Abort,
+    alloc: Global,
+    generation: u64,
+    edits: &[Edit],
+) -> MemoryStation {
+    match changed_image(alloc, generation, edits) {
+        Ok(station) => station,
+        Err(_) => panic!(rt; "no memory"),
+    }
 }

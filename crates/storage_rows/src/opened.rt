@@ -1,36 +1,22 @@
-//! Calls on an opened volume, each of which asserts first what `pages` asks of its caller, and loops of them.
-ghost use Rattle.std.specs.Prelude.{◌≤◌, IfOk};
-ghost use Rattle.pages.specs.Pages.{IsOpen};
-
+//! An opened volume and the station that it is on, with the calls that the rows make.
+//!
+//! Each call asserts first what `pages` asks of its caller. No test has a `?`: what a row expects to work is asserted, since each `?`
+//! in a test is one more path on which everything has to be let go, and proved so.
+use crate::image::{changed, image_of, sector_bytes};
 use pages::{PageMap, PagesError, format};
 use station::{Device, MemoryStation};
 use std::alloc::{AllocError, Global};
+use std::marker::Model;
 use std::process::Abort;
-use std::test::Fail;
 
-/// Opens the volume of a station, with a cache that is smaller than what most rows read.
-pub fn open(alloc: Global, station: &mut MemoryStation) -> Result<PageMap, PagesError>
-    ensures { IfOk result (λ pages. IsOpen pages) }
-{
-    open_with(alloc, station, 2)
-}
-
-/// Opens the volume of a station with a cache of so many pages, from 1 to 4,096.
-pub fn open_with(
-    alloc: Global,
-    station: &mut MemoryStation,
-    capacity: usize,
-) -> Result<PageMap, PagesError>
-    requires least { 1 ≤ capacity }
-    requires most { capacity ≤ 4096 }
-    ensures { IfOk result (λ pages. IsOpen pages) }
-{
-    PageMap::open(alloc, station, capacity)
+/// Asserts that a call wasn't refused.
+pub fn works(rt: &impl Abort, answer: Result<(), PagesError>) {
+    assert_eq!(rt; answer, Ok(()));
 }
 
 /// Why the volume of a station can't be opened, if it can't.
 pub fn refusal(alloc: Global, station: &mut MemoryStation) -> Option<PagesError> {
-    match open(alloc, station) {
+    match PageMap::open(alloc, station, 2) {
         Ok(_) => None,
         Err(error) => Some(error),
     }
@@ -41,115 +27,31 @@ pub fn filled(byte: u8) -> [u8; 4096] {
     [byte; 4096]
 }
 
-/// A station of so many sectors of zeros.
-pub fn blank_station(alloc: Global, sectors: u32) -> Result<MemoryStation, AllocError> {
+fn station_of_zeros(alloc: Global, sectors: u32) -> Result<MemoryStation, AllocError> {
     let bytes = vec![in alloc; filled(0); sectors as usize]?;
     MemoryStation::new(alloc, bytes, Vec::new(alloc))
 }
 
-/// A station with an empty volume of so many sectors, from 1,024 to 921,600.
-pub fn new_volume(rt: &impl Abort, alloc: Global, sectors: u32) -> Result<MemoryStation, Fail> {
-    let mut station = blank_station(alloc, sectors)?;
+/// A station of so many sectors of zeros.
+pub fn blank_station(rt: &impl Abort, alloc: Global, sectors: u32) -> MemoryStation {
+    match station_of_zeros(alloc, sectors) {
+        Ok(station) => station,
+        Err(_) => panic!(rt; "no memory"),
+    }
+}
+
+/// Makes an empty volume on a station of 1,024 to 921,600 sectors.
+pub fn make_volume(rt: &impl Abort, station: &mut MemoryStation) {
     assert!(rt; 1024 <= station.count());
     assert!(rt; station.count() <= 921_600);
-    format(&mut station)?;
-    Ok(station)
+    assert!(rt; format(station).is_ok());
 }
 
-/// Gives a page bytes that are all alike.
-pub fn edit(rt: &impl Abort, pages: &mut PageMap, page: u32, byte: u8) -> Result<(), PagesError>
-    requires { IsOpen pages.old }
-    ensures { IsOpen pages.new }
-{
-    assert!(rt; 0 < page);
-    assert!(rt; (page as usize) < pages.page_count());
-    pages.edit(page, &filled(byte))
-}
-
-/// Gives the pages from the first on, up to but without the end, bytes that are all alike.
-pub fn edit_all(
-    rt: &impl Abort,
-    pages: &mut PageMap,
-    first: u32,
-    end: u32,
-    byte: u8,
-) -> Result<(), PagesError>
-    requires { IsOpen pages.old }
-    ensures { IsOpen pages.new }
-{
-    for page in first..end {
-        edit(rt, pages, page, byte)?;
-    }
-    Ok(())
-}
-
-/// Allocates so many pages. The answer is the sum of their numbers.
-pub fn allocate_all(pages: &mut PageMap, count: u32) -> Result<u64, PagesError>
-    requires { IsOpen pages.old }
-    ensures { IsOpen pages.new }
-{
-    let mut sum = 0u64;
-    for _ in 0..count {
-        sum = sum.wrapping_add(pages.allocate()? as u64);
-    }
-    Ok(sum)
-}
-
-/// Takes a page out of the map.
-pub fn release(rt: &impl Abort, pages: &mut PageMap, page: u32) -> Result<(), PagesError>
-    requires { IsOpen pages.old }
-    ensures { IsOpen pages.new }
-{
-    assert!(rt; 0 < page);
-    assert!(rt; (page as usize) < pages.page_count());
-    pages.release(page)
-}
-
-/// Commits what was changed.
-pub fn commit(
-    rt: &impl Abort,
-    pages: &mut PageMap,
-    station: &mut MemoryStation,
-) -> Result<(), PagesError>
-    requires { IsOpen pages.old }
-    ensures { IsOpen pages.new }
-{
-    assert!(rt; pages.sectors() <= station.count());
-    pages.commit(station)
-}
-
-/// The byte that a page is filled with, 255 where its bytes aren't alike, or none.
-pub fn read(
-    rt: &impl Abort,
-    pages: &mut PageMap,
-    station: &mut MemoryStation,
-    page: u32,
-) -> Result<Option<u8>, PagesError>
-    requires { IsOpen pages.old }
-    ensures { IsOpen pages.new }
-{
-    assert!(rt; pages.sectors() <= station.count());
-    match pages.read(station, page)? {
-        Some(bytes) => Ok(Some(alike(&bytes))),
-        None => Ok(None),
-    }
-}
-
-/// Asserts that these pages are filled with these bytes, or aren't there.
-pub fn reads_as(
-    rt: &impl Abort,
-    pages: &mut PageMap,
-    station: &mut MemoryStation,
-    expected: &[(u32, Option<u8>)],
-) -> Result<(), PagesError>
-    requires { IsOpen pages.old }
-    ensures { IsOpen pages.new }
-{
-    for (page, byte) in expected {
-        let seen = read(rt, pages, station, *page)?;
-        assert!(rt; seen == *byte, "{page}");
-    }
-    Ok(())
+/// A station with an empty volume of so many sectors.
+pub fn new_volume(rt: &impl Abort, alloc: Global, sectors: u32) -> MemoryStation {
+    let mut station = blank_station(rt, alloc, sectors);
+    make_volume(rt, &mut station);
+    station
 }
 
 /// The byte that a page is filled with, 255 where its bytes aren't alike.
@@ -160,22 +62,6 @@ fn alike(bytes: &[u8; 4096]) -> u8 {
     } else {
         255
     }
-}
-
-/// The pages 1 to 4.
-pub fn first_pages(
-    rt: &impl Abort,
-    pages: &mut PageMap,
-    station: &mut MemoryStation,
-) -> Result<[Option<u8>; 4], PagesError>
-    requires { IsOpen pages.old }
-    ensures { IsOpen pages.new }
-{
-    let first = read(rt, pages, station, 1)?;
-    let second = read(rt, pages, station, 2)?;
-    let third = read(rt, pages, station, 3)?;
-    let fourth = read(rt, pages, station, 4)?;
-    Ok([first, second, third, fourth])
 }
 
 /// How often a station's sectors were to be read and written, and syncs were asked for.
@@ -195,11 +81,206 @@ pub fn counts_of(station: &MemoryStation) -> Counts {
     }
 }
 
-/// The writes and the syncs after those.
-pub fn since(before: Counts, station: &MemoryStation) -> (u64, u64) {
-    let now = counts_of(station);
-    (
-        now.writes.wrapping_sub(before.writes),
-        now.syncs.wrapping_sub(before.syncs),
-    )
+/// An opened volume on its station.
+#[derive(Drop)]
+pub struct Volume {
+    pages: PageMap,
+    station: MemoryStation,
+}
+
+impl Model for Volume {
+    ghost use Rattle.std.specs.Prelude.{ℕ};
+    ghost use Rattle.pages.specs.Pages.{IsOpen, sectors_of};
+
+    // Its number of sectors. No clause speaks of it: what counts is the invariant.
+    ghost Value = { ℕ };
+
+    ghost view = { λ volume. sectors_of volume.pages };
+
+    ghost invariant = { λ volume. IsOpen volume.pages };
+}
+
+impl Volume {
+    /// Opens the volume of a station, with a cache that is smaller than what most rows read.
+    pub fn open(rt: &impl Abort, alloc: Global, mut station: MemoryStation) -> Volume {
+        match PageMap::open(alloc, &mut station, 2) {
+            Ok(pages) => Volume { pages, station },
+            Err(error) => panic!(rt; "open: {error:?}"),
+        }
+    }
+
+    /// An empty volume of so many sectors, opened.
+    pub fn empty(rt: &impl Abort, alloc: Global, sectors: u32) -> Volume {
+        Volume::open(rt, alloc, new_volume(rt, alloc, sectors))
+    }
+
+    /// Opens the volume again, with a cache of two pages. What wasn't committed is gone.
+    pub fn reopen(&mut self, rt: &impl Abort, alloc: Global) {
+        self.reopen_with(rt, alloc, 2);
+    }
+
+    /// Opens the volume again with a cache of so many pages, from 1 to 4,096.
+    pub fn reopen_with(&mut self, rt: &impl Abort, alloc: Global, capacity: usize) {
+        assert!(rt; 1 <= capacity);
+        assert!(rt; capacity <= 4096);
+        match PageMap::open(alloc, &mut self.station, capacity) {
+            Ok(pages) => self.pages = pages,
+            Err(error) => panic!(rt; "open: {error:?}"),
+        }
+    }
+
+    /// Makes an empty volume in place of this one, and opens it.
+    pub fn make_anew(&mut self, rt: &impl Abort, alloc: Global) {
+        make_volume(rt, &mut self.station);
+        self.reopen(rt, alloc);
+    }
+
+    /// Gives a page bytes that are all alike.
+    pub fn edit(&mut self, rt: &impl Abort, page: u32, byte: u8) -> Result<(), PagesError> {
+        assert!(rt; 0 < page);
+        assert!(rt; (page as usize) < self.pages.page_count());
+        self.pages.edit(page, &filled(byte))
+    }
+
+    /// Gives the pages from the first on, up to but without the end, bytes that are all alike.
+    pub fn edit_all(&mut self, rt: &impl Abort, first: u32, end: u32, byte: u8) {
+        for page in first..end {
+            works(rt, self.edit(rt, page, byte));
+        }
+    }
+
+    /// Takes a number that no page has for a page of zeros.
+    pub fn allocate(&mut self) -> Result<u32, PagesError> {
+        self.pages.allocate()
+    }
+
+    /// The number of a page that was allocated.
+    pub fn allocated(&mut self, rt: &impl Abort) -> u32 {
+        match self.pages.allocate() {
+            Ok(page) => page,
+            Err(error) => panic!(rt; "allocate: {error:?}"),
+        }
+    }
+
+    /// Allocates so many pages. The answer is the sum of their numbers.
+    pub fn allocate_all(&mut self, rt: &impl Abort, count: u32) -> u64 {
+        let mut sum = 0u64;
+        for _ in 0..count {
+            sum = sum.wrapping_add(self.allocated(rt) as u64);
+        }
+        sum
+    }
+
+    /// Takes a page out of the map.
+    pub fn release(&mut self, rt: &impl Abort, page: u32) -> Result<(), PagesError> {
+        assert!(rt; 0 < page);
+        assert!(rt; (page as usize) < self.pages.page_count());
+        self.pages.release(page)
+    }
+
+    pub fn set_catalog(&mut self, page: u32) {
+        self.pages.set_catalog(page);
+    }
+
+    /// Commits what was changed.
+    pub fn commit(&mut self, rt: &impl Abort) -> Result<(), PagesError> {
+        assert!(rt; self.pages.sectors() <= self.station.count());
+        self.pages.commit(&mut self.station)
+    }
+
+    /// The byte that a page is filled with, 255 where its bytes aren't alike, or none.
+    pub fn read(&mut self, rt: &impl Abort, page: u32) -> Result<Option<u8>, PagesError> {
+        assert!(rt; self.pages.sectors() <= self.station.count());
+        match self.pages.read(&mut self.station, page) {
+            Ok(Some(bytes)) => Ok(Some(alike(&bytes))),
+            Ok(None) => Ok(None),
+            Err(error) => Err(error),
+        }
+    }
+
+    /// What a page has that can be read.
+    pub fn has(&mut self, rt: &impl Abort, page: u32) -> Option<u8> {
+        match self.read(rt, page) {
+            Ok(byte) => byte,
+            Err(error) => panic!(rt; "read {page}: {error:?}"),
+        }
+    }
+
+    /// The pages 1 to 4.
+    pub fn first_pages(&mut self, rt: &impl Abort) -> [Option<u8>; 4] {
+        [
+            self.has(rt, 1),
+            self.has(rt, 2),
+            self.has(rt, 3),
+            self.has(rt, 4),
+        ]
+    }
+
+    /// Asserts that these pages are filled with these bytes, or aren't there.
+    pub fn reads_as(&mut self, rt: &impl Abort, expected: &[(u32, Option<u8>)]) {
+        for (page, byte) in expected {
+            assert!(rt; self.has(rt, *page) == *byte, "{page}");
+        }
+    }
+
+    pub fn catalog(&self) -> u32 {
+        self.pages.catalog()
+    }
+
+    pub fn touched(&self) -> usize {
+        self.pages.touched()
+    }
+
+    pub fn free_sectors(&self) -> u32 {
+        self.pages.free_sectors()
+    }
+
+    pub fn page_count(&self) -> usize {
+        self.pages.page_count()
+    }
+
+    pub fn sectors(&self) -> u32 {
+        self.pages.sectors()
+    }
+
+    /// The counts of the device up to now.
+    pub fn counts(&self) -> Counts {
+        counts_of(&self.station)
+    }
+
+    /// The writes and the syncs after those.
+    pub fn since(&self, before: Counts) -> (u64, u64) {
+        let now = self.counts();
+        (
+            now.writes.wrapping_sub(before.writes),
+            now.syncs.wrapping_sub(before.syncs),
+        )
+    }
+
+    pub fn fail_at(&mut self, n: u64) {
+        self.station.fail_at(n);
+    }
+
+    pub fn stop_at(&mut self, n: u64) {
+        self.station.stop_at(n);
+    }
+
+    pub fn crash(&mut self, choose: &[u32]) {
+        self.station.crash(choose);
+    }
+
+    /// The bytes of a sector of the device.
+    pub fn sector(&mut self, rt: &impl Abort, sector: u32) -> [u8; 4096] {
+        sector_bytes(rt, &mut self.station, sector)
+    }
+
+    /// All sectors of the device.
+    pub fn image(&mut self, rt: &impl Abort, alloc: Global) -> Vec<[u8; 4096]> {
+        image_of(rt, alloc, &mut self.station)
+    }
+
+    /// The sectors that are not as they were, in ascending order.
+    pub fn changed(&mut self, rt: &impl Abort, alloc: Global, before: &[[u8; 4096]]) -> Vec<u32> {
+        changed(rt, alloc, &mut self.station, before)
+    }
 }

@@ -1,45 +1,33 @@
 //! Rows of the cache of pages: how often the device is read.
-ghost use Rattle.pages.specs.Pages.{IsOpen};
-
-use crate::opened::{commit, counts_of, edit, new_volume, open, open_with, read, release};
-use pages::{PageMap, PagesError};
-use station::MemoryStation;
+use crate::asserted::{same, same_in};
+use crate::opened::{Volume, works};
+use pages::PagesError;
 use std::alloc::Global;
 use std::process::Abort;
-use std::test::Fail;
 
-// The pages 1, 2 and 3, filled with their number.
-fn three_pages(rt: &impl Abort, alloc: Global) -> Result<MemoryStation, Fail> {
-    let mut station = new_volume(rt, alloc, 1024)?;
-    let mut pages = open(alloc, &mut station)?;
-    edit(rt, &mut pages, 1, 1)?;
-    edit(rt, &mut pages, 2, 2)?;
-    edit(rt, &mut pages, 3, 3)?;
-    commit(rt, &mut pages, &mut station)?;
-    Ok(station)
+// The pages 1, 2 and 3, filled with their number, in a volume that is opened with a cache of so many pages.
+fn three_pages(rt: &impl Abort, alloc: Global, capacity: usize) -> Volume {
+    let mut volume = Volume::empty(rt, alloc, 1024);
+    works(rt, volume.edit(rt, 1, 1));
+    works(rt, volume.edit(rt, 2, 2));
+    works(rt, volume.edit(rt, 3, 3));
+    works(rt, volume.commit(rt));
+    volume.reopen_with(rt, alloc, capacity);
+    volume
 }
 
 // How often the device is read while five pages, filled with their number, are.
-fn reads_of(
-    rt: &impl Abort,
-    pages: &mut PageMap,
-    station: &mut MemoryStation,
-    numbers: &[u8; 5],
-) -> Result<u64, PagesError>
-    requires { IsOpen pages.old }
-    ensures { IsOpen pages.new }
-{
-    let before = counts_of(station).reads;
+fn reads_of(rt: &impl Abort, volume: &mut Volume, numbers: &[u8; 5]) -> u64 {
+    let before = volume.counts().reads;
     for number in numbers {
-        let seen = read(rt, pages, station, *number as u32)?;
-        assert!(rt; seen == Some(*number));
+        same(rt, volume.has(rt, *number as u32), Some(*number));
     }
-    Ok(counts_of(station).reads.wrapping_sub(before))
+    volume.counts().reads.wrapping_sub(before)
 }
 
 // The page that was used least lately gives its place away.
 #[test]
-fn reads_of_the_device(rt: HostRuntime) -> Result<(), Fail> {
+fn reads_of_the_device(rt: HostRuntime) {
     for (capacity, numbers, reads) in [
         (1, [1, 1, 2, 3, 1], 4),
         (2, [1, 1, 2, 3, 1], 4),
@@ -50,47 +38,40 @@ fn reads_of_the_device(rt: HostRuntime) -> Result<(), Fail> {
         (2, [1, 2, 1, 3, 2], 4),
         (3, [3, 3, 3, 3, 3], 1),
     ] {
-        let mut station = three_pages(&rt, rt.alloc())?;
-        let mut pages = open_with(rt.alloc(), &mut station, capacity)?;
-        let told = reads_of(&rt, &mut pages, &mut station, &numbers)?;
-        assert_eq!(rt; told, reads, "{capacity}, {numbers:?}");
+        let mut volume = three_pages(&rt, rt.alloc(), capacity);
+        let told = reads_of(&rt, &mut volume, &numbers);
+        same_in(&rt, &(capacity, numbers), told, reads);
     }
-    Ok(())
 }
 
 // An edited page is seen as it was edited, before its commit, after it, and once it is released.
 #[test]
-fn no_page_as_it_was_before_an_edit(rt: HostRuntime) -> Result<(), Fail> {
+fn no_page_as_it_was_before_an_edit(rt: HostRuntime) {
     for capacity in [1, 2, 3, 4096] {
-        let mut station = three_pages(&rt, rt.alloc())?;
-        let mut pages = open_with(rt.alloc(), &mut station, capacity)?;
-        assert_eq!(rt; read(&rt, &mut pages, &mut station, 1)?, Some(1));
-        edit(&rt, &mut pages, 1, 11)?;
-        assert_eq!(rt; read(&rt, &mut pages, &mut station, 1)?, Some(11));
-        commit(&rt, &mut pages, &mut station)?;
-        assert_eq!(rt; read(&rt, &mut pages, &mut station, 1)?, Some(11));
-        assert_eq!(rt; read(&rt, &mut pages, &mut station, 2)?, Some(2));
-        release(&rt, &mut pages, 1)?;
-        assert_eq!(rt; read(&rt, &mut pages, &mut station, 1)?, None);
-        commit(&rt, &mut pages, &mut station)?;
-        assert_eq!(rt; read(&rt, &mut pages, &mut station, 1)?, None);
-        edit(&rt, &mut pages, 1, 12)?;
-        assert_eq!(rt; read(&rt, &mut pages, &mut station, 1)?, Some(12));
+        let mut volume = three_pages(&rt, rt.alloc(), capacity);
+        same(&rt, volume.has(&rt, 1), Some(1));
+        works(&rt, volume.edit(&rt, 1, 11));
+        same(&rt, volume.has(&rt, 1), Some(11));
+        works(&rt, volume.commit(&rt));
+        same(&rt, volume.has(&rt, 1), Some(11));
+        same(&rt, volume.has(&rt, 2), Some(2));
+        works(&rt, volume.release(&rt, 1));
+        same(&rt, volume.has(&rt, 1), None);
+        works(&rt, volume.commit(&rt));
+        same(&rt, volume.has(&rt, 1), None);
+        works(&rt, volume.edit(&rt, 1, 12));
+        same(&rt, volume.has(&rt, 1), Some(12));
     }
-    Ok(())
 }
 
 // A read that failed leaves the cache as it was: page 1 is still there, page 2 isn't.
 #[test]
-fn a_failed_read_keeps_the_cache(rt: HostRuntime) -> Result<(), Fail> {
-    let mut station = three_pages(&rt, rt.alloc())?;
-    let mut pages = open_with(rt.alloc(), &mut station, 1)?;
-    assert_eq!(rt; read(&rt, &mut pages, &mut station, 1)?, Some(1));
-    station.stop_at(1);
-    let answer = read(&rt, &mut pages, &mut station, 2);
-    assert_eq!(rt; answer, Err(PagesError::Device));
-    assert_eq!(rt; read(&rt, &mut pages, &mut station, 1)?, Some(1));
-    station.fail_at(1_000_000);
-    assert_eq!(rt; read(&rt, &mut pages, &mut station, 2)?, Some(2));
-    Ok(())
+fn a_failed_read_keeps_the_cache(rt: HostRuntime) {
+    let mut volume = three_pages(&rt, rt.alloc(), 1);
+    same(&rt, volume.has(&rt, 1), Some(1));
+    volume.stop_at(1);
+    same(&rt, volume.read(&rt, 2), Err(PagesError::Device));
+    same(&rt, volume.has(&rt, 1), Some(1));
+    volume.fail_at(1_000_000);
+    same(&rt, volume.has(&rt, 2), Some(2));
 }

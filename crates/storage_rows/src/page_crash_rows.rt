@@ -1,16 +1,10 @@
 //! Rows of commits that are stopped, or that fail, at each of their calls: a crash leaves the old map or the new one, whole.
-ghost use Rattle.std.specs.Prelude.{IfOk};
-ghost use Rattle.pages.specs.Pages.{IsOpen};
-
+use crate::asserted::{same, same_in};
 use crate::image::station_with;
-use crate::opened::{
-    commit, counts_of, edit, first_pages, new_volume, open, read, refusal, release,
-};
-use pages::{PageMap, PagesError};
-use station::MemoryStation;
+use crate::opened::{Volume, refusal, works};
+use pages::PagesError;
 use std::alloc::Global;
 use std::process::Abort;
-use std::test::Fail;
 
 // Which of the values that a sector may have is left, in order of the sectors: the stable ones, the written ones, and one written
 // one alone.
@@ -56,67 +50,51 @@ const RELEASES: Row = Row {
     new: ([Some(11), None, Some(3), Some(14)], 4, 1018),
 };
 
-fn seen(rt: &impl Abort, alloc: Global, station: &mut MemoryStation) -> Result<Seen, PagesError> {
-    let mut pages = open(alloc, station)?;
-    let first = first_pages(rt, &mut pages, station)?;
-    Ok((first, pages.catalog(), pages.free_sectors()))
+fn seen(rt: &impl Abort, volume: &mut Volume) -> Seen {
+    let first = volume.first_pages(rt);
+    (first, volume.catalog(), volume.free_sectors())
 }
 
-// A station with the old map.
-fn old_volume(rt: &impl Abort, alloc: Global) -> Result<MemoryStation, Fail> {
-    let mut station = new_volume(rt, alloc, 1024)?;
-    let mut pages = open(alloc, &mut station)?;
-    edit(rt, &mut pages, 1, 1)?;
-    edit(rt, &mut pages, 2, 2)?;
-    edit(rt, &mut pages, 3, 3)?;
-    pages.set_catalog(1);
-    commit(rt, &mut pages, &mut station)?;
-    Ok(station)
+// A volume with the old map.
+fn old_volume(rt: &impl Abort, alloc: Global) -> Volume {
+    let mut volume = Volume::empty(rt, alloc, 1024);
+    works(rt, volume.edit(rt, 1, 1));
+    works(rt, volume.edit(rt, 2, 2));
+    works(rt, volume.edit(rt, 3, 3));
+    volume.set_catalog(1);
+    works(rt, volume.commit(rt));
+    volume.reopen(rt, alloc);
+    volume
 }
 
-// The old map with three pages changed, and nothing committed.
-fn changed_pages(
-    rt: &impl Abort,
-    alloc: Global,
-    station: &mut MemoryStation,
-    row: Row,
-) -> Result<PageMap, PagesError>
-    ensures { IfOk result (λ pages. IsOpen pages) }
-{
-    let mut pages = open(alloc, station)?;
-    edit(rt, &mut pages, 1, 11)?;
+// Changes three pages of the old map, and commits nothing.
+fn change_pages(rt: &impl Abort, volume: &mut Volume, row: Row) {
+    works(rt, volume.edit(rt, 1, 11));
     if row.releases {
-        release(rt, &mut pages, 2)?;
+        works(rt, volume.release(rt, 2));
     } else {
-        edit(rt, &mut pages, 3, 13)?;
+        works(rt, volume.edit(rt, 3, 13));
     }
-    edit(rt, &mut pages, 4, 14)?;
-    pages.set_catalog(4);
-    Ok(pages)
+    works(rt, volume.edit(rt, 4, 14));
+    volume.set_catalog(4);
 }
 
-// A station on which the row's commit failed at a call, and where it is to be stopped each later one too.
-fn failed_at(
-    rt: &impl Abort,
-    alloc: Global,
-    row: Row,
-    call: u64,
-    stops: bool,
-) -> Result<MemoryStation, Fail> {
-    let mut station = old_volume(rt, alloc)?;
-    let mut pages = changed_pages(rt, alloc, &mut station, row)?;
+// A volume on whose device the row's commit failed at a call, and where it is to be stopped each later one too.
+fn failed_at(rt: &impl Abort, alloc: Global, row: Row, call: u64, stops: bool) -> Volume {
+    let mut volume = old_volume(rt, alloc);
+    change_pages(rt, &mut volume, row);
     if stops {
-        station.stop_at(call);
+        volume.stop_at(call);
     } else {
-        station.fail_at(call);
+        volume.fail_at(call);
     }
-    let answer = commit(rt, &mut pages, &mut station);
+    let answer = volume.commit(rt);
     if call > row.calls {
-        assert!(rt; answer.is_ok(), "at {call}");
+        same_in(rt, &call, answer.is_ok(), true);
     } else {
-        assert!(rt; answer == Err(PagesError::Device), "at {call}");
+        same_in(rt, &call, answer, Err(PagesError::Device));
     }
-    Ok(station)
+    volume
 }
 
 // The map that has to be there, where the new root is.
@@ -125,80 +103,80 @@ fn expected(row: Row, is_new: bool) -> Seen {
 }
 
 // Before the root is written no crash leaves the new map, and then one does that leaves the root.
-fn crashes(rt: &impl Abort, alloc: Global, row: Row, stops: bool) -> Result<(), Fail> {
+fn crashes(rt: &impl Abort, alloc: Global, row: Row, stops: bool) {
     for call in 1..=8 {
         for choose in CHOICES.iter() {
-            let mut station = failed_at(rt, alloc, row, call, stops)?;
-            station.crash(choose);
+            let mut volume = failed_at(rt, alloc, row, call, stops);
+            volume.crash(choose);
+            volume.reopen(rt, alloc);
             let is_new = call > row.calls || call >= row.root && choose[0] == 1;
-            let left = seen(rt, alloc, &mut station)?;
-            assert_eq!(rt; left, expected(row, is_new), "at {call}, {choose:?}");
+            let left = seen(rt, &mut volume);
+            same_in(rt, &(call, choose), left, expected(row, is_new));
         }
     }
-    Ok(())
 }
 
 #[test]
-fn a_stop_at_each_call(rt: HostRuntime) -> Result<(), Fail> {
-    crashes(&rt, rt.alloc(), EDITS, true)
+fn a_stop_at_each_call(rt: HostRuntime) {
+    crashes(&rt, rt.alloc(), EDITS, true);
 }
 
 #[test]
-fn a_failure_at_each_call(rt: HostRuntime) -> Result<(), Fail> {
-    crashes(&rt, rt.alloc(), EDITS, false)
+fn a_failure_at_each_call(rt: HostRuntime) {
+    crashes(&rt, rt.alloc(), EDITS, false);
 }
 
 #[test]
-fn a_stop_at_each_call_with_a_release(rt: HostRuntime) -> Result<(), Fail> {
-    crashes(&rt, rt.alloc(), RELEASES, true)
+fn a_stop_at_each_call_with_a_release(rt: HostRuntime) {
+    crashes(&rt, rt.alloc(), RELEASES, true);
 }
 
 #[test]
-fn a_failure_at_each_call_with_a_release(rt: HostRuntime) -> Result<(), Fail> {
-    crashes(&rt, rt.alloc(), RELEASES, false)
+fn a_failure_at_each_call_with_a_release(rt: HostRuntime) {
+    crashes(&rt, rt.alloc(), RELEASES, false);
 }
 
-// After a crash that leaves all that was written, and one that leaves nothing of it, the volume takes further commits.
+// After a crash the volume takes a further commit.
+fn commits_again(rt: &impl Abort, alloc: Global, call: u64, choose: &[u32]) {
+    let mut volume = failed_at(rt, alloc, EDITS, call, true);
+    volume.crash(choose);
+    volume.reopen(rt, alloc);
+    let left = volume.has(rt, 1);
+    works(rt, volume.edit(rt, 2, 77));
+    works(rt, volume.commit(rt));
+    volume.reopen(rt, alloc);
+    let now = (volume.has(rt, 1), volume.has(rt, 2));
+    same_in(rt, &(call, choose), now, (left, Some(77)));
+}
+
+// A crash leaves all that was written, or nothing of it.
 #[test]
-fn a_commit_after_a_crash(rt: HostRuntime) -> Result<(), Fail> {
+fn a_commit_after_a_crash(rt: HostRuntime) {
     for call in 1..=8 {
-        for choose in [[0; 5], [1; 5]] {
-            let mut station = failed_at(&rt, rt.alloc(), EDITS, call, true)?;
-            station.crash(&choose);
-            let mut pages = open(rt.alloc(), &mut station)?;
-            let left = read(&rt, &mut pages, &mut station, 1)?;
-            edit(&rt, &mut pages, 2, 77)?;
-            commit(&rt, &mut pages, &mut station)?;
-            let mut again = open(rt.alloc(), &mut station)?;
-            let now = [
-                read(&rt, &mut again, &mut station, 1)?,
-                read(&rt, &mut again, &mut station, 2)?,
-            ];
-            assert_eq!(rt; now, [left, Some(77)], "at {call}, {choose:?}");
-        }
+        commits_again(&rt, rt.alloc(), call, &[0; 5]);
+        commits_again(&rt, rt.alloc(), call, &[1; 5]);
     }
-    Ok(())
 }
 
 // With no crash after the failure, the new map is there once the root was written.
 #[test]
-fn a_failure_and_no_crash(rt: HostRuntime) -> Result<(), Fail> {
+fn a_failure_and_no_crash(rt: HostRuntime) {
     for row in [EDITS, RELEASES] {
         for call in 1..=8 {
-            let mut station = failed_at(&rt, rt.alloc(), row, call, false)?;
-            station.fail_at(1_000_000);
-            let left = seen(&rt, rt.alloc(), &mut station)?;
-            assert_eq!(rt; left, expected(row, call >= row.calls), "at {call}");
+            let mut volume = failed_at(&rt, rt.alloc(), row, call, false);
+            volume.fail_at(1_000_000);
+            volume.reopen(&rt, rt.alloc());
+            let left = seen(&rt, &mut volume);
+            same_in(&rt, &call, left, expected(row, call >= row.calls));
         }
     }
-    Ok(())
 }
 
 // A sync, the two roots and two maps: the volume can't be opened where one of these fails, and then it can.
 #[test]
-fn a_failure_of_open(rt: HostRuntime) -> Result<(), Fail> {
+fn a_failure_of_open(rt: HostRuntime) {
     for call in 1..=6 {
-        let mut station = station_with(rt.alloc(), 1, &[])?;
+        let mut station = station_with(&rt, rt.alloc(), 1, &[]);
         station.fail_at(call);
         let answer = refusal(rt.alloc(), &mut station);
         let expected = if call < 6 {
@@ -206,31 +184,30 @@ fn a_failure_of_open(rt: HostRuntime) -> Result<(), Fail> {
         } else {
             None
         };
-        assert_eq!(rt; answer, expected, "at {call}");
+        same_in(&rt, &call, answer, expected);
         station.fail_at(1_000_000);
-        assert_eq!(rt; refusal(rt.alloc(), &mut station), None, "at {call}");
-        assert_eq!(rt; station.writes(), 0, "at {call}");
+        same_in(&rt, &call, refusal(rt.alloc(), &mut station), None);
+        same_in(&rt, &call, station.writes(), 0);
     }
-    Ok(())
 }
 
 // A read that failed changes nothing; a page that was edited and one that isn't there need no device.
 #[test]
-fn a_failure_of_read(rt: HostRuntime) -> Result<(), Fail> {
-    let mut station = old_volume(&rt, rt.alloc())?;
-    let mut pages = open(rt.alloc(), &mut station)?;
-    edit(&rt, &mut pages, 2, 22)?;
-    station.stop_at(1);
-    assert_eq!(rt; read(&rt, &mut pages, &mut station, 2)?, Some(22));
-    assert_eq!(rt; read(&rt, &mut pages, &mut station, 4)?, None);
-    let answer = read(&rt, &mut pages, &mut station, 1);
-    assert_eq!(rt; answer, Err(PagesError::Device));
-    station.fail_at(1_000_000);
-    let before = counts_of(&station);
-    let seen = first_pages(&rt, &mut pages, &mut station)?;
-    assert_eq!(rt; seen, [Some(1), Some(22), Some(3), None]);
-    let now = counts_of(&station);
-    assert_eq!(rt; now.reads.wrapping_sub(before.reads), 2);
-    assert_eq!(rt; (now.writes, now.syncs), (before.writes, before.syncs));
-    Ok(())
+fn a_failure_of_read(rt: HostRuntime) {
+    let mut volume = old_volume(&rt, rt.alloc());
+    works(&rt, volume.edit(&rt, 2, 22));
+    volume.stop_at(1);
+    same(&rt, volume.has(&rt, 2), Some(22));
+    same(&rt, volume.has(&rt, 4), None);
+    same(&rt, volume.read(&rt, 1), Err(PagesError::Device));
+    volume.fail_at(1_000_000);
+    let before = volume.counts();
+    same(
+        &rt,
+        volume.first_pages(&rt),
+        [Some(1), Some(22), Some(3), None],
+    );
+    let now = volume.counts();
+    same(&rt, now.reads.wrapping_sub(before.reads), 2);
+    same(&rt, (now.writes, now.syncs), (before.writes, before.syncs));
 }

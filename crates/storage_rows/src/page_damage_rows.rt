@@ -2,16 +2,16 @@
 //!
 //! The volume that is changed has 1,500 sectors on a device of 2,000. Its older root is in sector 0, its newest in sector 1, page 1
 //! in sector 2, page 1,024 in sector 3, and their maps in the sectors 4 and 5.
+use crate::asserted::{same, same_in};
 use crate::image::Edit::{Blank, Word};
 use crate::image::{
     BEHIND, CATALOG, COUNT, Edit, FIRST_MAP, FOREIGN_MARK, GENERATION, LOW_GENERATION, MAP_COUNT,
     MARK, SECOND_MAP, station_with,
 };
-use crate::opened::{first_pages, open, read, refusal};
+use crate::opened::{Volume, refusal};
 use pages::PagesError;
 use std::alloc::Global;
 use std::process::Abort;
-use std::test::Fail;
 
 const HIGHEST: u32 = 0x8000_0000;
 
@@ -213,66 +213,51 @@ const FOREIGN: [(&str, &[Edit]); 3] = [
     ),
 ];
 
-// Why a volume with these changes can't be opened. Opening syncs once and writes nothing.
-fn refused(
+// Asserts that volumes with these changes can't be opened for this reason, or can where there is none. Opening syncs once and writes
+// nothing.
+fn answer_as(
     rt: &impl Abort,
     alloc: Global,
-    name: &str,
-    edits: &[Edit],
-) -> Result<Option<PagesError>, Fail> {
-    let mut station = station_with(alloc, 1, edits)?;
-    let answer = refusal(alloc, &mut station);
-    assert_eq!(rt; (station.writes(), station.syncs()), (0, 1), "{name}");
-    Ok(answer)
+    rows: &[(&str, &[Edit])],
+    expected: Option<PagesError>,
+) {
+    for (name, edits) in rows {
+        let mut station = station_with(rt, alloc, 1, edits);
+        let answer = refusal(alloc, &mut station);
+        same_in(rt, &name, (station.writes(), station.syncs()), (0, 1));
+        same_in(rt, &name, answer, expected);
+    }
 }
 
 #[test]
-fn damaged_roots(rt: HostRuntime) -> Result<(), Fail> {
-    for (name, edits) in DAMAGED_ROOTS.iter() {
-        let answer = refused(&rt, rt.alloc(), name, edits)?;
-        assert_eq!(rt; answer, Some(PagesError::Damaged), "{name}");
-    }
-    Ok(())
+fn damaged_roots(rt: HostRuntime) {
+    answer_as(&rt, rt.alloc(), &DAMAGED_ROOTS, Some(PagesError::Damaged));
 }
 
 #[test]
-fn damaged_maps(rt: HostRuntime) -> Result<(), Fail> {
-    for (name, edits) in DAMAGED_MAPS.iter() {
-        let answer = refused(&rt, rt.alloc(), name, edits)?;
-        assert_eq!(rt; answer, Some(PagesError::Damaged), "{name}");
-    }
-    Ok(())
+fn damaged_maps(rt: HostRuntime) {
+    answer_as(&rt, rt.alloc(), &DAMAGED_MAPS, Some(PagesError::Damaged));
 }
 
 #[test]
-fn sound_volumes(rt: HostRuntime) -> Result<(), Fail> {
-    for (name, edits) in SOUND.iter() {
-        let answer = refused(&rt, rt.alloc(), name, edits)?;
-        assert_eq!(rt; answer, None, "{name}");
-    }
-    Ok(())
+fn sound_volumes(rt: HostRuntime) {
+    answer_as(&rt, rt.alloc(), &SOUND, None);
 }
 
 #[test]
-fn volumes_of_another_format(rt: HostRuntime) -> Result<(), Fail> {
-    for (name, edits) in FOREIGN.iter() {
-        let answer = refused(&rt, rt.alloc(), name, edits)?;
-        assert_eq!(rt; answer, Some(PagesError::ForeignMark), "{name}");
-    }
-    Ok(())
+fn volumes_of_another_format(rt: HostRuntime) {
+    answer_as(&rt, rt.alloc(), &FOREIGN, Some(PagesError::ForeignMark));
 }
 
 // The volume without a change: two roots, two pages and two maps are used.
 #[test]
-fn the_volume_as_it_was(rt: HostRuntime) -> Result<(), Fail> {
-    let mut station = station_with(rt.alloc(), 1, &[])?;
-    let mut pages = open(rt.alloc(), &mut station)?;
-    assert_eq!(rt; (pages.sectors(), pages.page_count()), (1500, 2048));
-    assert_eq!(rt; (pages.catalog(), pages.free_sectors()), (1, 1494));
-    let first = first_pages(&rt, &mut pages, &mut station)?;
-    assert_eq!(rt; first, [Some(1), None, None, None]);
-    assert_eq!(rt; read(&rt, &mut pages, &mut station, 1023)?, None);
-    assert_eq!(rt; read(&rt, &mut pages, &mut station, 1024)?, Some(24));
-    assert_eq!(rt; read(&rt, &mut pages, &mut station, 2047)?, None);
-    Ok(())
+fn the_volume_as_it_was(rt: HostRuntime) {
+    let station = station_with(&rt, rt.alloc(), 1, &[]);
+    let mut volume = Volume::open(&rt, rt.alloc(), station);
+    same(&rt, (volume.sectors(), volume.page_count()), (1500, 2048));
+    same(&rt, (volume.catalog(), volume.free_sectors()), (1, 1494));
+    same(&rt, volume.first_pages(&rt), [Some(1), None, None, None]);
+    same(&rt, volume.has(&rt, 1023), None);
+    same(&rt, volume.has(&rt, 1024), Some(24));
+    same(&rt, volume.has(&rt, 2047), None);
 }

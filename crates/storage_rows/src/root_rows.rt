@@ -1,11 +1,12 @@
 //! Rows of the two root sectors of a volume: which is the newest, and what is damaged.
+use crate::asserted::{same, same_in};
+use crate::opened::blank_station;
 use roots::{
     GENERATIONS, Root, RootSector, RootsError, RootsFault, newest_of, read_root, read_roots,
     root_sector,
 };
 use station::{Device, MemoryStation};
-use std::alloc::{AllocError, Global};
-use std::test::Fail;
+use std::process::Abort;
 
 // The reader's own marks, the older first, then another format's.
 const KNOWN: [[u8; 8]; 3] = [*b"COBVOL01", *b"COBVOL02", *b"COBHALF1"];
@@ -178,82 +179,82 @@ const PAIRS: [(Sector, Sector, Found); 27] = [
 ];
 
 #[test]
-fn pairs_of_root_sectors(rt: HostRuntime) -> Result<(), Fail> {
+fn pairs_of_root_sectors(rt: HostRuntime) {
     let mut row = 0u32;
     for (first, second, expected) in PAIRS.iter() {
-        assert_eq!(rt; pair(*first, *second), *expected, "row {row}");
+        same_in(&rt, &row, pair(*first, *second), *expected);
         row = row.wrapping_add(1);
     }
-    Ok(())
 }
 
 // A volume has at most 921,600 sectors, however large the device is.
 #[test]
-fn the_largest_volume(rt: HostRuntime) -> Result<(), Fail> {
+fn the_largest_volume(rt: HostRuntime) {
     for (sectors, valid) in [(921_600, true), (921_601, false)] {
         let bytes = bytes_of(Sector::Root(0, 0, sectors));
         let root = read_root(&KNOWN, 2_000_000, 0, &bytes);
-        assert_eq!(rt; matches!(root, RootSector::Valid(_)), valid, "{sectors}");
+        same_in(&rt, &sectors, matches!(root, RootSector::Valid(_)), valid);
     }
-    Ok(())
 }
 
 #[test]
-fn bytes_of_a_root(rt: HostRuntime) -> Result<(), Fail> {
+fn bytes_of_a_root(rt: HostRuntime) {
     let bytes = bytes_of(Sector::Root(0, 258, 1024));
     let front = *b"COBVOL01\0\0\0\0\0\0\x01\x02\0\0\x04\0\x09\x09";
-    assert_eq!(rt; &bytes[..22], front.as_slice());
-    assert_eq!(rt; bytes[4095], 9);
+    same(&rt, &bytes[..22], front.as_slice());
+    same(&rt, bytes[4095], 9);
     match read(0, Sector::Root(0, 258, 1024)) {
         RootSector::Valid(root) => {
-            assert_eq!(rt; (root.mark, root.generation, root.sectors), (0, 258, 1024));
-            assert_eq!(rt; root.payload.as_slice(), payload().as_slice());
+            same(
+                &rt,
+                (root.mark, root.generation, root.sectors),
+                (0, 258, 1024),
+            );
+            same(&rt, root.payload.as_slice(), payload().as_slice());
         }
-        _ => assert!(rt; false),
+        _ => panic!(rt; "no root"),
     }
-    Ok(())
-}
-
-fn station_of(alloc: Global, sectors: u32) -> Result<MemoryStation, AllocError> {
-    let bytes = vec![in alloc; [0; 4096]; sectors as usize]?;
-    MemoryStation::new(alloc, bytes, Vec::new(alloc))
 }
 
 // Devices without a volume, of 0, 1, 2 and 1,024 sectors.
 #[test]
-fn devices_without_roots(rt: HostRuntime) -> Result<(), Fail> {
+fn devices_without_roots(rt: HostRuntime) {
     for (sectors, reads) in [(0, 0), (1, 0), (2, 2), (1024, 2)] {
-        let mut station = station_of(rt.alloc(), sectors)?;
+        let mut station = blank_station(&rt, rt.alloc(), sectors);
         let answer = read_roots(&mut station, &KNOWN, OWN);
-        assert_eq!(rt;
+        same_in(
+            &rt,
+            &sectors,
             answer,
             Err(RootsError::Roots(RootsFault::Damaged)),
-            "{sectors}"
         );
-        assert_eq!(rt;
+        same_in(
+            &rt,
+            &sectors,
             (station.reads(), station.writes(), station.syncs()),
             (reads, 0, 0),
-            "{sectors}"
         );
     }
-    Ok(())
+}
+
+fn write(rt: &impl Abort, station: &mut MemoryStation, number: u32, sector: Sector) {
+    assert!(rt; number < station.count());
+    assert!(rt; station.write(number, &bytes_of(sector)).is_ok());
 }
 
 // The roots of a device; where the first or the second read fails, a device fault.
 #[test]
-fn roots_of_a_device(rt: HostRuntime) -> Result<(), Fail> {
-    let mut station = station_of(rt.alloc(), 1024)?;
-    assert!(rt; station.count() == 1024);
-    station.write(0, &bytes_of(Sector::Root(0, 6, 1024)))?;
-    station.write(1, &bytes_of(Sector::Root(0, 7, 1024)))?;
+fn roots_of_a_device(rt: HostRuntime) {
+    let mut station = blank_station(&rt, rt.alloc(), 1024);
+    write(&rt, &mut station, 0, Sector::Root(0, 6, 1024));
+    write(&rt, &mut station, 1, Sector::Root(0, 7, 1024));
     for (call, failed) in [(1, true), (2, true), (3, false)] {
         station.fail_at(call);
         let answer = match read_roots(&mut station, &KNOWN, OWN) {
             Ok(roots) => (roots.newest.generation == 7 && roots.older.is_some(), false),
             Err(error) => (true, error == RootsError::Device),
         };
-        assert_eq!(rt; answer, (true, failed), "{call}");
+        same_in(&rt, &call, answer, (true, failed));
     }
-    assert_eq!(rt; station.writes(), 2);
-    Ok(())
+    same(&rt, station.writes(), 2);
 }

@@ -1,7 +1,8 @@
 //! Rows of single calls on a station in memory: what each answers, what a failure and a stop do, and what a crash leaves.
+use crate::asserted::{holds, same, same_in};
 use station::{Block, Device, DeviceError, MemoryStation, Note, Station, put};
 use std::alloc::{AllocError, Global};
-use std::test::Fail;
+use std::process::Abort;
 
 const SECTORS: usize = 8;
 
@@ -16,8 +17,8 @@ fn note(file: u8) -> Note {
     }
 }
 
-// Eight sectors of zeros, and the lines `AB` and `ABCDEF`.
-fn fresh_station(alloc: Global) -> Result<MemoryStation, AllocError> {
+// Eight sectors of zeros, and the lines `AB` and `ABCDEF`, where there is memory for it.
+fn possible_station(alloc: Global) -> Result<MemoryStation, AllocError> {
     let sectors = vec![in alloc; [0; 4096]; SECTORS]?;
     let mut lines = Vec::new(alloc);
     lines.push(b"AB".to_vec(alloc)?)?;
@@ -25,13 +26,19 @@ fn fresh_station(alloc: Global) -> Result<MemoryStation, AllocError> {
     MemoryStation::new(alloc, sectors, lines)
 }
 
-// The first byte of a sector, 255 where there is no such sector.
-fn first_byte(station: &mut MemoryStation, sector: u32) -> Result<u8, Fail> {
-    let mut bytes = filled(255);
-    if sector < station.count() {
-        station.read(sector, &mut bytes)?;
+fn fresh_station(rt: &impl Abort, alloc: Global) -> MemoryStation {
+    match possible_station(alloc) {
+        Ok(station) => station,
+        Err(_) => panic!(rt; "no memory"),
     }
-    Ok(bytes[0])
+}
+
+// The first byte of a sector.
+fn first_byte(rt: &impl Abort, station: &mut MemoryStation, sector: u32) -> u8 {
+    let mut bytes = filled(255);
+    assert!(rt; sector < station.count());
+    assert!(rt; station.read(sector, &mut bytes).is_ok());
+    bytes[0]
 }
 
 fn write_filled(station: &mut MemoryStation, sector: u32, byte: u8) -> Result<(), DeviceError> {
@@ -39,6 +46,37 @@ fn write_filled(station: &mut MemoryStation, sector: u32, byte: u8) -> Result<()
         return station.write(sector, &filled(byte));
     }
     Err(DeviceError::Failed)
+}
+
+// Fills a sector, which has to work.
+fn fill(rt: &impl Abort, station: &mut MemoryStation, sector: u32, byte: u8) {
+    assert!(rt; write_filled(station, sector, byte).is_ok());
+}
+
+// Asserts that a sync works, or doesn't.
+fn syncs(rt: &impl Abort, station: &mut MemoryStation, works: bool) {
+    assert!(rt; station.sync().is_ok() == works);
+}
+
+// Asserts what was shown.
+fn has_shown(rt: &impl Abort, station: &MemoryStation, expected: &[u8]) {
+    match station.shown() {
+        Ok(shown) => same(rt, shown.as_slice(), expected),
+        Err(_) => panic!(rt; "no memory"),
+    }
+}
+
+// Asserts what was noted.
+fn has_noted(rt: &impl Abort, station: &MemoryStation, expected: &[Note]) {
+    match station.notes() {
+        Ok(notes) => same(rt, notes.as_slice(), expected),
+        Err(_) => panic!(rt; "no memory"),
+    }
+}
+
+// How often its sectors were to be read and written, and syncs were asked for.
+fn counts(station: &MemoryStation) -> (u64, u64, u64) {
+    (station.reads(), station.writes(), station.syncs())
 }
 
 // The k-th of ten calls.
@@ -78,198 +116,197 @@ fn answers(station: &mut MemoryStation) -> [u8; 10] {
 }
 
 #[test]
-fn each_call_works(rt: HostRuntime) -> Result<(), Fail> {
-    let mut station = fresh_station(rt.alloc())?;
-    assert_eq!(rt; station.count(), 8);
-    assert_eq!(rt; answers(&mut station), *b"++++++++++");
-    assert_eq!(rt; first_byte(&mut station, 3)?, 1);
-    assert_eq!(rt; first_byte(&mut station, 6)?, 5);
-    assert_eq!(rt; station.shown()?.as_slice(), b"one!".as_slice());
-    assert_eq!(rt; station.notes()?.as_slice(), [note(1)].as_slice());
-    assert_eq!(rt;
-        (station.reads(), station.writes(), station.syncs()),
-        (4, 2, 2)
-    );
-    assert_eq!(rt; station.refused(), 0);
-    assert_eq!(rt; DeviceError::Failed.number(), 1);
-    Ok(())
+fn each_call_works(rt: HostRuntime) {
+    let mut station = fresh_station(&rt, rt.alloc());
+    same(&rt, station.count(), 8);
+    same(&rt, answers(&mut station), *b"++++++++++");
+    same(&rt, first_byte(&rt, &mut station, 3), 1);
+    same(&rt, first_byte(&rt, &mut station, 6), 5);
+    has_shown(&rt, &station, b"one!");
+    has_noted(&rt, &station, &[note(1)]);
+    same(&rt, counts(&station), (4, 2, 2));
+    same(&rt, station.refused(), 0);
+    same(&rt, DeviceError::Failed.number(), 1);
 }
 
 // The n-th call fails, and the others work. Failed calls count.
+fn fails_at(rt: &impl Abort, alloc: Global, n: u64, told: &[u8; 10], shown: &[u8], notes: &[Note]) {
+    let mut station = fresh_station(rt, alloc);
+    station.fail_at(n);
+    same_in(rt, &n, answers(&mut station), *told);
+    has_shown(rt, &station, shown);
+    has_noted(rt, &station, notes);
+    same_in(rt, &n, counts(&station), (2, 2, 2));
+}
+
 #[test]
-fn fail_at_each_of_ten_calls(rt: HostRuntime) -> Result<(), Fail> {
+fn fail_at_each_of_ten_calls(rt: HostRuntime) {
+    let one = [note(1)];
     for (n, told, shown, notes) in [
-        (1, *b"-+++++++++", b"one!".as_slice(), 1),
-        (2, *b"+-++++++++", b"one!".as_slice(), 1),
-        (3, *b"++-+++++++", b"one!".as_slice(), 1),
-        (4, *b"+++-++++++", b"one!".as_slice(), 1),
-        (5, *b"++++-+++++", b"!".as_slice(), 1),
-        (6, *b"+++++-++++", b"one!".as_slice(), 0),
-        (7, *b"++++++-+++", b"one!".as_slice(), 1),
-        (8, *b"+++++++-++", b"one!".as_slice(), 1),
-        (9, *b"++++++++-+", b"one!".as_slice(), 1),
-        (10, *b"+++++++++-", b"one".as_slice(), 1),
+        (1, b"-+++++++++", b"one!".as_slice(), one.as_slice()),
+        (2, b"+-++++++++", b"one!".as_slice(), one.as_slice()),
+        (3, b"++-+++++++", b"one!".as_slice(), one.as_slice()),
+        (4, b"+++-++++++", b"one!".as_slice(), one.as_slice()),
+        (5, b"++++-+++++", b"!".as_slice(), one.as_slice()),
+        (6, b"+++++-++++", b"one!".as_slice(), [].as_slice()),
+        (7, b"++++++-+++", b"one!".as_slice(), one.as_slice()),
+        (8, b"+++++++-++", b"one!".as_slice(), one.as_slice()),
+        (9, b"++++++++-+", b"one!".as_slice(), one.as_slice()),
+        (10, b"+++++++++-", b"one".as_slice(), one.as_slice()),
     ] {
-        let mut station = fresh_station(rt.alloc())?;
-        station.fail_at(n);
-        assert_eq!(rt; answers(&mut station), told, "at {n}");
-        assert_eq!(rt; station.shown()?.as_slice(), shown, "at {n}");
-        assert_eq!(rt; station.notes()?.len(), notes, "at {n}");
-        assert_eq!(rt;
-            (station.reads(), station.writes(), station.syncs()),
-            (2, 2, 2),
-            "at {n}"
-        );
+        fails_at(&rt, rt.alloc(), n, told, shown, notes);
     }
-    Ok(())
 }
 
 // The n-th call fails, and so do all later ones, of which none counts. A crash ends the stop.
+fn stops_at(
+    rt: &impl Abort,
+    alloc: Global,
+    n: u64,
+    told: &[u8; 10],
+    expected: (u64, u64, u64),
+    shown: &[u8],
+) {
+    let mut station = fresh_station(rt, alloc);
+    station.stop_at(n);
+    same_in(rt, &n, answers(&mut station), *told);
+    same_in(rt, &n, counts(&station), expected);
+    has_shown(rt, &station, shown);
+    station.crash(&[]);
+    syncs(rt, &mut station, true);
+}
+
 #[test]
-fn stop_at_each_of_ten_calls(rt: HostRuntime) -> Result<(), Fail> {
-    for (n, told, counts, shown) in [
-        (1, *b"----------", (0, 1, 0), b"".as_slice()),
-        (2, *b"+---------", (1, 1, 0), b"".as_slice()),
-        (3, *b"++--------", (1, 1, 1), b"".as_slice()),
-        (4, *b"+++-------", (1, 1, 1), b"".as_slice()),
-        (5, *b"++++------", (1, 1, 1), b"".as_slice()),
-        (6, *b"+++++-----", (1, 1, 1), b"one".as_slice()),
-        (7, *b"++++++----", (1, 2, 1), b"one".as_slice()),
-        (8, *b"+++++++---", (1, 2, 2), b"one".as_slice()),
-        (9, *b"++++++++--", (2, 2, 2), b"one".as_slice()),
-        (10, *b"+++++++++-", (2, 2, 2), b"one".as_slice()),
+fn stop_at_each_of_ten_calls(rt: HostRuntime) {
+    for (n, told, expected, shown) in [
+        (1, b"----------", (0, 1, 0), b"".as_slice()),
+        (2, b"+---------", (1, 1, 0), b"".as_slice()),
+        (3, b"++--------", (1, 1, 1), b"".as_slice()),
+        (4, b"+++-------", (1, 1, 1), b"".as_slice()),
+        (5, b"++++------", (1, 1, 1), b"".as_slice()),
+        (6, b"+++++-----", (1, 1, 1), b"one".as_slice()),
+        (7, b"++++++----", (1, 2, 1), b"one".as_slice()),
+        (8, b"+++++++---", (1, 2, 2), b"one".as_slice()),
+        (9, b"++++++++--", (2, 2, 2), b"one".as_slice()),
+        (10, b"+++++++++-", (2, 2, 2), b"one".as_slice()),
     ] {
-        let mut station = fresh_station(rt.alloc())?;
-        station.stop_at(n);
-        assert_eq!(rt; answers(&mut station), told, "at {n}");
-        assert_eq!(rt;
-            (station.reads(), station.writes(), station.syncs()),
-            counts,
-            "at {n}"
-        );
-        assert_eq!(rt; station.shown()?.as_slice(), shown, "at {n}");
-        station.crash(&[]);
-        assert!(rt; station.sync().is_ok(), "at {n}");
+        stops_at(&rt, rt.alloc(), n, told, expected, shown);
     }
-    Ok(())
 }
 
 // Counted from the call of `fail_at` on, and once.
 #[test]
-fn fail_at_counts_from_now_on(rt: HostRuntime) -> Result<(), Fail> {
-    let mut station = fresh_station(rt.alloc())?;
-    station.sync()?;
+fn fail_at_counts_from_now_on(rt: HostRuntime) {
+    let mut station = fresh_station(&rt, rt.alloc());
+    syncs(&rt, &mut station, true);
     station.fail_at(2);
-    assert_eq!(rt; station.count(), 8);
-    assert!(rt; station.sync().is_ok());
-    assert!(rt; station.sync().is_err());
-    assert!(rt; station.sync().is_ok());
-    Ok(())
+    same(&rt, station.count(), 8);
+    syncs(&rt, &mut station, true);
+    syncs(&rt, &mut station, false);
+    syncs(&rt, &mut station, true);
 }
 
 // Sector 3 is written with 1, sector 6 with 5, sector 3 with 2; then a crash by these choices.
+fn crash_leaves(rt: &impl Abort, alloc: Global, choose: &[u32], third: u8, sixth: u8) {
+    let mut station = fresh_station(rt, alloc);
+    fill(rt, &mut station, 3, 1);
+    fill(rt, &mut station, 6, 5);
+    fill(rt, &mut station, 3, 2);
+    station.crash(choose);
+    same_in(rt, &choose, first_byte(rt, &mut station, 3), third);
+    same_in(rt, &choose, first_byte(rt, &mut station, 6), sixth);
+    // what a crash has left is durable
+    station.crash(&[1, 1]);
+    same_in(rt, &choose, first_byte(rt, &mut station, 3), third);
+}
+
 #[test]
-fn a_crash_leaves_what_is_chosen(rt: HostRuntime) -> Result<(), Fail> {
-    for (choose, third, sixth) in [
-        ([].as_slice(), 0, 0),
-        ([0, 0].as_slice(), 0, 0),
-        ([1, 1].as_slice(), 1, 5),
-        ([0, 1].as_slice(), 0, 5),
-        ([2].as_slice(), 2, 0),
-        ([9, 9].as_slice(), 2, 5),
-        ([1, 0, 7].as_slice(), 1, 0),
-    ] {
-        let mut station = fresh_station(rt.alloc())?;
-        write_filled(&mut station, 3, 1)?;
-        write_filled(&mut station, 6, 5)?;
-        write_filled(&mut station, 3, 2)?;
-        station.crash(choose);
-        assert_eq!(rt; first_byte(&mut station, 3)?, third);
-        assert_eq!(rt; first_byte(&mut station, 6)?, sixth);
-        // what a crash has left is durable
-        station.crash(&[1, 1]);
-        assert_eq!(rt; first_byte(&mut station, 3)?, third);
-    }
-    Ok(())
+fn a_crash_leaves_what_is_chosen(rt: HostRuntime) {
+    crash_leaves(&rt, rt.alloc(), &[], 0, 0);
+    crash_leaves(&rt, rt.alloc(), &[0, 0], 0, 0);
+    crash_leaves(&rt, rt.alloc(), &[1, 1], 1, 5);
+    crash_leaves(&rt, rt.alloc(), &[0, 1], 0, 5);
+    crash_leaves(&rt, rt.alloc(), &[2], 2, 0);
+    crash_leaves(&rt, rt.alloc(), &[9, 9], 2, 5);
+    crash_leaves(&rt, rt.alloc(), &[1, 0, 7], 1, 0);
 }
 
 // After a sync no choice brings an old value back.
 #[test]
-fn a_sync_is_durable(rt: HostRuntime) -> Result<(), Fail> {
-    let mut station = fresh_station(rt.alloc())?;
-    write_filled(&mut station, 3, 1)?;
-    write_filled(&mut station, 3, 2)?;
-    station.sync()?;
+fn a_sync_is_durable(rt: HostRuntime) {
+    let mut station = fresh_station(&rt, rt.alloc());
+    fill(&rt, &mut station, 3, 1);
+    fill(&rt, &mut station, 3, 2);
+    syncs(&rt, &mut station, true);
     station.crash(&[1]);
-    assert_eq!(rt; first_byte(&mut station, 3)?, 2);
-    Ok(())
+    same(&rt, first_byte(&rt, &mut station, 3), 2);
 }
 
 // A failed write keeps the present value, and may come back. A failed sync makes nothing durable.
+fn may_come_back(rt: &impl Abort, alloc: Global, choice: u32, left: u8) {
+    let mut station = fresh_station(rt, alloc);
+    fill(rt, &mut station, 3, 1);
+    station.stop_at(1);
+    holds(rt, write_filled(&mut station, 3, 2).is_err());
+    syncs(rt, &mut station, false);
+    station.crash(&[choice]);
+    same_in(rt, &choice, first_byte(rt, &mut station, 3), left);
+}
+
 #[test]
-fn a_failed_write_may_come_back(rt: HostRuntime) -> Result<(), Fail> {
+fn a_failed_write_may_come_back(rt: HostRuntime) {
     for (choice, left) in [(0, 0), (1, 1), (2, 2), (3, 2)] {
-        let mut station = fresh_station(rt.alloc())?;
-        write_filled(&mut station, 3, 1)?;
-        station.stop_at(1);
-        assert!(rt; write_filled(&mut station, 3, 2).is_err());
-        assert!(rt; station.sync().is_err());
-        station.crash(&[choice]);
-        assert_eq!(rt; first_byte(&mut station, 3)?, left);
+        may_come_back(&rt, rt.alloc(), choice, left);
     }
-    let mut station = fresh_station(rt.alloc())?;
+    let mut station = fresh_station(&rt, rt.alloc());
     station.fail_at(1);
-    assert!(rt; write_filled(&mut station, 3, 2).is_err());
-    assert_eq!(rt; first_byte(&mut station, 3)?, 0);
-    Ok(())
+    holds(&rt, write_filled(&mut station, 3, 2).is_err());
+    same(&rt, first_byte(&rt, &mut station, 3), 0);
 }
 
 // A write after a stop does nothing at all.
 #[test]
-fn a_stopped_write_does_not_come_back(rt: HostRuntime) -> Result<(), Fail> {
-    let mut station = fresh_station(rt.alloc())?;
+fn a_stopped_write_does_not_come_back(rt: HostRuntime) {
+    let mut station = fresh_station(&rt, rt.alloc());
     station.stop_at(1);
-    assert!(rt; station.sync().is_err());
-    assert!(rt; write_filled(&mut station, 3, 2).is_err());
+    syncs(&rt, &mut station, false);
+    holds(&rt, write_filled(&mut station, 3, 2).is_err());
     station.crash(&[1]);
-    assert_eq!(rt; first_byte(&mut station, 3)?, 0);
-    Ok(())
+    same(&rt, first_byte(&rt, &mut station, 3), 0);
 }
 
 // A line fills what fits and drops the rest of itself; a failed one is still there; then the input ends.
 #[test]
-fn lines_are_taken(rt: HostRuntime) -> Result<(), Fail> {
-    let mut station = fresh_station(rt.alloc())?;
+fn lines_are_taken(rt: HostRuntime) {
+    let mut station = fresh_station(&rt, rt.alloc());
     let mut into = *b"....";
-    assert_eq!(rt; station.line(&mut into)?, Some(2));
-    assert_eq!(rt; into, *b"AB..");
+    same(&rt, station.line(&mut into), Ok(Some(2)));
+    same(&rt, into, *b"AB..");
     station.fail_at(1);
-    assert!(rt; station.line(&mut into).is_err());
-    assert_eq!(rt; station.line(&mut into)?, Some(4));
-    assert_eq!(rt; into, *b"ABCD");
-    assert_eq!(rt; station.line(&mut into)?, None);
-    assert_eq!(rt; into, *b"ABCD");
-    let mut none = fresh_station(rt.alloc())?;
-    assert_eq!(rt; none.line(&mut [])?, Some(0));
-    Ok(())
+    same(&rt, station.line(&mut into), Err(DeviceError::Failed));
+    same(&rt, station.line(&mut into), Ok(Some(4)));
+    same(&rt, into, *b"ABCD");
+    same(&rt, station.line(&mut into), Ok(None));
+    same(&rt, into, *b"ABCD");
+    let mut none = fresh_station(&rt, rt.alloc());
+    same(&rt, none.line(&mut []), Ok(Some(0)));
 }
 
 // What was shown, noted and taken stays over a crash.
 #[test]
-fn a_crash_keeps_the_console(rt: HostRuntime) -> Result<(), Fail> {
-    let mut station = fresh_station(rt.alloc())?;
+fn a_crash_keeps_the_console(rt: HostRuntime) {
+    let mut station = fresh_station(&rt, rt.alloc());
     let mut into = *b"....";
-    station.show(b"one")?;
-    station.note(note(0))?;
-    station.line(&mut into)?;
+    same(&rt, station.show(b"one"), Ok(()));
+    same(&rt, station.note(note(0)), Ok(()));
+    same(&rt, station.line(&mut into), Ok(Some(2)));
     station.crash(&[]);
-    station.show(b"two")?;
+    same(&rt, station.show(b"two"), Ok(()));
     station.crash(&[]);
-    station.note(note(7))?;
-    assert_eq!(rt; station.shown()?.as_slice(), b"onetwo".as_slice());
-    assert_eq!(rt; station.notes()?.as_slice(), [note(0), note(7)].as_slice());
-    assert_eq!(rt; station.line(&mut into)?, Some(4));
-    Ok(())
+    same(&rt, station.note(note(7)), Ok(()));
+    has_shown(&rt, &station, b"onetwo");
+    has_noted(&rt, &station, &[note(0), note(7)]);
+    same(&rt, station.line(&mut into), Ok(Some(4)));
 }
 
 // Puts 2 and 3 in sectors 2 and 3, and then the root 9 in sector 1.
@@ -290,10 +327,24 @@ fn put_all(station: &mut MemoryStation) -> Result<(), DeviceError> {
     put(station, &blocks, 1, &filled(9))
 }
 
+// Stopped at a call, a put leaves these bytes in the sectors 1, 2 and 3 after a crash by these choices.
+fn stopped_put(rt: &impl Abort, alloc: Global, n: u64, works: bool, choose: &[u32], left: [u8; 3]) {
+    let mut station = fresh_station(rt, alloc);
+    station.stop_at(n);
+    same_in(rt, &n, put_all(&mut station).is_ok(), works);
+    station.crash(choose);
+    let now = [
+        first_byte(rt, &mut station, 1),
+        first_byte(rt, &mut station, 2),
+        first_byte(rt, &mut station, 3),
+    ];
+    same_in(rt, &n, now, left);
+}
+
 // Stopped at each of its five calls: a crash leaves the old root, or the new one with all blocks.
 #[test]
-fn a_stopped_put_leaves_the_old_root_or_all(rt: HostRuntime) -> Result<(), Fail> {
-    for (n, ok, none, all) in [
+fn a_stopped_put_leaves_the_old_root_or_all(rt: HostRuntime) {
+    for (n, works, none, all) in [
         (1, false, [0, 0, 0], [0, 2, 0]),
         (2, false, [0, 0, 0], [0, 2, 3]),
         (3, false, [0, 0, 0], [0, 2, 3]),
@@ -301,38 +352,44 @@ fn a_stopped_put_leaves_the_old_root_or_all(rt: HostRuntime) -> Result<(), Fail>
         (5, false, [0, 2, 3], [9, 2, 3]),
         (6, true, [9, 2, 3], [9, 2, 3]),
     ] {
-        for (choose, left) in [([].as_slice(), none), ([1, 1, 1].as_slice(), all)] {
-            let mut station = fresh_station(rt.alloc())?;
-            station.stop_at(n);
-            assert_eq!(rt; put_all(&mut station).is_ok(), ok, "at {n}");
-            station.crash(choose);
-            for (sector, byte) in [(1, left[0]), (2, left[1]), (3, left[2])] {
-                assert_eq!(rt; first_byte(&mut station, sector)?, byte, "at {n}");
-            }
-        }
+        stopped_put(&rt, rt.alloc(), n, works, &[], none);
+        stopped_put(&rt, rt.alloc(), n, works, &[1, 1, 1], all);
     }
-    Ok(())
+}
+
+// How many of the ten calls failed.
+fn failures(told: &[u8; 10]) -> u64 {
+    told.iter().filter(|answer| **answer == b'-').count() as u64
+}
+
+// Asserts that so many bytes were shown and so many notes taken, where there is memory to tell.
+fn has_told(rt: &impl Abort, station: &MemoryStation, bytes: usize, count: usize) {
+    if let Ok(shown) = station.shown() {
+        same(rt, shown.len(), bytes);
+    }
+    if let Ok(notes) = station.notes() {
+        same(rt, notes.len(), count);
+    }
 }
 
 // Run once for each allocation, with `--fail-alloc N`: where the record couldn't grow the call has failed and done nothing.
-#[test]
-fn a_refused_growth_is_a_failure(rt: HostRuntime) -> Result<(), Fail> {
-    let Ok(mut station) = fresh_station(rt.alloc()) else {
-        return Ok(());
-    };
-    let told = answers(&mut station);
-    let failed = told.iter().filter(|answer| **answer == b'-').count() as u64;
-    assert_eq!(rt; station.refused(), failed);
-    if let Ok(shown) = station.shown() {
-        let first = if told[4] == b'+' { 3 } else { 0 };
-        let second = if told[9] == b'+' { 1 } else { 0 };
-        assert_eq!(rt; shown.len(), first + second);
-    }
-    if let Ok(notes) = station.notes() {
-        assert_eq!(rt; notes.len(), if told[5] == b'+' { 1 } else { 0 });
-    }
+fn grows_or_fails(rt: &impl Abort, station: &mut MemoryStation) {
+    let told = answers(station);
+    same(rt, station.refused(), failures(&told));
+    let first = if told[4] == b'+' { 3 } else { 0 };
+    let second = if told[9] == b'+' { 1 } else { 0 };
+    let count = if told[5] == b'+' { 1 } else { 0 };
+    has_told(rt, station, first + second, count);
     station.crash(&[]);
     let durable = told[0] == b'+' && (told[2] == b'+' || told[7] == b'+');
-    assert_eq!(rt; first_byte(&mut station, 3)?, if durable { 1 } else { 0 });
-    Ok(())
+    let left = if durable { 1 } else { 0 };
+    same(rt, first_byte(rt, station, 3), left);
+}
+
+#[test]
+fn a_refused_growth_is_a_failure(rt: HostRuntime) {
+    match possible_station(rt.alloc()) {
+        Ok(mut station) => grows_or_fails(&rt, &mut station),
+        Err(_) => {}
+    }
 }
