@@ -38,4 +38,8 @@ pub mod Mended
 pub mod Downward
 pub mod Giving
 pub mod Removing
+pub mod Marking
+pub mod Walking
+pub mod Checking
+pub mod Clearing
 mod Examples

@@ -12,3 +12,4 @@ pub mod Changes
 pub mod Fates
 pub mod Falls
 pub mod Removals
+pub mod Walks

@@ -3,7 +3,9 @@
 //! Promise: each call is the operation on the ascending list of entries, and pages outside the tree stay as they are.
 #![tactic(auto)]
 
+mod check;
 mod child;
+mod clear;
 mod descend;
 mod divide;
 mod enter;
@@ -16,6 +18,7 @@ mod key;
 mod laws;
 mod lift;
 mod mend;
+mod name;
 mod part;
 mod put_less;
 mod put_new;

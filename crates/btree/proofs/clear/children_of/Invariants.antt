@@ -1,0 +1,26 @@
+use Rattle.std.proofs.Common.{◌≡◌, ◌≤◌, List, map, take}
+use Rattle.std.specs.Prelude.{◌↔◌}
+use Rattle.std.specs.List.{All}
+use Rattle.pages.specs.Pages.{Agrees, IsOpen}
+use Rattle.tree_pages.specs.declared.form.Kind.TheVariants.{Inner}
+use Rattle.tree_pages.specs.Keys.{child_of}
+use Rattle.btree.specs.Tree.{Part, Stands, rows_of}
+use Rattle.btree.specs.Moves.{numbers_of}
+use Rattle.btree.specs.Changes.{pages_of_map}
+use Rattle.btree.specs.Reading.{Untouched}
+use Rattle.btree.proofs.clear.children_of.Given as goal
+
+abbrev pub invariant-loop-place : goal.invariant-loop-place
+invariant-loop-place g l = record {
+  honest : g.D.Device.is_honest l.fn.device ↔ g.D.Device.is_honest l.device;
+  sectors : g.D.Device.sectors l.device ≡ g.D.Device.sectors l.fn.device;
+  failures : g.D.Device.failures l.fn.device ≤ g.D.Device.failures l.device;
+  state : g.D.Device.is_honest l.fn.device → g.D.Device.state l.device ≡ g.D.Device.state l.fn.device;
+  history : g.D.Device.is_honest l.fn.device → g.D.Device.history l.device ≡ g.D.Device.history l.fn.device;
+  untouched : Untouched l.fn.pages l.pages;
+  agrees : g.D.Device.is_honest l.fn.device → Agrees l.fn.pages (g.D.Device.state l.fn.device).disk → Agrees l.pages (g.D.Device.state l.device).disk;
+  is_open : IsOpen l.pages;
+  children : g.D.Device.is_honest l.fn.device → Agrees l.fn.pages (g.D.Device.state l.fn.device).disk → (level : List Part) →
+      All (Stands l.fn.form (pages_of_map l.fn.pages (g.D.Device.state l.fn.device).disk.present) Inner) level → numbers_of level ≡ l.numbers →
+      l.children.items ≡ map (child_of l.fn.form) (rows_of (take l.place level));
+}

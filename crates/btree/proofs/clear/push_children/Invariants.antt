@@ -1,0 +1,6 @@
+use Rattle.std.proofs.Common.{◌≡◌, ◌++◌, map, take}
+use Rattle.tree_pages.specs.Keys.{child_of}
+use Rattle.btree.proofs.clear.push_children.Given as goal
+
+abbrev pub invariant-loop-place : goal.invariant-loop-place
+invariant-loop-place l = l.numbers.items ≡ l.fn.numbers.items ++ map (child_of l.part.form) (take l.place l.part.rows)

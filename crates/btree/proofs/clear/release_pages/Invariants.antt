@@ -1,0 +1,13 @@
+use Rattle.std.proofs.Common.{List, [], take}
+use Rattle.station.specs.Disk.{Sector}
+use Rattle.pages.specs.Pages.{IsOpen}
+use Rattle.btree.specs.Moves.{Moves}
+use Rattle.btree.specs.Changes.{pages_of_map, Keeps}
+use Rattle.btree.proofs.clear.release_pages.Given as goal
+
+abbrev pub invariant-loop-place : goal.invariant-loop-place
+invariant-loop-place l = record {
+  moves : (image : List Sector) → Moves (pages_of_map l.fn.pages image) (take l.place l.numbers) (pages_of_map l.pages image) [];
+  keeps : Keeps l.fn.pages l.pages;
+  is_open : IsOpen l.pages;
+}

@@ -1,0 +1,224 @@
+//! A tree gives up its pages.
+ghost use Rattle.std.specs.Prelude.{◌≡◌, ◌≢◌, ◌≤◌, ◌<◌, ◌++◌, ◌↔◌, Err, true, ℕ, List, [], length, map, IfOk, IfErr, OnOk, OnErr};
+ghost use Rattle.std.specs.List.{All};
+ghost use Rattle.station.specs.Disk.{Sector};
+ghost use Rattle.station.specs.Failures.{Blames};
+ghost use Rattle.pages.specs.Pages.{is_spent, sectors_of, catalog_of, Agrees, IsOpen, SameCommitted};
+ghost use Rattle.tree_pages.specs.Form.{IsForm};
+ghost use Rattle.tree_pages.specs.Keys.{child_of};
+ghost use Rattle.btree.specs.Tree.{Part, rows_of, pages_of, Stands, Holds};
+ghost use Rattle.btree.specs.Laws.{IsSmall};
+ghost use Rattle.btree.specs.Moves.{Moves, numbers_of};
+ghost use Rattle.btree.specs.Changes.{pages_of_map, Keeps};
+ghost use Rattle.btree.specs.Reading.{Untouched};
+ghost use Rattle.btree.specs.Walks.{HasPages, IsDown, levels_below};
+ghost use Rattle.btree.specs.Refusals.{IsRestRefusal, IsChangeRefusal};
+
+use crate::descend::LEVELS;
+use crate::part::read_part;
+use crate::tree::Tree;
+use pages::{PageMap, PagesError};
+use station::Device;
+use std::alloc::Global;
+use tree_pages::{Kind, TreeForm, TreePage};
+
+/// Takes these pages out of the map. `Damaged` tells that one of the numbers is no page's.
+fn release_pages(pages: &mut PageMap, numbers: &[u32]) -> Result<(), PagesError>
+    requires { IsOpen pages.old }
+    ensures released { OnOk result ((image : List Sector) → Moves (pages_of_map pages.old image) numbers.now (pages_of_map pages.new image) []) }
+    ensures damaged { result ≡ Err PagesError.Damaged → (image : List Sector) →
+        All (λ page. (0 < page) × (page < length (pages_of_map pages.old image))) numbers.now → ⊥ }
+    ensures keeps { Keeps pages.old pages.new }
+    ensures open { IsOpen pages.new }
+    ensures spent { result ≡ Err PagesError.Spent → is_spent pages.old ≡ true }
+    ensures cause { IfErr result IsRestRefusal }
+{
+    for place in 0..numbers.len() {
+        let page = numbers[place];
+        if page == 0 {
+            return Err(PagesError::Damaged);
+        }
+        if pages.page_count() <= page as usize {
+            return Err(PagesError::Damaged);
+        }
+        pages.release(page)?;
+    }
+    Ok(())
+}
+
+/// Puts the children of an inner page behind the page numbers.
+fn push_children(numbers: &mut Vec<u32>, part: &TreePage) -> Result<(), PagesError>
+    requires { part.now.kind ≡ Kind.Inner }
+    ensures numbers { OnOk result (numbers.new.items ≡ numbers.old.items ++ map (child_of part.now.form) part.now.rows) }
+    ensures cause { IfErr result (λ error. error ≡ PagesError.Memory) }
+{
+    for place in 0..part.count() {
+        numbers.push(part.child(place))?;
+    }
+    Ok(())
+}
+
+/// The children of these inner pages, from left to right.
+fn children_of<D: Device>(
+    alloc: Global,
+    pages: &mut PageMap,
+    device: &mut D,
+    form: TreeForm,
+    numbers: &[u32],
+) -> Result<Vec<u32>, PagesError>
+    requires open { IsOpen pages.old }
+    requires sectors { sectors_of pages.old ≤ D.sectors device.old }
+    requires form { IsForm form }
+    ensures honest { D.is_honest device.old ↔ D.is_honest device.new }
+    ensures sectors { D.sectors device.new ≡ D.sectors device.old }
+    ensures failures { Blames (result ≡ Err PagesError.Device) (D.failures device.old) (D.failures device.new) }
+    ensures state { D.is_honest device.old → D.state device.new ≡ D.state device.old }
+    ensures history { D.is_honest device.old → D.history device.new ≡ D.history device.old }
+    ensures untouched { Untouched pages.old pages.new }
+    ensures agrees { D.is_honest device.old → Agrees pages.old (D.state device.old).disk → Agrees pages.new (D.state device.new).disk }
+    ensures open { IsOpen pages.new }
+    ensures children { D.is_honest device.old → Agrees pages.old (D.state device.old).disk → (level : List Part) →
+        All (Stands form (pages_of_map pages.old (D.state device.old).disk.present) Kind.Inner) level → numbers_of level ≡ numbers.now →
+        IfOk result (λ children. children.items ≡ map (child_of form) (rows_of level)) }
+    ensures damaged { D.is_honest device.old → Agrees pages.old (D.state device.old).disk → result ≡ Err PagesError.Damaged → (level : List Part) →
+        All (Stands form (pages_of_map pages.old (D.state device.old).disk.present) Kind.Inner) level → numbers_of level ≡ numbers.now → ⊥ }
+    ensures spent { result ≡ Err PagesError.Spent → is_spent pages.old ≡ true }
+    ensures cause { IfErr result IsChangeRefusal }
+{
+    let mut children = Vec::new(alloc);
+    for place in 0..numbers.len() {
+        let part = read_part(pages, device, form, numbers[place])?;
+        if part.kind() != Kind::Inner {
+            return Err(PagesError::Damaged);
+        }
+        push_children(&mut children, &part)?;
+    }
+    Ok(children)
+}
+
+/// The pages of the level below that of these pages, none below the leaves. The first page tells the level's kind, and leaves but
+/// the first aren't read.
+fn below<D: Device>(
+    alloc: Global,
+    pages: &mut PageMap,
+    device: &mut D,
+    form: TreeForm,
+    numbers: &[u32],
+) -> Result<Vec<u32>, PagesError>
+    requires open { IsOpen pages.old }
+    requires sectors { sectors_of pages.old ≤ D.sectors device.old }
+    requires form { IsForm form }
+    requires some { 0 < length numbers.now }
+    ensures honest { D.is_honest device.old ↔ D.is_honest device.new }
+    ensures sectors { D.sectors device.new ≡ D.sectors device.old }
+    ensures failures { Blames (result ≡ Err PagesError.Device) (D.failures device.old) (D.failures device.new) }
+    ensures state { D.is_honest device.old → D.state device.new ≡ D.state device.old }
+    ensures history { D.is_honest device.old → D.history device.new ≡ D.history device.old }
+    ensures untouched { Untouched pages.old pages.new }
+    ensures agrees { D.is_honest device.old → Agrees pages.old (D.state device.old).disk → Agrees pages.new (D.state device.new).disk }
+    ensures open { IsOpen pages.new }
+    ensures below { D.is_honest device.old → Agrees pages.old (D.state device.old).disk → (levels : List (List Part)) →
+        IsSmall (pages_of_map pages.old (D.state device.old).disk.present) → IsDown form (pages_of_map pages.old (D.state device.old).disk.present) numbers.now levels →
+        IfOk result (λ children. HasPages children.items (levels_below levels)) }
+    ensures damaged { D.is_honest device.old → Agrees pages.old (D.state device.old).disk → result ≡ Err PagesError.Damaged → (levels : List (List Part)) →
+        IsDown form (pages_of_map pages.old (D.state device.old).disk.present) numbers.now levels → ⊥ }
+    ensures spent { result ≡ Err PagesError.Spent ↔ is_spent pages.old ≡ true }
+    ensures cause { IfErr result IsChangeRefusal }
+{
+    let first = read_part(pages, device, form, numbers[0])?;
+    match first.kind() {
+        Kind::Leaf => Ok(Vec::new(alloc)),
+        Kind::Inner => children_of(alloc, pages, device, form, numbers),
+    }
+}
+
+/// Takes the levels from that of these pages down out of the map, which are at most so many.
+fn clear_levels<D: Device>(
+    alloc: Global,
+    pages: &mut PageMap,
+    device: &mut D,
+    form: TreeForm,
+    numbers: Vec<u32>,
+    depth: usize,
+) -> Result<(), PagesError>
+    requires open { IsOpen pages.old }
+    requires sectors { sectors_of pages.old ≤ D.sectors device.old }
+    requires form { IsForm form }
+    ensures honest { D.is_honest device.old ↔ D.is_honest device.new }
+    ensures sectors { D.sectors device.new ≡ D.sectors device.old }
+    ensures failures { Blames (result ≡ Err PagesError.Device) (D.failures device.old) (D.failures device.new) }
+    ensures state { D.is_honest device.old → D.state device.new ≡ D.state device.old }
+    ensures history { D.is_honest device.old → D.history device.new ≡ D.history device.old }
+    ensures cleared { D.is_honest device.old → Agrees pages.old (D.state device.old).disk → (levels : List (List Part)) →
+        IsSmall (pages_of_map pages.old (D.state device.old).disk.present) → IsDown form (pages_of_map pages.old (D.state device.old).disk.present) numbers.items levels →
+        OnOk result (Moves (pages_of_map pages.old (D.state device.old).disk.present) (pages_of levels) (pages_of_map pages.new (D.state device.old).disk.present) []) }
+    ensures damaged { D.is_honest device.old → Agrees pages.old (D.state device.old).disk → result ≡ Err PagesError.Damaged → (levels : List (List Part)) →
+        IsSmall (pages_of_map pages.old (D.state device.old).disk.present) → IsDown form (pages_of_map pages.old (D.state device.old).disk.present) numbers.items levels →
+        length levels ≤ depth → ⊥ }
+    ensures committed { SameCommitted pages.old pages.new }
+    ensures catalog { catalog_of pages.new ≡ catalog_of pages.old }
+    ensures agrees { D.is_honest device.old → Agrees pages.old (D.state device.old).disk → Agrees pages.new (D.state device.new).disk }
+    ensures open { IsOpen pages.new }
+    ensures spent { result ≡ Err PagesError.Spent → is_spent pages.old ≡ true }
+    ensures told { is_spent pages.old ≡ true → 0 < length numbers.items → 0 < depth → result ≡ Err PagesError.Spent }
+    ensures cause { IfErr result IsChangeRefusal }
+{
+    if numbers.is_empty() {
+        return Ok(());
+    }
+    if depth == 0 {
+        return Err(PagesError::Damaged);
+    }
+    let children = below(alloc, pages, device, form, numbers.as_slice())?;
+    release_pages(pages, numbers.as_slice())?;
+    clear_levels(alloc, pages, device, form, children, depth - 1)
+}
+
+impl Tree {
+    /// Gives up all pages of the tree, whose root is 0 then. `Damaged` tells that the pages under the root are no tree. After a refusal
+    /// the pages that aren't committed are given up with the map of pages. Of the leaves only the first one is read. The number of
+    /// each page is kept in memory.
+    pub fn clear<D: Device>(
+        &mut self,
+        pages: &mut PageMap,
+        device: &mut D,
+    ) -> Result<(), PagesError>
+        requires open { IsOpen pages.old }
+        requires sectors { sectors_of pages.old ≤ D.sectors device.old }
+        ensures honest { D.is_honest device.old ↔ D.is_honest device.new }
+        ensures sectors { D.sectors device.new ≡ D.sectors device.old }
+        ensures failures { Blames (result ≡ Err PagesError.Device) (D.failures device.old) (D.failures device.new) }
+        ensures state { D.is_honest device.old → D.state device.new ≡ D.state device.old }
+        ensures history { D.is_honest device.old → D.history device.new ≡ D.history device.old }
+
+        // Each page of the tree leaves the map, and the others stay as they are.
+        ensures cleared { D.is_honest device.old → Agrees pages.old (D.state device.old).disk → (levels : List (List Part)) →
+            Holds self.old.form (pages_of_map pages.old (D.state device.old).disk.present) self.old.root levels →
+            OnOk result (Moves (pages_of_map pages.old (D.state device.old).disk.present) (pages_of levels) (pages_of_map pages.new (D.state device.old).disk.present) []) }
+        ensures damaged { D.is_honest device.old → Agrees pages.old (D.state device.old).disk → result ≡ Err PagesError.Damaged →
+            (levels : List (List Part)) → Holds self.old.form (pages_of_map pages.old (D.state device.old).disk.present) self.old.root levels → ⊥ }
+        ensures form { self.new.form ≡ self.old.form }
+        ensures root { OnOk result (self.new.root ≡ 0) }
+        ensures same { OnErr result (self.new ≡ self.old) }
+        ensures committed { SameCommitted pages.old pages.new }
+        ensures catalog { catalog_of pages.new ≡ catalog_of pages.old }
+        ensures agrees { D.is_honest device.old → Agrees pages.old (D.state device.old).disk → Agrees pages.new (D.state device.new).disk }
+        ensures open { IsOpen pages.new }
+        ensures spent { result ≡ Err PagesError.Spent → (is_spent pages.old ≡ true) × (self.old.root ≢ 0) }
+        ensures cause { IfErr result IsChangeRefusal }
+    {
+        let alloc = self.alloc;
+        let form = self.form();
+        let top = self.root();
+        if top == 0 {
+            return Ok(());
+        }
+        // How many page numbers there are is needed below.
+        let _page_count = pages.page_count();
+        let mut numbers = Vec::new(alloc);
+        numbers.push(top)?;
+        clear_levels(alloc, pages, device, form, numbers, LEVELS)?;
+        self.set_root(0);
+        Ok(())
+    }
+}
