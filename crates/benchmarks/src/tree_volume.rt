@@ -113,6 +113,16 @@ impl TreeVolume {
             .insert(&mut self.pages, &mut self.device, &self.key, &self.value)
     }
 
+    /// Takes the entry of a number out of the tree.
+    pub fn remove(&mut self, number: u32) -> Result<bool, PagesError> {
+        if !has_sectors(&self.pages, &self.device) {
+            return Err(PagesError::Spent);
+        }
+        put_number(&mut self.key, number);
+        self.tree
+            .remove(&mut self.pages, &mut self.device, &self.key)
+    }
+
     /// The entry of a number.
     pub fn get(&mut self, number: u32) -> Result<Option<Entry>, PagesError> {
         if !has_sectors(&self.pages, &self.device) {

@@ -1,4 +1,4 @@
-//! Inserts, gets and walks of trees of entries.
+//! Inserts, gets, walks and removals of trees of entries.
 
 use crate::tree_volume::TreeVolume;
 use pages::PagesError;
@@ -8,6 +8,9 @@ use tree_pages::TreeForm;
 
 /// The entries of each tree.
 const ENTRIES: u32 = 100_000;
+
+/// How many of them go before the tree's pages are counted again.
+const SOON_GONE: u32 = 90_000;
 
 /// Entries side by side that are got again and again, so that their pages stay in the processor's own cache.
 const FEW: u32 = 1_000;
@@ -97,6 +100,27 @@ fn fill(volume: &mut TreeVolume, case: Case) -> Result<u32, PagesError> {
     Ok(came)
 }
 
+/// Entries go: those from one place to another of an order that leads far from each entry to the next. The answer is how many went.
+fn remove_between(
+    volume: &mut TreeVolume,
+    case: Case,
+    from: u32,
+    to: u32,
+) -> Result<u32, PagesError> {
+    let mut went = 0u32;
+    for n in from..to {
+        let place = (n as u64 * STEP % ENTRIES as u64) as u32;
+        if volume.remove(case.order.number(place))? {
+            went = went.saturating_add(1);
+        }
+        if n % case.at_once.max(1) == 0 {
+            volume.commit()?;
+        }
+    }
+    volume.commit()?;
+    Ok(went)
+}
+
 /// Gets the entries of numbers below a limit, far from one another. The answer is how many were there.
 fn get_each(volume: &mut TreeVolume, limit: u32) -> Result<u32, PagesError> {
     let mut there = 0u32;
@@ -184,6 +208,28 @@ fn measure_walk(rt: &HostRuntime, volume: &mut TreeVolume) -> io::Result<()> {
     }
 }
 
+fn measure_removals(
+    rt: &HostRuntime,
+    volume: &mut TreeVolume,
+    case: Case,
+    from: u32,
+    to: u32,
+) -> io::Result<()> {
+    let writes_before = volume.writes();
+    let touched_before = volume.touched();
+    let start = Instant::now(rt)?;
+    let done = remove_between(volume, case, from, to);
+    let milliseconds = start.elapsed(rt)?.as_millis();
+    let writes = volume.writes().saturating_sub(writes_before);
+    let touched = volume.touched().saturating_sub(touched_before);
+    match done {
+        Ok(went) => println!(rt;
+            "  remove, with commits: {milliseconds} ms for {went}, {touched} pages touched and {writes} sectors written in all"
+        ),
+        Err(error) => println!(rt; "{error}"),
+    }
+}
+
 fn measure_case(rt: &HostRuntime, case: Case) -> io::Result<()> {
     let mut volume = match TreeVolume::empty(rt.alloc(), case.form) {
         Ok(volume) => volume,
@@ -198,10 +244,14 @@ fn measure_case(rt: &HostRuntime, case: Case) -> io::Result<()> {
     measure_shape(rt, &mut volume)?;
     measure_gets(rt, &mut volume, FEW)?;
     measure_gets(rt, &mut volume, ENTRIES)?;
-    measure_walk(rt, &mut volume)
+    measure_walk(rt, &mut volume)?;
+    measure_removals(rt, &mut volume, case, 0, SOON_GONE)?;
+    measure_shape(rt, &mut volume)?;
+    measure_removals(rt, &mut volume, case, SOON_GONE, ENTRIES)?;
+    measure_shape(rt, &mut volume)
 }
 
-/// Each tree from its first entry on.
+/// Each tree from its first entry to its last.
 pub fn measure(rt: &HostRuntime) -> io::Result<()> {
     for case in cases() {
         measure_case(rt, case)?;
