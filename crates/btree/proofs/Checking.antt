@@ -1,8 +1,8 @@
 -- Levels that were checked, one below the other.
-use Rattle.std.proofs.Common.{◌≡◌, ◌<◌, ◌+◌, ◌^◌, ℕ, Bool, List, [], ◌∷◌, ◌++◌, length, map, refl, sym, ap, subst, ◌∙◌, arith}
+use Rattle.std.proofs.Common.{◌≡◌, ◌≤◌, ◌<◌, ◌+◌, ◌^◌, ℕ, Bool, List, [], ◌∷◌, ◌++◌, length, length-append, map, take, drop, refl, sym, ap, subst, ◌∙◌, arith}
 use Rattle.std.specs.Prelude.{slice_index_or, Option, Some}
 use Rattle.std.specs.List.{All}
-use Rattle.std.proofs.lemmas.List.{append-nil}
+use Rattle.std.proofs.lemmas.List.{append-nil, length-map, take-map, take-append-drop}
 use Rattle.std.proofs.lemmas.List.Elements.{All-head, All-tail, Contains-get_or}
 use Rattle.byteorder.specs.Endian.{big_bytes, big_number}
 use Rattle.byteorder.specs.Numbers.{big_number-reads_back}
@@ -15,15 +15,16 @@ use Rattle.tree_pages.specs.Keys.{key_of, child_of}
 use Rattle.btree.specs.declared.name.Name.{Name}
 use Rattle.btree.specs.Tree.{Part, least, row_of, rows_of, node_at, node_of, Stands, IsTree, pages_of}
 use Rattle.btree.specs.Moves.{numbers_of}
-use Rattle.btree.specs.Walks.{name_of, name_in, row_named, pages_named, IsUnmarked, CanMark, Marks, IsLevel, Lists, IsUnder, Finds}
+use Rattle.btree.specs.Rises.{part_of}
+use Rattle.btree.specs.Walks.{name_of, name_in, row_named, pages_named, IsUnmarked, CanMark, Marks, IsNamed, IsLevel, Lists, IsUnder, Finds}
 use Rattle.btree.proofs.Order.{Up, all_left, all_right}
 use Rattle.btree.proofs.Levels.{HasRows, joined_have_rows, key_of_row, rest_of_row}
 use Rattle.btree.proofs.Descents.{rows_read, kind_read}
 use Rattle.btree.proofs.Runs.{once_from_pairs, pairs_from_once}
-use Rattle.btree.proofs.Splices.{joined_there}
+use Rattle.btree.proofs.Splices.{joined_there, rows_append}
 use Rattle.btree.proofs.Writes.{is_low}
-use Rattle.btree.proofs.Marking.{can_left, can_after, marks_append}
-use Rattle.btree.proofs.Walking.{part_at}
+use Rattle.btree.proofs.Marking.{can_left, can_right, can_after, marks_append, few_can}
+use Rattle.btree.proofs.Walking.{level_next, rows_more, part_at}
 
 -- The pages of a level, and its rows in the level above, from its names.
 pages_of_names : (form : TreeForm) (level : List Part) → numbers_of level ≡ pages_named (map (name_of form) level)
@@ -65,7 +66,16 @@ pub record FirstLevel (form : TreeForm) (pages : List (Option Sector)) (names : 
   pub level : List Part
   pub is : IsLevel form pages kind names level
   pub up : kind ≡ Leaf → Up form (rows_of level)
+  pub few : kind ≡ Inner → length (rows_of level) ≤ length seen
   pub can : CanMark seen (pages_named names)
+
+-- its rows name the parts of the next level, whose pages can be marked
+few_rows : (form : TreeForm) (upper lower : List Part) (more : List ℕ) (seen : List Bool) → rows_of upper ≡ map (row_of form) lower → CanMark seen (numbers_of upper ++ (numbers_of lower ++ more)) → length (rows_of upper) ≤ length seen
+few_rows form upper lower more seen rows can =
+    let count : length (rows_of upper) ≡ length (numbers_of lower) = ap length rows ∙ length-map lower (row_of form) ∙ sym (length-map lower (λ (part : Part). part.page)) in
+    let few : length (numbers_of lower) ≤ length seen =
+    few_can seen (numbers_of lower) (can_left seen (numbers_of lower) more (can_right seen (numbers_of upper) (numbers_of lower ++ more) can)) in
+    omega (arith, count, few)
 
 can_first : (form : TreeForm) (pages : List (Option Sector)) (kind : Kind) (names : List Name) (seen : List Bool) (level : List Part) (more : List ℕ) → IsLevel form pages kind names level → CanMark seen (numbers_of level ++ more)
     → CanMark seen (pages_named names)
@@ -75,10 +85,17 @@ pub first_level : (form : TreeForm) (pages : List (Option Sector)) (names : List
 first_level form pages names seen [] under can = absurd under.top
 first_level form pages names seen (leaves ∷ []) under can =
     let is : IsLevel form pages Leaf names leaves = record { stand = under.joined; named = under.top } in
-    record { kind = Leaf; level = leaves; is = is; up = λ leaf. under.ascend; can = can_first form pages Leaf names seen leaves [] is can }
+    record { kind = Leaf; level = leaves; is = is; up = λ leaf. under.ascend; few = λ inner. absurd (let clash : Leaf ≡ Inner = inner in cc); can = can_first form pages Leaf names seen leaves [] is can }
 first_level form pages names seen (upper ∷ lower ∷ more) under can =
     let is : IsLevel form pages Inner names upper = record { stand = under.joined.0; named = under.top } in
-    record { kind = Inner; level = upper; is = is; up = λ leaf. absurd (let clash : Inner ≡ Leaf = leaf in cc); can = can_first form pages Inner names seen upper (pages_of (lower ∷ more)) is can }
+    record {
+      kind = Inner;
+      level = upper;
+      is = is;
+      up = λ leaf. absurd (let clash : Inner ≡ Leaf = leaf in cc);
+      few = λ inner. few_rows form upper lower (pages_of more) seen under.joined.1 can;
+      can = can_first form pages Inner names seen upper (pages_of (lower ∷ more)) is can;
+    }
 
 -- A level of these names has these rows.
 same_rows : (form : TreeForm) (pages : List (Option Sector)) (kind other : Kind) (one two : List Part) → All (Stands form pages kind) one → All (Stands form pages other) two → map (name_of form) one ≡ map (name_of form) two
@@ -93,6 +110,30 @@ same_rows form pages kind other (part ∷ one) (twin ∷ two) first second same 
     rows_read form pages kind part twin.page (node_of form other twin.rows) (ap (λ (n : Name). n.page) name) (All-head (Stands form pages kind) part one first) (All-head (Stands form pages other) twin two second).node in
     let tail = same_rows form pages kind other one two (All-tail (Stands form pages kind) part one first) (All-tail (Stands form pages other) twin two second) rest in
     ap (λ (xs : List (List ℕ)). xs ++ rows_of one) rows ∙ ap (λ (xs : List (List ℕ)). twin.rows ++ xs) tail
+
+-- The first parts of a level have no more rows than the level.
+rows_so_far : (form : TreeForm) (pages : List (Option Sector)) (kind : Kind) (names : List Name) (place : ℕ) (one level : List Part) → IsLevel form pages kind (take place names) one → IsLevel form pages kind names level
+    → length (rows_of one) ≤ length (rows_of level)
+rows_so_far form pages kind names place one level is level_is =
+    let first : List Part = take place level in
+    let rest : List Part = drop place level in
+    let split : first ++ rest ≡ level = take-append-drop place level in
+    let stand : All (Stands form pages kind) first = all_left (Stands form pages kind) first rest (subst (All (Stands form pages kind)) (sym split) level_is.stand) in
+    let named : map (name_of form) one ≡ map (name_of form) first = is.named ∙ ap (take place) (sym level_is.named) ∙ take-map (name_of form) place level in
+    let same : length (rows_of one) ≡ length (rows_of first) = ap length (same_rows form pages kind kind one first is.stand stand named) in
+    let count : length (rows_of level) ≡ length (rows_of first) + length (rows_of rest) =
+    ap (λ (parts : List Part). length (rows_of parts)) (sym split) ∙ ap length (rows_append first rest) ∙ length-append (rows_of first) (rows_of rest) in
+    omega (arith, same, count)
+
+pub names_so_far : (form : TreeForm) (pages : List (Option Sector)) (kind : Kind) (names : List Name) (place : ℕ) (was : List Part) (name : Name) (rows : List (List ℕ)) (old : List Name) (count : ℕ) (level : List Part) → place < length names
+    → name ≡ slice_index_or names place name → IsLevel form pages kind (take place names) was → IsNamed form pages kind name rows → Lists form (rows_of was) old → count ≡ length old + length rows → IsLevel form pages kind names level
+    → count ≤ length (rows_of level)
+names_so_far form pages kind names place was name rows old count level low is was_is named lists counted level_is =
+    let next : List Part = was ++ part_of name.page rows ∷ [] in
+    let few = rows_so_far form pages kind names (place + 1) next level (level_next form pages kind names place was name rows low is was_is named) level_is in
+    let listed : length old ≡ length (rows_of was) = ap length lists.read ∙ length-map (rows_of was) (name_in form) in
+    let added : length (rows_of next) ≡ length (rows_of was) + length rows = ap length (rows_more was name.page rows) ∙ length-append (rows_of was) rows in
+    omega (arith, few, listed, added, counted)
 
 pub name_in_row : (form : TreeForm) (part : Part) → HasRows form part → part.page < 2 ^ 32 → name_in form (row_of form part) ≡ name_of form part
 name_in_row form part has small =

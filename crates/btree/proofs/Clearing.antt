@@ -1,8 +1,8 @@
 -- Pages that leave the map.
-use Rattle.std.proofs.Common.{◌≡◌, inr, ⊎_elim, ◌<◌, ◌+◌, ◌^◌, ℕ, List, [], ◌∷◌, ◌++◌, length, map, take, set, refl, sym, ap, subst, ◌∙◌, arith, length-set, get_or-set_same, get_or-set_other}
+use Rattle.std.proofs.Common.{◌≡◌, inr, ⊎_elim, ◌≤◌, ◌<◌, ◌+◌, ◌^◌, ℕ, List, [], ◌∷◌, ◌++◌, length, map, take, drop, set, refl, sym, ap, subst, ◌∙◌, arith, length-set, get_or-set_same, get_or-set_other}
 use Rattle.std.specs.Prelude.{Contains, slice_index_or, Option, Some, None}
 use Rattle.std.specs.List.{All}
-use Rattle.std.proofs.lemmas.List.{map-append, append-nil, take_more, length-map, get_or-map}
+use Rattle.std.proofs.lemmas.List.{map-append, append-nil, take_more, take-append-drop, length-append, length-map, get_or-map}
 use Rattle.std.proofs.lemmas.List.Elements.{All-head, All-tail, All-nil, Contains-append_left, Contains-append_right, Contains-append_cases}
 use Rattle.station.specs.Disk.{Sector}
 use Rattle.pages.specs.declared.page_map.PageMap.{PageMap}
@@ -16,12 +16,12 @@ use Rattle.btree.specs.Tree.{Part, row_of, rows_of, node_at, Stands, pages_of, I
 use Rattle.btree.specs.Laws.{IsSmall}
 use Rattle.btree.specs.Rises.{part_of}
 use Rattle.btree.specs.Walks.{HasPages, levels_below, IsDown}
-use Rattle.btree.specs.Moves.{Moves, numbers_of}
+use Rattle.btree.specs.Moves.{Moves, Once, numbers_of}
 use Rattle.btree.specs.Changes.{Keeps}
-use Rattle.btree.proofs.Runs.{in_none, in_cases, in_or_not, once_from_pairs, once_right, once_apart}
+use Rattle.btree.proofs.Runs.{in_none, in_cases, in_or_not, once_from_pairs, pairs_from_once, once_left, once_right, once_apart}
 use Rattle.btree.proofs.Order.{all_left, all_right}
 use Rattle.btree.proofs.Levels.{HasRows, joined_have_rows}
-use Rattle.btree.proofs.Depth.{twice}
+use Rattle.btree.proofs.Depth.{few_numbers, twice}
 use Rattle.btree.proofs.Descents.{kind_read}
 use Rattle.btree.proofs.Shifts.{Kept}
 use Rattle.btree.proofs.Splices.{rows_append, joined_still}
@@ -93,6 +93,19 @@ children_more form level place none rows old new low same is pushed =
     ∙ ap (λ (xs : List (List ℕ)). map (child_of form) (rows_of (take place level) ++ xs)) (sym same ∙ sym (append-nil (slice_index_or level place none).rows))
     ∙ ap (map (child_of form)) (sym (rows_append (take place level) (slice_index_or level place none ∷ [])) ∙ ap rows_of (sym (take_more level place none low)))
 
+-- The first parts of a level have no more rows than the level.
+rows_of_some : (level : List Part) (place : ℕ) → length (rows_of (take place level)) ≤ length (rows_of level)
+rows_of_some level place =
+    let all : length (rows_of (take place level)) + length (rows_of (drop place level)) ≡ length (rows_of level) =
+    sym (length-append (rows_of (take place level)) (rows_of (drop place level))) ∙ ap length (sym (rows_append (take place level) (drop place level)) ∙ ap rows_of (take-append-drop place level)) in
+    omega arith
+
+pub few_children : (form : TreeForm) (level : List Part) (place : ℕ) (children : List ℕ) → children ≡ map (child_of form) (rows_of (take place level)) → length children ≤ length (rows_of level)
+few_children form level place children is =
+    let count = ap length is ∙ length-map (rows_of (take place level)) (child_of form) in
+    let some = rows_of_some level place in
+    omega arith
+
 -- The first level.
 none_there : (form : TreeForm) (pages : List (Option Sector)) (kind : Kind) (level : List Part) (numbers : List ℕ) → numbers_of level ≡ numbers → 0 < length level → All (Stands form pages kind) level → RootPart form pages (slice_index_or numbers 0 0)
 none_there form pages kind level numbers is some stand = record {
@@ -136,11 +149,23 @@ some_names form pages level lower some stand names =
     let double = twice form pages level stand in
     omega arith
 
+-- the pages below are distinct and in the map, so they are no more than it has numbers
+few_names : (form : TreeForm) (pages : List (Option Sector)) (numbers : List ℕ) (upper lower : List Part) (more : List (List Part)) → IsDown form pages numbers (upper ∷ lower ∷ more) → length (rows_of upper) ≤ length pages
+few_names form pages numbers upper lower more down =
+    let B : ℕ → Type 0 = λ page. (0 < page) × (page < length pages) in
+    let once : Once (numbers_of lower) = once_left (numbers_of lower) (pages_of more) (once_right (numbers_of upper) (pages_of (lower ∷ more)) down.once) in
+    let between : All B (numbers_of lower) = all_left B (numbers_of lower) (pages_of more) (all_right B (numbers_of upper) (pages_of (lower ∷ more)) down.between) in
+    let few : length (numbers_of lower) ≤ length pages = few_numbers (length pages) (numbers_of lower) (pairs_from_once (numbers_of lower) once) (λ k d low. (between k d low).1) in
+    let pages_below = length-map lower (λ (part : Part). part.page) in
+    let names = ap length down.joined.1 ∙ length-map lower (row_of form) in
+    omega arith
+
 -- what is below inner pages
 pub record InnerTop (form : TreeForm) (pages : List (Option Sector)) (numbers : List ℕ) (below : List (List Part)) : Type 0 where
   pub level : List Part
   pub stand : All (Stands form pages Inner) level
   pub is : numbers_of level ≡ numbers
+  pub few : length (rows_of level) ≤ length pages
   pub next : IsSmall pages → HasPages (map (child_of form) (rows_of level)) below
 
 pub below_inner : (form : TreeForm) (pages : List (Option Sector)) (numbers : List ℕ) (levels : List (List Part)) (node : Node) → 0 < length numbers → IsDown form pages numbers levels
@@ -153,6 +178,7 @@ below_inner form pages numbers (upper ∷ lower ∷ more) node some down read in
   level = upper;
   stand = down.joined.0;
   is = down.top.0;
+  few = few_names form pages numbers upper lower more down;
   next = λ few.
       let B : ℕ → Type 0 = λ page. (0 < page) × (page < length pages) in
       let between : All B (numbers_of lower) = all_left B (numbers_of lower) (pages_of more) (all_right B (numbers_of upper) (pages_of (lower ∷ more)) down.between) in

@@ -7,9 +7,6 @@ use Rattle.std.proofs.lemmas.List.Elements.{All-head}
 use Rattle.byteorder.specs.Endian.{big_bytes, big_number}
 use Rattle.byteorder.specs.Numbers.{big_number-reads_back}
 use Rattle.station.specs.Disk.{Sector}
-use Rattle.pages.specs.Image.{page_at, pages_in}
-use Rattle.pages.specs.Pages.{page_count}
-use Rattle.pages.specs.declared.page_map.PageMap.{PageMap}
 use Rattle.tree_pages.specs.declared.form.TreeForm.{TreeForm}
 use Rattle.tree_pages.specs.declared.form.Kind.TheVariants.{Inner}
 use Rattle.tree_pages.specs.Keys.{rest_of}
@@ -20,7 +17,7 @@ use Rattle.btree.specs.Tree.{Part, row_of, rows_of, Stands, Joined, pages_of, ro
 use Rattle.btree.specs.Path.{Spot, level_of}
 use Rattle.btree.specs.Moves.{Moves, Once, Became, Replaced}
 use Rattle.btree.specs.Rises.{part_of}
-use Rattle.btree.specs.Changes.{pages_of_map, IsIn}
+use Rattle.btree.specs.Changes.{IsIn}
 use Rattle.btree.specs.Falls.{FallsTo, GaveWay, SettlesLess, NeverSettles}
 use Rattle.btree.proofs.Shifts.{low_stays}
 use Rattle.btree.proofs.Splices.{all_right, no_node, joined_still, joined_there}

@@ -1,11 +1,12 @@
 -- Marks of pages, list by list.
-use Rattle.std.proofs.Common.{◌≡◌, ◌<◌, ℕ, Bool, true, false, List, [], ◌++◌, refl, sym, subst, ◌∙◌}
+use Rattle.std.proofs.Common.{◌≡◌, ◌≤◌, ◌<◌, ℕ, Bool, true, false, List, [], ◌++◌, length, refl, sym, subst, ◌∙◌}
 use Rattle.std.specs.Prelude.{slice_index_or, Contains}
 use Rattle.std.proofs.lemmas.List.Elements.{All-nil, All-append, All-contains, Contains-get_or, Contains-append_left, Contains-append_right}
 use Rattle.btree.specs.Walks.{IsUnmarked, CanMark, Marks}
 use Rattle.btree.proofs.Order.{all_left, all_right}
-use Rattle.btree.proofs.Runs.{once_left, once_right, once_apart, once_append}
+use Rattle.btree.proofs.Runs.{pairs_from_once, once_left, once_right, once_apart, once_append}
 use Rattle.btree.proofs.Frames.{false_unless}
+use Rattle.btree.proofs.Depth.{few_numbers}
 
 pub marks_none : (seen : List Bool) → Marks seen [] seen
 marks_none seen = record {
@@ -37,6 +38,13 @@ can_left seen xs ys can = record {
   once = once_left xs ys can.once;
 }
 
+pub can_right : (seen : List Bool) (xs ys : List ℕ) → CanMark seen (xs ++ ys) → CanMark seen ys
+can_right seen xs ys can = record {
+  some = all_right (λ page. 0 < page) xs ys can.some;
+  unmarked = all_right (IsUnmarked seen) xs ys can.unmarked;
+  once = once_right xs ys can.once;
+}
+
 pub can_after : (one two : List Bool) (xs ys : List ℕ) → Marks one xs two → CanMark one (xs ++ ys) → CanMark two ys
 can_after one two xs ys marks can = record {
   some = all_right (λ page. 0 < page) xs ys can.some;
@@ -62,3 +70,7 @@ marks_append one two three xs ys first second = record {
   marked = All-append (λ page. slice_index_or three page false ≡ true) xs ys (λ k d low. still_marked two three ys (slice_index_or xs k d) second (first.marked k d low)) second.marked;
   others = λ page out. second.others page (λ right. out (Contains-append_right xs ys page right)) ∙ first.others page (λ left. out (Contains-append_left xs ys page left));
 }
+
+-- Pages that can be marked are no more than there are marks.
+pub few_can : (seen : List Bool) (xs : List ℕ) → CanMark seen xs → length xs ≤ length seen
+few_can seen xs can = few_numbers (length seen) xs (pairs_from_once xs can.once) (λ k d low. (can.unmarked k d low).0)

@@ -87,7 +87,7 @@ fn check_part<D: Device>(
     Ok(part)
 }
 
-/// Checks a level of inner pages, and answers what their rows name.
+/// Checks a level of inner pages, and answers what their rows name. `Damaged` also tells that they name more pages than there are marks.
 fn check_inner<D: Device>(
     alloc: Global,
     pages: &mut PageMap,
@@ -111,9 +111,10 @@ fn check_inner<D: Device>(
         (level : List Part) × IsLevel form (map_now pages.old (D.state device.old).disk.present).pages Kind.Inner names.now level × Lists form (rows_of level) lower.items) }
     ensures marks { OnOk result (Marks seen.old (pages_named names.now) seen.new) }
     ensures more { IfOk result (λ lower. length names.now ≤ length lower.items) }
+    ensures few { IfOk result (λ lower. length lower.items ≤ length seen.old) }
     ensures damaged { D.is_honest device.old → Agrees pages.old (D.state device.old).disk → result ≡ Err PagesError.Damaged →
         CanMark seen.old (pages_named names.now) → (level : List Part) →
-        IsLevel form (map_now pages.old (D.state device.old).disk.present).pages Kind.Inner names.now level → ⊥ }
+        IsLevel form (map_now pages.old (D.state device.old).disk.present).pages Kind.Inner names.now level → length (rows_of level) ≤ length seen.old → ⊥ }
     ensures spent { result ≡ Err PagesError.Spent → is_spent pages.old ≡ true }
     ensures cause { IfErr result IsChangeRefusal }
 {
@@ -121,6 +122,9 @@ fn check_inner<D: Device>(
     for place in 0..names.len() {
         let part = check_part(pages, device, form, Kind::Inner, &names[place], seen)?;
         push_names(alloc, &mut lower, &part)?;
+        if seen.len() < lower.len() {
+            return Err(PagesError::Damaged);
+        }
     }
     Ok(lower)
 }
@@ -211,7 +215,8 @@ fn check_level<D: Device>(
     ensures some { IfOk result (λ lower. IfSome lower (λ lower. 0 < length lower.items)) }
     ensures damaged { D.is_honest device.old → Agrees pages.old (D.state device.old).disk → result ≡ Err PagesError.Damaged →
         CanMark seen.old (pages_named names.now) → (kind : Kind) (level : List Part) →
-        IsLevel form (map_now pages.old (D.state device.old).disk.present).pages kind names.now level → (kind ≡ Kind.Leaf → Ascend (keys_of form (rows_of level))) → ⊥ }
+        IsLevel form (map_now pages.old (D.state device.old).disk.present).pages kind names.now level → (kind ≡ Kind.Leaf → Ascend (keys_of form (rows_of level))) →
+        (kind ≡ Kind.Inner → length (rows_of level) ≤ length seen.old) → ⊥ }
     ensures spent { result ≡ Err PagesError.Spent → is_spent pages.old ≡ true }
     ensures cause { IfErr result IsChangeRefusal }
 {
@@ -271,7 +276,8 @@ impl Tree {
     /// Whether the pages under the root are a tree. Each of them is marked in `seen`, which has a mark for each page number. `Damaged`
     /// tells that they are no tree, or that one of them was marked or has no mark. After a refusal the marks say nothing. The least
     /// key and the number of each page are kept in memory: some 160 bytes for 4,096 of the tree, and more where keys are longer than
-    /// 128 bytes.
+    /// 128 bytes. Whatever bytes the pages hold, the number of marks bounds this memory: a level with more names than marks is
+    /// `Damaged`.
     pub fn check<D: Device>(
         &self,
         pages: &mut PageMap,

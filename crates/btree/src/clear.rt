@@ -3,7 +3,7 @@ ghost use Rattle.std.specs.Prelude.{◌≡◌, ◌≢◌, ◌≤◌, ◌<◌, �
 ghost use Rattle.std.specs.List.{All};
 ghost use Rattle.station.specs.Disk.{Sector};
 ghost use Rattle.station.specs.Failures.{Blames};
-ghost use Rattle.pages.specs.Pages.{is_spent, sectors_of, catalog_of, Agrees, IsOpen, SameCommitted};
+ghost use Rattle.pages.specs.Pages.{is_spent, sectors_of, catalog_of, page_count, Agrees, IsOpen, SameCommitted};
 ghost use Rattle.tree_pages.specs.Form.{IsForm};
 ghost use Rattle.tree_pages.specs.Keys.{child_of};
 ghost use Rattle.btree.specs.Tree.{Part, rows_of, pages_of, Stands, Holds};
@@ -58,7 +58,8 @@ fn push_children(numbers: &mut Vec<u32>, part: &TreePage) -> Result<(), PagesErr
     Ok(())
 }
 
-/// The children of these inner pages, from left to right.
+/// The children of these inner pages, from left to right. They are no more than there are page numbers: on a tree they are distinct,
+/// and other pages may name one page many times.
 fn children_of<D: Device>(
     alloc: Global,
     pages: &mut PageMap,
@@ -81,10 +82,13 @@ fn children_of<D: Device>(
         All (Stands form (pages_of_map pages.old (D.state device.old).disk.present) Kind.Inner) level → numbers_of level ≡ numbers.now →
         IfOk result (λ children. children.items ≡ map (child_of form) (rows_of level)) }
     ensures damaged { D.is_honest device.old → Agrees pages.old (D.state device.old).disk → result ≡ Err PagesError.Damaged → (level : List Part) →
-        All (Stands form (pages_of_map pages.old (D.state device.old).disk.present) Kind.Inner) level → numbers_of level ≡ numbers.now → ⊥ }
+        All (Stands form (pages_of_map pages.old (D.state device.old).disk.present) Kind.Inner) level → numbers_of level ≡ numbers.now →
+        length (rows_of level) ≤ length (pages_of_map pages.old (D.state device.old).disk.present) → ⊥ }
+    ensures few { IfOk result (λ children. length children.items ≤ page_count pages.old) }
     ensures spent { result ≡ Err PagesError.Spent → is_spent pages.old ≡ true }
     ensures cause { IfErr result IsChangeRefusal }
 {
+    let room = pages.page_count();
     let mut children = Vec::new(alloc);
     for place in 0..numbers.len() {
         let part = read_part(pages, device, form, numbers[place])?;
@@ -92,12 +96,15 @@ fn children_of<D: Device>(
             return Err(PagesError::Damaged);
         }
         push_children(&mut children, &part)?;
+        if room < children.len() {
+            return Err(PagesError::Damaged);
+        }
     }
     Ok(children)
 }
 
-/// The pages of the level below that of these pages, none below the leaves. The first page tells the level's kind, and leaves but
-/// the first aren't read.
+/// The pages of the level below that of these pages, none below the leaves, and no more than there are page numbers. The first page
+/// tells the level's kind, and leaves but the first aren't read.
 fn below<D: Device>(
     alloc: Global,
     pages: &mut PageMap,
@@ -122,6 +129,7 @@ fn below<D: Device>(
         IfOk result (λ children. HasPages children.items (levels_below levels)) }
     ensures damaged { D.is_honest device.old → Agrees pages.old (D.state device.old).disk → result ≡ Err PagesError.Damaged → (levels : List (List Part)) →
         IsDown form (pages_of_map pages.old (D.state device.old).disk.present) numbers.now levels → ⊥ }
+    ensures few { IfOk result (λ children. length children.items ≤ page_count pages.old) }
     ensures spent { result ≡ Err PagesError.Spent ↔ is_spent pages.old ≡ true }
     ensures cause { IfErr result IsChangeRefusal }
 {
@@ -177,7 +185,8 @@ fn clear_levels<D: Device>(
 impl Tree {
     /// Gives up all pages of the tree, whose root is 0 then. `Damaged` tells that the pages under the root are no tree. After a refusal
     /// the pages that aren't committed are given up with the map of pages. Of the leaves only the first one is read. The number of
-    /// each page is kept in memory.
+    /// each page is kept in memory. Whatever the bytes are, no level is kept that names more pages than the volume has page numbers, so
+    /// the number of pages bounds that memory.
     pub fn clear<D: Device>(
         &mut self,
         pages: &mut PageMap,

@@ -17,7 +17,7 @@ returns-in_err-lower-clause-damaged g t c = λ honest agrees is levels under can
     let pages : List (Option Sector) = (map_now c.args.pages.now (g.D.Device.state c.args.device.now).disk.present).pages in
     let names : List Name = c.as_slice.result.now in
     let first = first_level c.args.form pages names c.args.seen.now levels (subst (λ (n : List Name). IsUnder c.args.form pages n levels) (sym c.as_slice.ensures.value) under) can in
-    c.check_level.ensures.damaged honest agrees damaged first.can first.kind first.level first.is first.up
+    c.check_level.ensures.damaged honest agrees damaged first.can first.kind first.level first.is first.up first.few
 
 pub returns-in-Some-clause-untouched : goal.returns-in-Some-clause-untouched
 returns-in-Some-clause-untouched g t c = untouched_on c.args.pages.now c.check_level.new.pages c.check_levels.new.pages c.check_level.ensures.untouched c.check_levels.ensures.untouched

@@ -19,6 +19,7 @@ invariant-loop-place g l = record {
   is_open : IsOpen l.pages;
   marks : Marks l.fn.seen (pages_named (take l.place l.names)) l.seen;
   more : l.place ≤ length l.lower.items;
+  few : length l.lower.items ≤ length l.fn.seen;
   level : g.D.Device.is_honest l.fn.device → Agrees l.fn.pages (g.D.Device.state l.fn.device).disk → (level : List Part) ×
       IsLevel l.fn.form (map_now l.fn.pages (g.D.Device.state l.fn.device).disk.present).pages Inner (take l.place l.names) level ×
       Lists l.fn.form (rows_of level) l.lower.items;

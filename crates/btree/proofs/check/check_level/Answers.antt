@@ -13,7 +13,7 @@ use Rattle.btree.proofs.Walking.{part_at, level_kind}
 use Rattle.btree.proofs.check.check_level.Goals as goal
 
 pub returns-in_err-first-clause-damaged : goal.returns-in_err-first-clause-damaged
-returns-in_err-first-clause-damaged g c = λ honest agrees is can kind level are up.
+returns-in_err-first-clause-damaged g c = λ honest agrees is can kind level are up few.
     let from = err_from_is_err_and c.from_residual.result c.from_residual.ensures.1 in
     let damaged : c.read_part.result ≡ Err Damaged = cc in
     let pages : List (Option Sector) = (map_now c.args.pages.now (g.D.Device.state c.args.device.now).disk.present).pages in
@@ -25,7 +25,7 @@ pub returns-in_err-check_leaves-in-Leaf-clause-untouched : goal.returns-in_err-c
 returns-in_err-check_leaves-in-Leaf-clause-untouched g c = untouched_on c.args.pages.now c.read_part.new.pages c.check_leaves.new.pages c.read_part.ensures.untouched c.check_leaves.ensures.untouched
 
 pub returns-in_err-check_leaves-in-Leaf-clause-damaged : goal.returns-in_err-check_leaves-in-Leaf-clause-damaged
-returns-in_err-check_leaves-in-Leaf-clause-damaged g c = λ honest agrees is can kind level are up.
+returns-in_err-check_leaves-in-Leaf-clause-damaged g c = λ honest agrees is can kind level are up few.
     let from = err_from_is_err_and c.from_residual-in_err-check_leaves-in-Leaf.result c.from_residual-in_err-check_leaves-in-Leaf.ensures.1 in
     let damaged : c.check_leaves.result ≡ Err Damaged = cc in
     let pages : List (Option Sector) = (map_now c.args.pages.now (g.D.Device.state c.args.device.now).disk.present).pages in
@@ -43,7 +43,7 @@ pub returns-in_err-lower-in-Inner-clause-untouched : goal.returns-in_err-lower-i
 returns-in_err-lower-in-Inner-clause-untouched g c = untouched_on c.args.pages.now c.read_part.new.pages c.check_inner.new.pages c.read_part.ensures.untouched c.check_inner.ensures.untouched
 
 pub returns-in_err-lower-in-Inner-clause-damaged : goal.returns-in_err-lower-in-Inner-clause-damaged
-returns-in_err-lower-in-Inner-clause-damaged g c = λ honest agrees is can kind level are up.
+returns-in_err-lower-in-Inner-clause-damaged g c = λ honest agrees is can kind level are up few.
     let from = err_from_is_err_and c.from_residual-in_err-lower-in-Inner.result c.from_residual-in_err-lower-in-Inner.ensures.1 in
     let damaged : c.check_inner.result ≡ Err Damaged = cc in
     let pages : List (Option Sector) = (map_now c.args.pages.now (g.D.Device.state c.args.device.now).disk.present).pages in
@@ -55,7 +55,7 @@ returns-in_err-lower-in-Inner-clause-damaged g c = λ honest agrees is can kind 
     level_kind c.args.form pages kind c.args.names.now name level first c.requires.some (ap (λ (n : Name). slice_index_or c.args.names.now 0 n) c.index-names-0.is) are (c.in_ok-first.ensures.part honest agrees) ∙ inner in
     let level_is : IsLevel c.args.form pages Inner c.args.names.now level = subst (λ (k : Kind). IsLevel c.args.form pages k c.args.names.now level) kind_is are in
     c.check_inner.ensures.damaged (c.read_part.ensures.honest.0 honest) (c.read_part.ensures.agrees honest agrees) damaged can level
-    (subst (λ (p : List (Option Sector)). IsLevel c.args.form p Inner c.args.names.now level) (sym same) level_is)
+    (subst (λ (p : List (Option Sector)). IsLevel c.args.form p Inner c.args.names.now level) (sym same) level_is) (few kind_is)
 
 pub returns-in_ok-check_leaves-in-Leaf-clause-untouched : goal.returns-in_ok-check_leaves-in-Leaf-clause-untouched
 returns-in_ok-check_leaves-in-Leaf-clause-untouched g c = untouched_on c.args.pages.now c.read_part.new.pages c.check_leaves.new.pages c.read_part.ensures.untouched c.check_leaves.ensures.untouched

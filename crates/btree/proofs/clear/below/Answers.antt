@@ -1,11 +1,11 @@
-use Rattle.std.proofs.Common.{◌≡◌, ℕ, List, Err, sym, subst, ◌∙◌, rules}
+use Rattle.std.proofs.Common.{◌≡◌, ◌≤◌, ℕ, List, Err, length, sym, subst, ◌∙◌, rules}
 use Rattle.std.specs.Prelude.{Option}
 use Rattle.std.specs.List.{All}
 use Rattle.std.proofs.lemmas.Result.{err_from_is_err_and, IfOk-weaker}
 use Rattle.station.specs.Disk.{Sector}
 use Rattle.pages.specs.declared.error.PagesError.TheVariants.{Damaged, Spent}
 use Rattle.tree_pages.specs.declared.form.Kind.TheVariants.{Leaf, Inner}
-use Rattle.btree.specs.Tree.{Stands}
+use Rattle.btree.specs.Tree.{rows_of, Stands}
 use Rattle.btree.specs.Walks.{HasPages, levels_below}
 use Rattle.btree.specs.Changes.{pages_of_map}
 use Rattle.btree.proofs.Frames.{untouched_on, same_pages, ok_or_err}
@@ -50,6 +50,7 @@ returns-in-Inner-clause-damaged g c = λ honest agrees is levels down.
     let top = below_inner c.args.form pages c.args.numbers.now levels c.in_ok-first.first c.requires.some down (c.in_ok-first.ensures.part honest agrees) inner in
     c.children_of.ensures.damaged (read.honest.0 honest) (read.agrees honest agrees) is top.level
     (subst (λ (p : List (Option Sector)). All (Stands c.args.form p Inner) top.level) (sym same) top.stand) top.is
+    (subst (λ (p : List (Option Sector)). length (rows_of top.level) ≤ length p) (sym same) top.few)
 
 pub returns-in-Inner-clause-spent : goal.returns-in-Inner-clause-spent
 returns-in-Inner-clause-spent g c = (

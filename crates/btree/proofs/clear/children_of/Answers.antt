@@ -1,4 +1,4 @@
-use Rattle.std.proofs.Common.{◌≡◌, ◌<◌, ℕ, List, [], ◌++◌, Err, length, map, sym, ap, subst, ◌∙◌, arith, rules}
+use Rattle.std.proofs.Common.{◌≡◌, ◌<◌, ◌+◌, ℕ, List, [], ◌++◌, Err, length, map, sym, ap, subst, ◌∙◌, arith, rules}
 use Rattle.std.specs.Prelude.{Option, Some, slice_index_or}
 use Rattle.std.proofs.lemmas.Result.{err_from_is_err_and}
 use Rattle.station.specs.Disk.{Sector}
@@ -11,14 +11,14 @@ use Rattle.btree.specs.Rises.{part_of}
 use Rattle.btree.specs.Changes.{pages_of_map}
 use Rattle.btree.proofs.Frames.{untouched_on, same_pages}
 use Rattle.btree.proofs.Descents.{rows_read, kind_read}
-use Rattle.btree.proofs.Clearing.{page_at, as_many, children_more}
+use Rattle.btree.proofs.Clearing.{page_at, as_many, children_more, few_children}
 use Rattle.btree.proofs.clear.children_of.Goals as goal
 
 pub returns-in_err-part-clause-untouched : goal.returns-in_err-part-clause-untouched
 returns-in_err-part-clause-untouched g c = untouched_on c.args.pages.now c.loop-place.pages c.read_part.new.pages c.loop-place.invariant.untouched c.read_part.ensures.untouched
 
 pub returns-in_err-part-clause-damaged : goal.returns-in_err-part-clause-damaged
-returns-in_err-part-clause-damaged g c = λ honest agrees is level stand numbers.
+returns-in_err-part-clause-damaged g c = λ honest agrees is level stand numbers below.
     let loop = c.loop-place in
     let from = err_from_is_err_and c.from_residual.result c.from_residual.ensures.1 in
     let damaged : c.read_part.result ≡ Err Damaged = cc in
@@ -35,7 +35,7 @@ pub returns-then-ne-clause-untouched : goal.returns-then-ne-clause-untouched
 returns-then-ne-clause-untouched g c = untouched_on c.args.pages.now c.loop-place.pages c.read_part.new.pages c.loop-place.invariant.untouched c.read_part.ensures.untouched
 
 pub returns-then-ne-clause-damaged : goal.returns-then-ne-clause-damaged
-returns-then-ne-clause-damaged g c = λ honest agrees is level stand numbers.
+returns-then-ne-clause-damaged g c = λ honest agrees is level stand numbers below.
     let loop = c.loop-place in
     let part = c.in_ok-part.part in
     let pages = pages_of_map c.args.pages.now (g.D.Device.state c.args.device.now).disk.present in
@@ -55,6 +55,34 @@ returns-then-ne-clause-damaged g c = λ honest agrees is level stand numbers.
 
 pub returns-in_err-push_children-clause-untouched : goal.returns-in_err-push_children-clause-untouched
 returns-in_err-push_children-clause-untouched g c = untouched_on c.args.pages.now c.loop-place.pages c.read_part.new.pages c.loop-place.invariant.untouched c.read_part.ensures.untouched
+
+pub returns-then-room-len-clause-untouched : goal.returns-then-room-len-clause-untouched
+returns-then-room-len-clause-untouched g c = untouched_on c.args.pages.now c.loop-place.pages c.read_part.new.pages c.loop-place.invariant.untouched c.read_part.ensures.untouched
+
+pub returns-then-room-len-clause-damaged : goal.returns-then-room-len-clause-damaged
+returns-then-room-len-clause-damaged g c = λ honest agrees is level stand numbers below.
+    let loop = c.loop-place in
+    let part = c.in_ok-part.part in
+    let image = (g.D.Device.state c.args.device.now).disk.present in
+    let pages = pages_of_map c.args.pages.now image in
+    let same = same_pages c.args.pages.now loop.pages (g.D.Device.state c.args.device.now) (g.D.Device.state loop.device) loop.invariant.untouched (loop.invariant.state honest) in
+    let none : Part = part_of 0 [] in
+    let here : Part = slice_index_or level loop.place none in
+    let count = as_many level c.args.numbers.now numbers in
+    let test = c.loop-place-test.true in
+    let low : loop.place < length level = omega arith in
+    let number : ℕ = slice_index_or c.args.numbers.now loop.place 0 in
+    let at : node_at c.args.form pages number ≡ Some part =
+    subst (λ (p : List (Option Sector)). node_at c.args.form p number ≡ Some part) same (c.in_ok-part.ensures.part (loop.invariant.honest.0 honest) (loop.invariant.agrees honest agrees)) in
+    let rows : here.rows ≡ part.rows = rows_read c.args.form pages Inner here number part (page_at level c.args.numbers.now loop.place none numbers low) (stand loop.place none low) at in
+    let pushed : c.push_children.new.numbers.items ≡ loop.children.items ++ map (child_of c.args.form) part.rows =
+    c.in_ok-push_children.ensures.numbers ∙ ap (λ (f : TreeForm). loop.children.items ++ map (child_of f) part.rows) c.in_ok-part.ensures.shape.0 in
+    let few = few_children c.args.form level (loop.place + 1) c.push_children.new.numbers.items
+    (children_more c.args.form level loop.place none part.rows loop.children.items c.push_children.new.numbers.items low rows (loop.invariant.children honest agrees level stand numbers) pushed) in
+    let room = c.page_count-room.ensures.pages image in
+    let is_room = c.page_count-room.ensures.count in
+    let beyond = c.if-room-len.true in
+    omega arith
 
 pub loop-place-preserved : goal.loop-place-preserved
 loop-place-preserved g c =
@@ -85,4 +113,11 @@ loop-place-preserved g c =
           let pushed : c.push_children.new.numbers.items ≡ loop.children.items ++ map (child_of c.args.form) part.rows =
           c.in_ok-push_children.ensures.numbers ∙ ap (λ (f : TreeForm). loop.children.items ++ map (child_of f) part.rows) c.in_ok-part.ensures.shape.0 in
           children_more c.args.form level loop.place none part.rows loop.children.items c.push_children.new.numbers.items low rows (loop.invariant.children h a level stand numbers) pushed;
+      few = let inside = c.if-room-len.false in omega arith;
     }
+
+pub returns-clause-few : goal.returns-clause-few
+returns-clause-few g c =
+    let few = c.loop-place.invariant.few in
+    let room = c.page_count-room.ensures.count in
+    omega arith

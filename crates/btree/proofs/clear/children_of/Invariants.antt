@@ -1,4 +1,4 @@
-use Rattle.std.proofs.Common.{◌≡◌, ◌≤◌, List, map, take}
+use Rattle.std.proofs.Common.{◌≡◌, ◌≤◌, List, length, map, take}
 use Rattle.std.specs.Prelude.{◌↔◌}
 use Rattle.std.specs.List.{All}
 use Rattle.pages.specs.Pages.{Agrees, IsOpen}
@@ -23,4 +23,5 @@ invariant-loop-place g l = record {
   children : g.D.Device.is_honest l.fn.device → Agrees l.fn.pages (g.D.Device.state l.fn.device).disk → (level : List Part) →
       All (Stands l.fn.form (pages_of_map l.fn.pages (g.D.Device.state l.fn.device).disk.present) Inner) level → numbers_of level ≡ l.numbers →
       l.children.items ≡ map (child_of l.fn.form) (rows_of (take l.place level));
+  few : length l.children.items ≤ l.room;
 }
