@@ -12,23 +12,23 @@ use Rattle.tree_pages.specs.Form.{row_length}
 use Rattle.tree_pages.specs.Keys.{rest_of}
 use Rattle.tree_pages.specs.Node.{Node}
 use Rattle.btree.specs.declared.fate.Fate.{Fate}
-use Rattle.btree.specs.declared.fate.Fate.TheVariants.{Kept, Renamed, Gone, Lone}
+use Rattle.btree.specs.declared.fate.Fate.TheVariants.{Kept, Renamed, Gone, Underfull}
 use Rattle.btree.specs.declared.fate.Child.{Child}
 use Rattle.btree.specs.Tree.{Part, row_of, fewest, node_of, node_at, Stands, pages_of}
 use Rattle.btree.specs.Path.{Spot, level_of, Turn, TurnsTo, Leads, lowest}
 use Rattle.btree.specs.Moves.{numbers_of}
 use Rattle.btree.specs.Rises.{part_of}
 use Rattle.btree.specs.Changes.{IsIn, CanStand, Standing}
-use Rattle.btree.specs.Fates.{Fares, IsPair, Mended}
-use Rattle.btree.specs.Falls.{Falls, FallsBy, NeverFalls, FallsOn, NeverFallsOn}
+use Rattle.btree.specs.Fates.{Fares, IsPair, Rebalanced}
+use Rattle.btree.specs.Shrinks.{Shrinks, ShrinksBy, NeverShrinks, ShrinksOn, NeverShrinksOn}
 use Rattle.btree.proofs.Runs.{once_right}
 use Rattle.btree.proofs.Shifts.{sector_of}
 use Rattle.btree.proofs.Splices.{all_left, all_right, no_node, numbers_append}
 use Rattle.btree.proofs.Rising.{part_stands, row_names, turns_here}
 use Rattle.btree.proofs.Upward.{standing_below, ReadNode}
 use Rattle.btree.proofs.Settling.{first_of_way}
-use Rattle.btree.proofs.Falling.{falls_one, falls_same, still_above}
-use Rattle.btree.proofs.Mended.{still_here, falls_mended}
+use Rattle.btree.proofs.Shrinking.{shrinks_one, shrinks_same, still_above}
+use Rattle.btree.proofs.Rebalanced.{still_here, shrinks_rebalanced}
 use Rattle.btree.proofs.Pairs.{Neighbours, neighbours, is_pair, pair_some}
 
 -- The first turn of a way, where the levels below it fell.
@@ -38,47 +38,47 @@ pub record Fallen (form : TreeForm) (one two : List (Option Sector)) (levels : L
   pub is : levels ≡ level_of spot ∷ level_of next ∷ more
   pub standing : Standing form one (level_of spot ∷ level_of next ∷ more)
   pub turns : TurnsTo spot turn next
-  pub below : Falls form one (level_of next ∷ more) next two ordered fate
+  pub below : Shrinks form one (level_of next ∷ more) next two ordered fate
   pub above : All (Stands form two Inner) (level_of spot)
 
 fallen_from : (form : TreeForm) (one two : List (Option Sector)) (levels : List (List Part)) (turn : Turn) (spot next : Spot) (more : List (List Part)) (ordered : List (List ℕ)) (fate : Fate)
-    → levels ≡ level_of spot ∷ level_of next ∷ more → Standing form one levels → TurnsTo spot turn next → Falls form one (level_of next ∷ more) next two ordered fate
+    → levels ≡ level_of spot ∷ level_of next ∷ more → Standing form one levels → TurnsTo spot turn next → Shrinks form one (level_of next ∷ more) next two ordered fate
     → Fallen form one two levels turn spot ordered fate
 fallen_from form one two levels turn spot next more ordered fate is standing turns below =
     let here = subst (λ (l : List (List Part)). Standing form one l) is standing in
     record { next = next; more = more; is = is; standing = here; turns = turns; below = below; above = still_above form one two spot next more ordered fate here.joined.0 here.once below }
 
-pub fallen : (form : TreeForm) (key : List ℕ) (one start two : List (Option Sector)) (levels : List (List Part)) (turn : Turn) (turns : List Turn) (spot : Spot) (below : List Spot) (ordered : List (List ℕ)) (from fate : Fate)
-    → FallsBy form turns start two from fate → Standing form one levels → Leads form key levels (turn ∷ turns) spot below → Falls form one (level_of (lowest spot below) ∷ []) (lowest spot below) start ordered from
+pub shrunk : (form : TreeForm) (key : List ℕ) (one start two : List (Option Sector)) (levels : List (List Part)) (turn : Turn) (turns : List Turn) (spot : Spot) (below : List Spot) (ordered : List (List ℕ)) (from fate : Fate)
+    → ShrinksBy form turns start two from fate → Standing form one levels → Leads form key levels (turn ∷ turns) spot below → Shrinks form one (level_of (lowest spot below) ∷ []) (lowest spot below) start ordered from
     → Fallen form one two levels turn spot ordered fate
-fallen form key one start two [] turn turns spot below ordered from fate falls standing leads bottom = absurd leads
-fallen form key one start two (leaves ∷ []) turn turns spot below ordered from fate falls standing leads bottom =
+shrunk form key one start two [] turn turns spot below ordered from fate shrinks standing leads bottom = absurd leads
+shrunk form key one start two (leaves ∷ []) turn turns spot below ordered from fate shrinks standing leads bottom =
     let clash : turn ∷ turns ≡ [] = leads.2 in absurd (omega (arith, ap length clash))
-fallen form key one start two (upper ∷ lower ∷ more) turn turns spot [] ordered from fate falls standing leads bottom = absurd leads
-fallen form key one start two (upper ∷ lower ∷ more) turn turns spot (next ∷ under) ordered from fate falls standing leads bottom =
+shrunk form key one start two (upper ∷ lower ∷ more) turn turns spot [] ordered from fate shrinks standing leads bottom = absurd leads
+shrunk form key one start two (upper ∷ lower ∷ more) turn turns spot (next ∷ under) ordered from fate shrinks standing leads bottom =
     let first = first_of_way form key (lower ∷ more) turns next under leads.3 in
     fallen_from form one two (upper ∷ lower ∷ more) turn spot next first.more ordered fate
     (ap (λ (level : List Part). level ∷ lower ∷ more) leads.0 ∙ ap (λ (rest : List (List Part)). level_of spot ∷ rest) first.is) standing leads.2
-    (subst (λ (l : List (List Part)). Falls form one l next two ordered fate) first.is
-    (falls key one (lower ∷ more) next under ordered (standing_below form one upper lower more standing) leads.3 bottom))
+    (subst (λ (l : List (List Part)). Shrinks form one l next two ordered fate) first.is
+    (shrinks key one (lower ∷ more) next under ordered (standing_below form one upper lower more standing) leads.3 bottom))
 
 -- with no turn the leaf is the root
 alone_falls : (form : TreeForm) (key : List ℕ) (one before : List (Option Sector)) (levels : List (List Part)) (spot : Spot) (below : List Spot) (ordered : List (List ℕ)) (from : Fate) → Leads form key levels [] spot below
-    → Falls form one (level_of (lowest spot below) ∷ []) (lowest spot below) before ordered from → Falls form one levels spot before ordered from
+    → Shrinks form one (level_of (lowest spot below) ∷ []) (lowest spot below) before ordered from → Shrinks form one levels spot before ordered from
 alone_falls form key one before [] spot below ordered from leads bottom = absurd leads
 alone_falls form key one before (leaves ∷ []) spot below ordered from leads bottom =
-    let at_it = subst (λ (b : List Spot). Falls form one (level_of (lowest spot b) ∷ []) (lowest spot b) before ordered from) leads.3 bottom in
-    subst (λ (level : List Part). Falls form one (level ∷ []) spot before ordered from) (sym leads.0) at_it
+    let at_it = subst (λ (b : List Spot). Shrinks form one (level_of (lowest spot b) ∷ []) (lowest spot b) before ordered from) leads.3 bottom in
+    subst (λ (level : List Part). Shrinks form one (level ∷ []) spot before ordered from) (sym leads.0) at_it
 alone_falls form key one before (upper ∷ lower ∷ more) spot below ordered from leads bottom = absurd leads
 
-pub falls_none : (form : TreeForm) (before : List (Option Sector)) (from : Fate) → FallsBy form [] before before from from
-falls_none form before from = λ key one levels spot below ordered standing leads bottom. alone_falls form key one before levels spot below ordered from leads bottom
+pub shrinks_none : (form : TreeForm) (before : List (Option Sector)) (from : Fate) → ShrinksBy form [] before before from from
+shrinks_none form before from = λ key one levels spot below ordered standing leads bottom. alone_falls form key one before levels spot below ordered from leads bottom
 
 -- Nothing is told: the page above stays.
-pub kept_on : (form : TreeForm) (two : List (Option Sector)) (turn : Turn) → FallsOn form turn two two Kept Kept
-kept_on form two turn = λ turns start from falls key one levels spot below ordered standing leads bottom.
-    let f = fallen form key one start two levels turn turns spot below ordered from Kept falls standing leads bottom in
-    subst (λ (l : List (List Part)). Falls form one l spot two ordered Kept) (sym f.is) (falls_same form one two spot f.next turn f.more ordered f.standing.joined f.standing.once f.turns f.below)
+pub kept_on : (form : TreeForm) (two : List (Option Sector)) (turn : Turn) → ShrinksOn form turn two two Kept Kept
+kept_on form two turn = λ turns start from shrinks key one levels spot below ordered standing leads bottom.
+    let f = shrunk form key one start two levels turn turns spot below ordered from Kept shrinks standing leads bottom in
+    subst (λ (l : List (List Part)). Shrinks form one l spot two ordered Kept) (sym f.is) (shrinks_same form one two spot f.next turn f.more ordered f.standing.joined f.standing.once f.turns f.below)
 
 -- What was read at a turn is the spot's part.
 record OwnRead (form : TreeForm) (pages : List (Option Sector)) (turn : Turn) (spot : Spot) (node : Node) : Type 0 where
@@ -111,27 +111,27 @@ fares_own form two three turn spot node rows up page same fares =
 pub renamed_on : (form : TreeForm) (two three : List (Option Sector)) (turn : Turn) (child : Child) (up : Fate) (node : Node) → ReadNode form two turn node
     → (CanStand two turn.page node → rest_of node.form (slice_index_or node.rows turn.place []) ≡ big_bytes 4 child.page
     → Fares node.form Inner two three turn.page node.rows (take turn.place node.rows ++ (row_of node.form (part_of child.page child.node.rows) ∷ drop (turn.place + 1) node.rows)) up)
-    → FallsOn form turn two three (Renamed child) up
-renamed_on form two three turn child up node read fares = λ turns start from falls key one levels spot below ordered standing leads bottom.
-    let f = fallen form key one start two levels turn turns spot below ordered from (Renamed child) falls standing leads bottom in
+    → ShrinksOn form turn two three (Renamed child) up
+renamed_on form two three turn child up node read fares = λ turns start from shrinks key one levels spot below ordered standing leads bottom.
+    let f = shrunk form key one start two levels turn turns spot below ordered from (Renamed child) shrinks standing leads bottom in
     let own = own_read form two turn spot node f.turns.page f.above read in
     let next_stands = part_stands form one f.next f.more f.standing.joined.2 in
     let here = turns_here form spot f.next turn f.turns f.standing.joined.1 in
     let rest : rest_of node.form (slice_index_or node.rows turn.place []) ≡ big_bytes 4 child.page =
     ap (λ (n : Node). rest_of n.form (slice_index_or n.rows turn.place [])) own.same ∙ ap (rest_of form) here.row ∙ row_names form one next_stands.kind f.next.part next_stands.stands ∙ ap (big_bytes 4) (sym f.below.0) in
-    subst (λ (l : List (List Part)). Falls form one l spot three ordered up) (sym f.is)
-    (falls_one form one two three spot f.next turn f.more (part_of child.page child.node.rows ∷ []) ordered up f.standing.joined f.standing.once f.turns f.below.1
+    subst (λ (l : List (List Part)). Shrinks form one l spot three ordered up) (sym f.is)
+    (shrinks_one form one two three spot f.next turn f.more (part_of child.page child.node.rows ∷ []) ordered up f.standing.joined f.standing.once f.turns f.below.1
     (fares_own form two three turn spot node (λ fm rows. take turn.place rows ++ (row_of fm (part_of child.page child.node.rows) ∷ drop (turn.place + 1) rows)) up f.turns.page own.same (fares own.can rest)))
 
 -- The page above loses the row of the child.
 pub gone_on : (form : TreeForm) (two three : List (Option Sector)) (turn : Turn) (up : Fate) (node : Node) → ReadNode form two turn node
     → (CanStand two turn.page node → Fares node.form Inner two three turn.page node.rows (take turn.place node.rows ++ drop (turn.place + 1) node.rows) up)
-    → FallsOn form turn two three Gone up
-gone_on form two three turn up node read fares = λ turns start from falls key one levels spot below ordered standing leads bottom.
-    let f = fallen form key one start two levels turn turns spot below ordered from Gone falls standing leads bottom in
+    → ShrinksOn form turn two three Gone up
+gone_on form two three turn up node read fares = λ turns start from shrinks key one levels spot below ordered standing leads bottom.
+    let f = shrunk form key one start two levels turn turns spot below ordered from Gone shrinks standing leads bottom in
     let own = own_read form two turn spot node f.turns.page f.above read in
-    subst (λ (l : List (List Part)). Falls form one l spot three ordered up) (sym f.is)
-    (falls_one form one two three spot f.next turn f.more [] ordered up f.standing.joined f.standing.once f.turns f.below
+    subst (λ (l : List (List Part)). Shrinks form one l spot three ordered up) (sym f.is)
+    (shrinks_one form one two three spot f.next turn f.more [] ordered up f.standing.joined f.standing.once f.turns f.below
     (fares_own form two three turn spot node (λ fm rows. take turn.place rows ++ drop (turn.place + 1) rows) up f.turns.page own.same (fares own.can)))
 
 -- The child and its neighbour, where one row is left for the child.
@@ -141,7 +141,7 @@ record LonePair (form : TreeForm) (two : List (Option Sector)) (turn : Turn) (sp
   pub some : (0 < n.left.page) × (0 < n.right.page)
 
 lone_pair : (form : TreeForm) (one two : List (Option Sector)) (levels : List (List Part)) (turn : Turn) (spot : Spot) (ordered : List (List ℕ)) (child : Child) (node : Node)
-    → (f : Fallen form one two levels turn spot ordered (Lone child)) → OwnRead form two turn spot node → LonePair form two turn spot f.next node child.page
+    → (f : Fallen form one two levels turn spot ordered (Underfull child)) → OwnRead form two turn spot node → LonePair form two turn spot f.next node child.page
 lone_pair form one two levels turn spot ordered child node f own =
     let stands = own.own in
     let n = neighbours form spot f.next turn f.turns f.standing.joined.1 stands.enough in
@@ -159,25 +159,25 @@ lone_pair form one two levels turn spot ordered child node f own =
     }
 
 -- The page above joins the child with its neighbour.
-abbrev pub Mends : TreeForm → List (Option Sector) → List (Option Sector) → Turn → Child → Node → Fate → Type 0
-Mends form before after turn child node up =
-    (left right : Part) → CanStand before turn.page node → IsPair form before turn.page node.rows turn.place child.page left right → Mended form before after turn.page node.rows turn.place child.node.rows left right up
+abbrev pub Rebalances : TreeForm → List (Option Sector) → List (Option Sector) → Turn → Child → Node → Fate → Type 0
+Rebalances form before after turn child node up =
+    (left right : Part) → CanStand before turn.page node → IsPair form before turn.page node.rows turn.place child.page left right → Rebalanced form before after turn.page node.rows turn.place child.node.rows left right up
 
-pub lone_on : (form : TreeForm) (two three : List (Option Sector)) (turn : Turn) (child : Child) (up : Fate) (node : Node) → ReadNode form two turn node → Mends form two three turn child node up → FallsOn form turn two three (Lone child) up
-lone_on form two three turn child up node read mends = λ turns start from falls key one levels spot below ordered standing leads bottom.
-    let f = fallen form key one start two levels turn turns spot below ordered from (Lone child) falls standing leads bottom in
+pub lone_on : (form : TreeForm) (two three : List (Option Sector)) (turn : Turn) (child : Child) (up : Fate) (node : Node) → ReadNode form two turn node → Rebalances form two three turn child node up → ShrinksOn form turn two three (Underfull child) up
+lone_on form two three turn child up node read rebalances = λ turns start from shrinks key one levels spot below ordered standing leads bottom.
+    let f = shrunk form key one start two levels turn turns spot below ordered from (Underfull child) shrinks standing leads bottom in
     let own = own_read form two turn spot node f.turns.page f.above read in
     let stands = own.own in
     let p = lone_pair form one two levels turn spot ordered child node f own in
-    let mended = subst (λ (page : ℕ). Mended form two three page spot.part.rows turn.place child.node.rows p.n.left p.n.right up) f.turns.page
-    (subst (λ (m : Node). Mended form two three turn.page m.rows turn.place child.node.rows p.n.left p.n.right up) own.same (mends p.n.left p.n.right own.can p.pair)) in
-    subst (λ (l : List (List Part)). Falls form one l spot three ordered up) (sym f.is)
-    (falls_mended form one two three spot f.next turn f.more child.node.rows ordered up p.n f.standing.joined f.standing.once f.turns stands.enough f.below.3 mended)
+    let rebalanced = subst (λ (page : ℕ). Rebalanced form two three page spot.part.rows turn.place child.node.rows p.n.left p.n.right up) f.turns.page
+    (subst (λ (m : Node). Rebalanced form two three turn.page m.rows turn.place child.node.rows p.n.left p.n.right up) own.same (rebalances p.n.left p.n.right own.can p.pair)) in
+    subst (λ (l : List (List Part)). Shrinks form one l spot three ordered up) (sym f.is)
+    (shrinks_rebalanced form one two three spot f.next turn f.more child.node.rows ordered up p.n f.standing.joined f.standing.once f.turns stands.enough f.below.3 rebalanced)
 
 -- Where there is a tree, no turn leads to a page that isn't of it.
-pub never_read : (form : TreeForm) (two : List (Option Sector)) (turn : Turn) (told : Fate) → ((kind : Kind) (part : Part) → part.page ≡ turn.page → Stands form two kind part → ⊥) → NeverFallsOn form turn two told
-never_read form two turn told none = λ turns start from falls key one levels spot below ordered standing leads bottom.
-    let f = fallen form key one start two levels turn turns spot below ordered from told falls standing leads bottom in
+pub never_read : (form : TreeForm) (two : List (Option Sector)) (turn : Turn) (told : Fate) → ((kind : Kind) (part : Part) → part.page ≡ turn.page → Stands form two kind part → ⊥) → NeverShrinksOn form turn two told
+never_read form two turn told none = λ turns start from shrinks key one levels spot below ordered standing leads bottom.
+    let f = shrunk form key one start two levels turn turns spot below ordered from told shrinks standing leads bottom in
     none Inner spot.part (sym f.turns.page) (All-head (Stands form two Inner) spot.part spot.after (all_right (Stands form two Inner) spot.before (spot.part ∷ spot.after) f.above))
 
 -- a page of a tree isn't page 0
@@ -204,28 +204,28 @@ leads_on form one two levels turn spot ordered told node f own = record {
 }
 
 pub never_led : (form : TreeForm) (two : List (Option Sector)) (turn : Turn) (told : Fate) (node : Node) → ReadNode form two turn node
-    → (node.kind ≡ Inner → turn.place < length node.rows → 0 < turn.page → IsIn two turn.page → ⊥) → NeverFallsOn form turn two told
-never_led form two turn told node read none = λ turns start from falls key one levels spot below ordered standing leads bottom.
-    let f = fallen form key one start two levels turn turns spot below ordered from told falls standing leads bottom in
+    → (node.kind ≡ Inner → turn.place < length node.rows → 0 < turn.page → IsIn two turn.page → ⊥) → NeverShrinksOn form turn two told
+never_led form two turn told node read none = λ turns start from shrinks key one levels spot below ordered standing leads bottom.
+    let f = shrunk form key one start two levels turn turns spot below ordered from told shrinks standing leads bottom in
     let on = leads_on form one two levels turn spot ordered told node f (own_read form two turn spot node f.turns.page f.above read) in
     none on.kind on.place on.some on.is_in
 
-pub never_mended : (form : TreeForm) (two : List (Option Sector)) (turn : Turn) (child : Child) (node : Node) → ReadNode form two turn node
+pub never_rebalanced : (form : TreeForm) (two : List (Option Sector)) (turn : Turn) (child : Child) (node : Node) → ReadNode form two turn node
     → ((left right : Part) → node.kind ≡ Inner → turn.place < length node.rows → 0 < turn.page → 0 < left.page → 0 < right.page → IsPair form two turn.page node.rows turn.place child.page left right → ⊥)
-    → NeverFallsOn form turn two (Lone child)
-never_mended form two turn child node read none = λ turns start from falls key one levels spot below ordered standing leads bottom.
-    let f = fallen form key one start two levels turn turns spot below ordered from (Lone child) falls standing leads bottom in
+    → NeverShrinksOn form turn two (Underfull child)
+never_rebalanced form two turn child node read none = λ turns start from shrinks key one levels spot below ordered standing leads bottom.
+    let f = shrunk form key one start two levels turn turns spot below ordered from (Underfull child) shrinks standing leads bottom in
     let own = own_read form two turn spot node f.turns.page f.above read in
-    let on = leads_on form one two levels turn spot ordered (Lone child) node f own in
+    let on = leads_on form one two levels turn spot ordered (Underfull child) node f own in
     let p = lone_pair form one two levels turn spot ordered child node f own in
     none p.n.left p.n.right on.kind on.place on.some p.some.0 p.some.1 p.pair
 
 -- nor does one further down
-pub never_below : (form : TreeForm) (start : List (Option Sector)) (turn : Turn) (turns : List Turn) (from : Fate) → NeverFalls form turns start from → NeverFalls form (turn ∷ turns) start from
+pub never_below : (form : TreeForm) (start : List (Option Sector)) (turn : Turn) (turns : List Turn) (from : Fate) → NeverShrinks form turns start from → NeverShrinks form (turn ∷ turns) start from
 never_below form start turn turns from never = λ key one levels spot below ordered standing leads bottom. never_on form key one start levels turn turns spot below ordered from never standing leads bottom
   where
     never_on : (form : TreeForm) (key : List ℕ) (one start : List (Option Sector)) (levels : List (List Part)) (turn : Turn) (turns : List Turn) (spot : Spot) (below : List Spot) (ordered : List (List ℕ)) (from : Fate)
-        → NeverFalls form turns start from → Standing form one levels → Leads form key levels (turn ∷ turns) spot below → Falls form one (level_of (lowest spot below) ∷ []) (lowest spot below) start ordered from → ⊥
+        → NeverShrinks form turns start from → Standing form one levels → Leads form key levels (turn ∷ turns) spot below → Shrinks form one (level_of (lowest spot below) ∷ []) (lowest spot below) start ordered from → ⊥
     never_on form key one start [] turn turns spot below ordered from never standing leads bottom = absurd leads
     never_on form key one start (leaves ∷ []) turn turns spot below ordered from never standing leads bottom = let clash : turn ∷ turns ≡ [] = leads.2 in omega (arith, ap length clash)
     never_on form key one start (upper ∷ lower ∷ more) turn turns spot [] ordered from never standing leads bottom = absurd leads

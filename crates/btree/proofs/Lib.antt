@@ -30,13 +30,13 @@ pub mod Revalued
 pub mod Refused
 pub mod Lessening
 pub mod Sharing
-pub mod Mending
+pub mod Rebalancing
 pub mod Pairing
-pub mod Falling
+pub mod Shrinking
 pub mod Pairs
-pub mod Mended
+pub mod Rebalanced
 pub mod Downward
-pub mod Giving
+pub mod Collapsing
 pub mod Removing
 pub mod Marking
 pub mod Walking

@@ -18,10 +18,10 @@ use Rattle.btree.specs.declared.fate.Fate.{Fate}
 use Rattle.btree.specs.Tree.{Part, row_of, node_at, Stands}
 use Rattle.btree.specs.Reading.{Untouched}
 use Rattle.btree.specs.Changes.{IsIn}
-use Rattle.btree.specs.Fates.{AreTwo, ArePair, Joins, IsPair, Mended, pair_of, rows_together}
+use Rattle.btree.specs.Fates.{AreTwo, ArePair, Joins, IsPair, Rebalanced, pair_of, rows_together}
 use Rattle.btree.proofs.Writes.{is_low}
 use Rattle.btree.proofs.Sharing.{inner_lengths}
-use Rattle.btree.proofs.Mending.{names_page}
+use Rattle.btree.proofs.Rebalancing.{names_page}
 
 pub same_catalog : (old new : PageMap) → Untouched old new → catalog_of new ≡ catalog_of old
 same_catalog old new untouched = ap (λ (m : Map). m.catalog) (untouched.map [])
@@ -101,11 +101,11 @@ other_near pages form node page place lone left right above some pair =
 pub rows_read : (form : TreeForm) (pages : List (Option Sector)) (page : ℕ) (node : Node) (part : Part) → page ≡ part.page → node_at form pages page ≡ Some node → Stands form pages Inner part → node.rows ≡ part.rows
 rows_read form pages page node part same read stands = let there = ap (node_at form pages) same ∙ stands.node in cc
 
--- What was joined is what was to be mended.
-pub mended_so : (form : TreeForm) (before now after : List (Option Sector)) (page place at : ℕ) (node : Node) (lone rows : List (List ℕ)) (left right : Part) (fate : Fate) → node.form ≡ form → now ≡ before
+-- What was joined is what was to be rebalanced.
+pub rebalanced_so : (form : TreeForm) (before now after : List (Option Sector)) (page place at : ℕ) (node : Node) (lone rows : List (List ℕ)) (left right : Part) (fate : Fate) → node.form ≡ form → now ≡ before
     → ArePair form before page node.rows at left right → pair_of place ≡ at → rows ≡ rows_together place lone left right
-    → (ArePair node.form now page node.rows at left right → Joins node.form now after page node.rows at rows left right fate) → Mended form before after page node.rows place lone left right fate
-mended_so form before now after page place at node lone rows left right fate form_is same are place_is rows_is join =
+    → (ArePair node.form now page node.rows at left right → Joins node.form now after page node.rows at rows left right fate) → Rebalanced form before after page node.rows place lone left right fate
+rebalanced_so form before now after page place at node lone rows left right fate form_is same are place_is rows_is join =
     let told : ArePair form before page node.rows at left right → Joins form before after page node.rows at rows left right fate =
     subst (λ (pages : List (Option Sector)). ArePair form pages page node.rows at left right → Joins form pages after page node.rows at rows left right fate) same
     (subst (λ (f : TreeForm). ArePair f now page node.rows at left right → Joins f now after page node.rows at rows left right fate) form_is join) in

@@ -16,7 +16,7 @@ use Rattle.btree.specs.Entries.{Entry, entry_of, entries_of, without}
 use Rattle.btree.specs.Rises.{part_of}
 use Rattle.btree.specs.Changes.{CanStand, Settled, Becomes}
 use Rattle.btree.specs.Fates.{Fares}
-use Rattle.btree.specs.Falls.{FallsBy, NeverFalls, SettlesLess, NeverSettles, Emptied, Falls}
+use Rattle.btree.specs.Shrinks.{ShrinksBy, NeverShrinks, SettlesShrunk, NeverSettles, Emptied, Shrinks}
 use Rattle.btree.specs.Removals.{Removes}
 use Rattle.btree.proofs.Order.{Up}
 use Rattle.btree.proofs.Splices.{rows_append}
@@ -28,7 +28,7 @@ use Rattle.btree.proofs.Settling.{tree_stands, first_of_way, some_first}
 use Rattle.btree.proofs.Frames.{tree_holds}
 use Rattle.btree.proofs.Searches.{FindsAt, FindsGap, leaf_among, got, got_none}
 use Rattle.btree.proofs.Entering.{end_stands, end_in, part_is}
-use Rattle.btree.proofs.Falling.{falls_leaf}
+use Rattle.btree.proofs.Shrinking.{shrinks_leaf}
 
 -- What the leaf at the end of a way loses: the row at a place, which has that key.
 pub record Loses (form : TreeForm) (key : List ℕ) (before one : List (Option Sector)) (part : Part) (place : ℕ) (out : Fate) : Type 0 where
@@ -40,10 +40,10 @@ pub record Loses (form : TreeForm) (key : List ℕ) (before one : List (Option S
 -- the levels of a tree, after the leaf lost it
 lost : (form : TreeForm) (key : List ℕ) (before one : List (Option Sector)) (root : ℕ) (levels : List (List Part)) (turns : List Turn) (top : Spot) (below : List Spot) (place : ℕ) (out : Fate) → IsTree form before root levels → Leads form key levels turns top below
     → Loses form key before one (lowest top below).part place out
-    → Falls form before (level_of (lowest top below) ∷ []) (lowest top below) one (rows_of (lowest top below).before ++ ((take place (lowest top below).part.rows ++ drop (place + 1) (lowest top below).part.rows) ++ rows_of (lowest top below).after)) out
+    → Shrinks form before (level_of (lowest top below) ∷ []) (lowest top below) one (rows_of (lowest top below).before ++ ((take place (lowest top below).part.rows ++ drop (place + 1) (lowest top below).part.rows) ++ rows_of (lowest top below).after)) out
 lost form key before one root levels turns top below place out tree leads loses =
     let end = standing_leaves form key before levels turns top below leads (tree_stands form before root levels tree) in
-    falls_leaf form before one (lowest top below) (take place (lowest top below).part.rows ++ drop (place + 1) (lowest top below).part.rows) out end.0.joined end.0.once loses.fares
+    shrinks_leaf form before one (lowest top below) (take place (lowest top below).part.rows ++ drop (place + 1) (lowest top below).part.rows) out end.0.joined end.0.once loses.fares
 
 -- the rows around the one that goes
 rows_around_gap : (before after rows : List (List ℕ)) (place : ℕ) → before ++ ((take place rows ++ drop (place + 1) rows) ++ after) ≡ (before ++ take place rows) ++ (drop (place + 1) rows ++ after)
@@ -81,8 +81,8 @@ left_of form before after root new levels left right ordered row tree old_rows n
 -- All together: the leaf lost a row, the levels fell, and the root is settled.
 tree_lessened : (form : TreeForm) (before one two after : List (Option Sector)) (root new : ℕ) (levels : List (List Part)) (turns : List Turn) (top : Spot) (below : List Spot) (place : ℕ) (key : List ℕ) (out fate : Fate)
     → IsTree form before root levels → Leads form key levels turns top below → Loses form key before one (lowest top below).part place out
-    → FallsBy form turns one two out fate → SettlesLess form root fate two after new → Becomes form before levels after new (without (entries_of form levels) key)
-tree_lessened form before one two after root new levels turns top below place key out fate tree leads loses falls settles =
+    → ShrinksBy form turns one two out fate → SettlesShrunk form root fate two after new → Becomes form before levels after new (without (entries_of form levels) key)
+tree_lessened form before one two after root new levels turns top below place key out fate tree leads loses shrinks settles =
     let leaf = lowest top below in
     let rows = leaf.part.rows in
     let standing = tree_stands form before root levels tree in
@@ -92,7 +92,7 @@ tree_lessened form before one two after root new levels turns top below place ke
     let right = drop (place + 1) rows ++ rows_of leaf.after in
     let ordered = rows_of leaf.before ++ ((take place rows ++ drop (place + 1) rows) ++ rows_of leaf.after) in
     let first = first_of_way form key levels turns top below leads in
-    let settled = settles before levels top first.more ordered first.is tree.top standing (falls key before levels top below ordered standing leads (lost form key before one root levels turns top below place out tree leads loses)) in
+    let settled = settles before levels top first.more ordered first.is tree.top standing (shrinks key before levels top below ordered standing leads (lost form key before one root levels turns top below place out tree leads loses)) in
     let whole = ap rows_of end.1 ∙ rows_append leaf.before (leaf.part ∷ leaf.after) in
     let first_row = some_first rows (some_row form before stands.kind leaf.part stands.stands) in
     let lower : AllBelow form key left =
@@ -130,19 +130,19 @@ loses_at form key before one root levels turns page node right place out tree en
 -- a tree whose leaf at the end of a way had the key
 pub went : (form : TreeForm) (before one two after : List (Option Sector)) (root new : ℕ) (levels : List (List Part)) (turns : List Turn) (page : ℕ) (node : Node) (right : Option (List ℕ)) (place : ℕ) (key : List ℕ) (out fate : Fate)
     → IsTree form before root levels → EndsAt form key levels turns page node.rows right → TakenOut form key before one page node place out
-    → FallsBy form turns one two out fate → SettlesLess form root fate two after new → Removes form before levels after key (Some new)
-went form before one two after root new levels turns page node right place key out fate tree ends t falls settles =
+    → ShrinksBy form turns one two out fate → SettlesShrunk form root fate two after new → Removes form before levels after key (Some new)
+went form before one two after root new levels turns page node right place key out fate tree ends t shrinks settles =
     let leaf = leaf_among form before root key levels turns page node.rows right tree ends in
     let here = subst (λ (f : TreeForm). key_of f (slice_index_or node.rows place []) ≡ key) t.form_is t.here in
     let finds = subst (λ (f : TreeForm). FindsAt f key node.rows place) t.form_is t.finds in (
       subst (λ (o : Option Entry). IsSome o) (got form key levels node.rows right place leaf t.low here finds) refl,
       tree_lessened form before one two after root new levels turns ends.reaches.top ends.reaches.below place key out fate tree ends.reaches.leads
-          (loses_at form key before one root levels turns page node right place out tree ends t) falls settles,
+          (loses_at form key before one root levels turns page node right place out tree ends t) shrinks settles,
     )
 
--- Where there is a tree, its levels fall, and its root is settled.
+-- Where there is a tree, its levels shrink, and its root is settled.
 pub never_went : (form : TreeForm) (before one : List (Option Sector)) (root : ℕ) (levels : List (List Part)) (turns : List Turn) (page : ℕ) (node : Node) (right : Option (List ℕ)) (place : ℕ) (key : List ℕ) (out : Fate)
-    → IsTree form before root levels → EndsAt form key levels turns page node.rows right → TakenOut form key before one page node place out → NeverFalls form turns one out → ⊥
+    → IsTree form before root levels → EndsAt form key levels turns page node.rows right → TakenOut form key before one page node place out → NeverShrinks form turns one out → ⊥
 never_went form before one root levels turns page node right place key out tree ends t never =
     let leaf = lowest ends.reaches.top ends.reaches.below in
     let rows = leaf.part.rows in
@@ -150,8 +150,8 @@ never_went form before one root levels turns page node right place key out tree 
     (lost form key before one root levels turns ends.reaches.top ends.reaches.below place out tree ends.reaches.leads (loses_at form key before one root levels turns page node right place out tree ends t))
 
 pub never_left : (form : TreeForm) (before one two : List (Option Sector)) (root : ℕ) (levels : List (List Part)) (turns : List Turn) (page : ℕ) (node : Node) (right : Option (List ℕ)) (place : ℕ) (key : List ℕ) (out fate : Fate)
-    → IsTree form before root levels → EndsAt form key levels turns page node.rows right → TakenOut form key before one page node place out → FallsBy form turns one two out fate → NeverSettles form root fate two → ⊥
-never_left form before one two root levels turns page node right place key out fate tree ends t falls never =
+    → IsTree form before root levels → EndsAt form key levels turns page node.rows right → TakenOut form key before one page node place out → ShrinksBy form turns one two out fate → NeverSettles form root fate two → ⊥
+never_left form before one two root levels turns page node right place key out fate tree ends t shrinks never =
     let top = ends.reaches.top in
     let leaf = lowest top ends.reaches.below in
     let rows = leaf.part.rows in
@@ -159,7 +159,7 @@ never_left form before one two root levels turns page node right place key out f
     let standing = tree_stands form before root levels tree in
     let first = first_of_way form key levels turns top ends.reaches.below ends.reaches.leads in
     never before levels top first.more ordered first.is tree.top standing
-    (falls key before levels top ends.reaches.below ordered standing ends.reaches.leads
+    (shrinks key before levels top ends.reaches.below ordered standing ends.reaches.leads
     (lost form key before one root levels turns top ends.reaches.below place out tree ends.reaches.leads (loses_at form key before one root levels turns page node right place out tree ends t)))
 
 -- where the key isn't there
@@ -169,5 +169,5 @@ not_there form before after root levels turns page rows right place key tree end
     sym (got_none form key levels rows right place (leaf_among form before root key levels turns page rows right tree ends) low finds)
 
 -- how many pages are touched, where there are at most twenty levels
-pub few_touched : (old read taken fallen left out fate path turns levels : ℕ) → read ≡ old → taken + out ≤ read + 1 → fallen + fate ≤ taken + out + 2 * path → left ≤ fallen + fate → path ≡ turns → turns + 1 ≡ levels → levels ≤ 20 → left ≤ old + 42
-few_touched old read taken fallen left out fate path turns levels same one more all is count few = omega arith
+pub few_touched : (old read taken shrunk left out fate path turns levels : ℕ) → read ≡ old → taken + out ≤ read + 1 → shrunk + fate ≤ taken + out + 2 * path → left ≤ shrunk + fate → path ≡ turns → turns + 1 ≡ levels → levels ≤ 20 → left ≤ old + 42
+few_touched old read taken shrunk left out fate path turns levels same one more all is count few = omega arith

@@ -7,7 +7,7 @@ use Rattle.tree_pages.specs.declared.form.Kind.{Kind}
 use Rattle.tree_pages.specs.declared.form.Kind.TheVariants.{Inner}
 use Rattle.tree_pages.specs.Form.{row_length}
 use Rattle.btree.specs.declared.fate.Fate.{Fate}
-use Rattle.btree.specs.declared.fate.Fate.TheVariants.{Kept, Renamed, Gone, Lone}
+use Rattle.btree.specs.declared.fate.Fate.TheVariants.{Kept, Renamed, Gone, Underfull}
 use Rattle.btree.specs.declared.grown.Grown.{Grown}
 use Rattle.btree.specs.Tree.{Part, least, row_of, rows_of, node_of, Stands}
 use Rattle.btree.specs.Moves.{Replaced}
@@ -21,21 +21,21 @@ Fares form kind before after page old rows Kept =
 Fares form kind before after page old rows (Renamed child) =
     Replaced form kind before (part_of page old ∷ []) after (part_of page rows ∷ []) × (child.page ≡ page) × (child.node ≡ node_of form kind rows)
 Fares form kind before after page old rows Gone = Replaced form kind before (part_of page old ∷ []) after [] × (rows ≡ [])
-Fares form kind before after page old rows (Lone child) = (after ≡ before) × (kind ≡ Inner) × (child.page ≡ page) × (child.node ≡ node_of form kind rows) × (length rows ≡ 1)
+Fares form kind before after page old rows (Underfull child) = (after ≡ before) × (kind ≡ Inner) × (child.page ≡ page) × (child.node ≡ node_of form kind rows) × (length rows ≡ 1)
 
 -- what the page above needs of it
 abbrev pub Fits : TreeForm → Fate → Type 0
 Fits form Kept = ⊤
 Fits form (Renamed child) = (child.node.form ≡ form) × (0 < length child.node.rows)
 Fits form Gone = ⊤
-Fits form (Lone child) = (child.node.form ≡ form) × (child.node.kind ≡ Inner) × (length child.node.rows ≡ 1)
+Fits form (Underfull child) = (child.node.form ≡ form) × (child.node.kind ≡ Inner) × (length child.node.rows ≡ 1)
 
 -- a page that wasn't written may be changed yet
 abbrev pub spare : Fate → ℕ
 spare Kept = 0
 spare (Renamed child) = 0
 spare Gone = 0
-spare (Lone child) = 1
+spare (Underfull child) = 1
 
 -- the left one of the two places of a child and its neighbour: the left one, if it has one
 abbrev pub pair_of : ℕ → ℕ
@@ -61,7 +61,7 @@ pub record IsPair (form : TreeForm) (before : List (Option Sector)) (page : ℕ)
   pub either : (place ≡ 0) × (left.page ≡ child) × Stands form before Inner right ⊎ (place ≢ 0) × (right.page ≡ child) × Stands form before Inner left
 
 -- What the two neighbours became, and the page above them.
-pub record Mended (form : TreeForm) (before after : List (Option Sector)) (page : ℕ) (old : List (List ℕ)) (place : ℕ) (lone : List (List ℕ)) (left right : Part) (fate : Fate) : Type 0 where
+pub record Rebalanced (form : TreeForm) (before after : List (Option Sector)) (page : ℕ) (old : List (List ℕ)) (place : ℕ) (lone : List (List ℕ)) (left right : Part) (fate : Fate) : Type 0 where
   pub mid : List (Option Sector)
   pub run : List Part
   pub pair : Replaced form Inner before (left ∷ right ∷ []) mid run

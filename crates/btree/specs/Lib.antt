@@ -10,6 +10,6 @@ pub mod Nodes
 pub mod Rises
 pub mod Changes
 pub mod Fates
-pub mod Falls
+pub mod Shrinks
 pub mod Removals
 pub mod Walks

@@ -18,5 +18,5 @@ pub(crate) enum Fate {
     /// No row was left, and it was released.
     Gone,
     /// One row is left for an inner page, which is too few. Nothing was written, so that its page is as it was.
-    Lone(Child),
+    Underfull(Child),
 }

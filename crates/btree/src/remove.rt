@@ -9,14 +9,14 @@ ghost use Rattle.btree.specs.Entries.{entries_of, entry_with};
 ghost use Rattle.btree.specs.Reading.{Untouched};
 ghost use Rattle.btree.specs.Changes.{pages_of_map, IsIn, Keeps};
 ghost use Rattle.btree.specs.Fates.{spare};
-ghost use Rattle.btree.specs.Falls.{GaveWay, SettlesLess, NeverSettles, GivesWay};
+ghost use Rattle.btree.specs.Shrinks.{Collapsed, SettlesShrunk, NeverSettles, Collapses};
 ghost use Rattle.btree.specs.Removals.{Removes};
 ghost use Rattle.btree.specs.Refusals.{IsRestRefusal, IsChangeRefusal};
 
 use crate::descend::descend;
-use crate::fall::fall;
 use crate::fate::{Child, Fate};
-use crate::put_less::{is_page, take_out};
+use crate::shrink::shrink;
+use crate::shrink_page::{is_page, take_out};
 use crate::tree::Tree;
 use pages::{PageMap, PagesError};
 use station::Device;
@@ -24,10 +24,10 @@ use std::alloc::Global;
 use tree_pages::{Kind, TreeForm};
 
 /// An inner page with one row gives way to the child that it names.
-fn give_way(pages: &mut PageMap, lone: Child) -> Result<u32, PagesError>
+fn collapse_root(pages: &mut PageMap, lone: Child) -> Result<u32, PagesError>
     requires open { IsOpen pages.old }
     requires lone { (lone.node.kind ≡ Kind.Inner) × (length lone.node.rows ≡ 1) }
-    ensures gives { IfOk result (λ new. (image : List Sector) → GaveWay (pages_of_map pages.old image) (pages_of_map pages.new image) lone new) }
+    ensures gives { IfOk result (λ new. (image : List Sector) → Collapsed (pages_of_map pages.old image) (pages_of_map pages.new image) lone new) }
     ensures touched { OnOk result (length (touched_of pages.new) ≤ length (touched_of pages.old) + 1) }
     ensures keeps { Keeps pages.old pages.new }
     ensures open { IsOpen pages.new }
@@ -43,10 +43,10 @@ fn give_way(pages: &mut PageMap, lone: Child) -> Result<u32, PagesError>
 }
 
 /// The page of the root, after what became of the one there was: 0 where it is gone.
-fn settle_less(pages: &mut PageMap, root: u32, fate: Fate) -> Result<u32, PagesError>
+fn settle_shrunk(pages: &mut PageMap, root: u32, fate: Fate) -> Result<u32, PagesError>
     requires open { IsOpen pages.old }
-    requires one { GivesWay fate }
-    ensures settles { IfOk result (λ new. (image : List Sector) (form : TreeForm) → SettlesLess form root fate (pages_of_map pages.old image) (pages_of_map pages.new image) new) }
+    requires one { Collapses fate }
+    ensures settles { IfOk result (λ new. (image : List Sector) (form : TreeForm) → SettlesShrunk form root fate (pages_of_map pages.old image) (pages_of_map pages.new image) new) }
     ensures touched { OnOk result (length (touched_of pages.new) ≤ length (touched_of pages.old) + spare fate) }
     ensures keeps { Keeps pages.old pages.new }
     ensures open { IsOpen pages.new }
@@ -58,7 +58,7 @@ fn settle_less(pages: &mut PageMap, root: u32, fate: Fate) -> Result<u32, PagesE
         Fate::Kept => Ok(root),
         Fate::Renamed(_child) => Ok(root),
         Fate::Gone => Ok(0),
-        Fate::Lone(child) => give_way(pages, child),
+        Fate::Underfull(child) => collapse_root(pages, child),
     }
 }
 
@@ -109,8 +109,8 @@ fn remove_entry<D: Device>(
         return Err(PagesError::Damaged);
     }
     let out = take_out(pages, descent.page, descent.leaf, place)?;
-    let fate = fall(pages, device, form, descent.path.as_slice(), out)?;
-    let new = settle_less(pages, root, fate)?;
+    let fate = shrink(pages, device, form, descent.path.as_slice(), out)?;
+    let new = settle_shrunk(pages, root, fate)?;
     Ok(Some(new))
 }
 

@@ -10,7 +10,7 @@ use Rattle.tree_pages.specs.declared.form.Kind.TheVariants.{Leaf}
 use Rattle.btree.specs.Path.{Turn}
 use Rattle.btree.specs.Changes.{pages_of_map, IsIn, CanStand}
 use Rattle.btree.specs.Fates.{Fares, spare}
-use Rattle.btree.specs.Falls.{FallsBy, NeverFalls}
+use Rattle.btree.specs.Shrinks.{ShrinksBy, NeverShrinks}
 use Rattle.btree.proofs.Frames.{holds_tree, false_unless, ok_or_err}
 use Rattle.btree.proofs.Parts.{few_pages}
 use Rattle.btree.proofs.Depth.{few_levels}
@@ -52,13 +52,13 @@ pub returns-in_err-out-clause-catalog : goal.returns-in_err-out-clause-catalog
 returns-in_err-out-clause-catalog g c = c.take_out.ensures.keeps.catalog ∙ ap (λ (m : Map). m.catalog) (c.descend.ensures.untouched.map [])
 
 pub returns-in_err-fate-clause-catalog : goal.returns-in_err-fate-clause-catalog
-returns-in_err-fate-clause-catalog g c = c.fall.ensures.catalog ∙ c.take_out.ensures.keeps.catalog ∙ ap (λ (m : Map). m.catalog) (c.descend.ensures.untouched.map [])
+returns-in_err-fate-clause-catalog g c = c.shrink.ensures.catalog ∙ c.take_out.ensures.keeps.catalog ∙ ap (λ (m : Map). m.catalog) (c.descend.ensures.untouched.map [])
 
 pub returns-in_err-new-clause-catalog : goal.returns-in_err-new-clause-catalog
-returns-in_err-new-clause-catalog g c = c.settle_less.ensures.keeps.catalog ∙ c.fall.ensures.catalog ∙ c.take_out.ensures.keeps.catalog ∙ ap (λ (m : Map). m.catalog) (c.descend.ensures.untouched.map [])
+returns-in_err-new-clause-catalog g c = c.settle_shrunk.ensures.keeps.catalog ∙ c.shrink.ensures.catalog ∙ c.take_out.ensures.keeps.catalog ∙ ap (λ (m : Map). m.catalog) (c.descend.ensures.untouched.map [])
 
 pub returns-clause-catalog : goal.returns-clause-catalog
-returns-clause-catalog g c = c.settle_less.ensures.keeps.catalog ∙ c.fall.ensures.catalog ∙ c.take_out.ensures.keeps.catalog ∙ ap (λ (m : Map). m.catalog) (c.descend.ensures.untouched.map [])
+returns-clause-catalog g c = c.settle_shrunk.ensures.keeps.catalog ∙ c.shrink.ensures.catalog ∙ c.take_out.ensures.keeps.catalog ∙ ap (λ (m : Map). m.catalog) (c.descend.ensures.untouched.map [])
 
 pub returns-in_err-fate-clause-damaged : goal.returns-in_err-fate-clause-damaged
 returns-in_err-fate-clause-damaged g c = λ honest agrees is levels holds.
@@ -81,8 +81,8 @@ returns-in_err-fate-clause-damaged g c = λ honest agrees is levels holds.
     let told = rw is at c.from_residual-in_err-fate.ensures.1 in
     let disk = (g.D.Device.state c.descend.new.device).disk in
     let raw = c.in_err-fate.ensures.damaged (c.descend.ensures.honest.0 honest) (c.take_out.ensures.keeps.agrees disk (c.descend.ensures.agrees honest agrees)) (cc told) in
-    let never = subst (λ (path : List Turn). NeverFalls c.args.form path one out) c.as_slice.ensures
-    (subst (λ (s : State). NeverFalls c.args.form c.as_slice.result.now (pages_of_map c.take_out.new.pages s.disk.present) out) (c.descend.ensures.state honest) raw) in
+    let never = subst (λ (path : List Turn). NeverShrinks c.args.form path one out) c.as_slice.ensures
+    (subst (λ (s : State). NeverShrinks c.args.form c.as_slice.result.now (pages_of_map c.take_out.new.pages s.disk.present) out) (c.descend.ensures.state honest) raw) in
     never_went c.args.form before one c.args.root levels d.path.items d.page d.leaf d.right place c.args.key.now out tree (c.in_ok-descent.ensures.way honest agrees levels tree) taken never
 
 pub returns-in_err-new-clause-damaged : goal.returns-in_err-new-clause-damaged
@@ -90,7 +90,7 @@ returns-in_err-new-clause-damaged g c = λ honest agrees is levels holds.
     let image = (g.D.Device.state c.args.device.now).disk.present in
     let before = pages_of_map c.args.pages.now image in
     let one = pages_of_map c.take_out.new.pages image in
-    let two = pages_of_map c.fall.new.pages image in
+    let two = pages_of_map c.shrink.new.pages image in
     let d = c.in_ok-descent.descent in
     let out = c.in_ok-out.out in
     let fate = c.in_ok-fate.fate in
@@ -107,10 +107,10 @@ returns-in_err-new-clause-damaged g c = λ honest agrees is levels holds.
     } in
     let told = rw is at c.from_residual-in_err-new.ensures.1 in
     let disk = (g.D.Device.state c.descend.new.device).disk in
-    let raw = c.in_ok-fate.ensures.falls (c.descend.ensures.honest.0 honest) (c.take_out.ensures.keeps.agrees disk (c.descend.ensures.agrees honest agrees)) in
-    let falls = subst (λ (path : List Turn). FallsBy c.args.form path one two out fate) c.as_slice.ensures
-    (subst (λ (s : State). FallsBy c.args.form c.as_slice.result.now (pages_of_map c.take_out.new.pages s.disk.present) (pages_of_map c.fall.new.pages s.disk.present) out fate) (c.descend.ensures.state honest) raw) in
-    never_left c.args.form before one two c.args.root levels d.path.items d.page d.leaf d.right place c.args.key.now out fate tree (c.in_ok-descent.ensures.way honest agrees levels tree) taken falls
+    let raw = c.in_ok-fate.ensures.shrinks (c.descend.ensures.honest.0 honest) (c.take_out.ensures.keeps.agrees disk (c.descend.ensures.agrees honest agrees)) in
+    let shrinks = subst (λ (path : List Turn). ShrinksBy c.args.form path one two out fate) c.as_slice.ensures
+    (subst (λ (s : State). ShrinksBy c.args.form c.as_slice.result.now (pages_of_map c.take_out.new.pages s.disk.present) (pages_of_map c.shrink.new.pages s.disk.present) out fate) (c.descend.ensures.state honest) raw) in
+    never_left c.args.form before one two c.args.root levels d.path.items d.page d.leaf d.right place c.args.key.now out fate tree (c.in_ok-descent.ensures.way honest agrees levels tree) taken shrinks
     (c.in_err-new.ensures.damaged (cc told) image c.args.form)
 
 pub returns-clause-removed : goal.returns-clause-removed
@@ -118,8 +118,8 @@ returns-clause-removed g c = λ honest agrees levels holds.
     let image = (g.D.Device.state c.args.device.now).disk.present in
     let before = pages_of_map c.args.pages.now image in
     let one = pages_of_map c.take_out.new.pages image in
-    let two = pages_of_map c.fall.new.pages image in
-    let after = pages_of_map c.settle_less.new.pages image in
+    let two = pages_of_map c.shrink.new.pages image in
+    let after = pages_of_map c.settle_shrunk.new.pages image in
     let d = c.in_ok-descent.descent in
     let out = c.in_ok-out.out in
     let fate = c.in_ok-fate.fate in
@@ -135,10 +135,10 @@ returns-clause-removed g c = λ honest agrees levels holds.
       fares = subst (λ (pages : List (Option Sector)). CanStand pages d.page d.leaf → Fares d.leaf.form Leaf pages one d.page d.leaf.rows (take place d.leaf.rows ++ drop (place + 1) d.leaf.rows) out) same (c.in_ok-out.ensures.pages image);
     } in
     let disk = (g.D.Device.state c.descend.new.device).disk in
-    let raw = c.in_ok-fate.ensures.falls (c.descend.ensures.honest.0 honest) (c.take_out.ensures.keeps.agrees disk (c.descend.ensures.agrees honest agrees)) in
-    let falls = subst (λ (path : List Turn). FallsBy c.args.form path one two out fate) c.as_slice.ensures
-    (subst (λ (s : State). FallsBy c.args.form c.as_slice.result.now (pages_of_map c.take_out.new.pages s.disk.present) (pages_of_map c.fall.new.pages s.disk.present) out fate) (c.descend.ensures.state honest) raw) in
-    went c.args.form before one two after c.args.root c.in_ok-new.new levels d.path.items d.page d.leaf d.right place c.args.key.now out fate tree (c.in_ok-descent.ensures.way honest agrees levels tree) taken falls
+    let raw = c.in_ok-fate.ensures.shrinks (c.descend.ensures.honest.0 honest) (c.take_out.ensures.keeps.agrees disk (c.descend.ensures.agrees honest agrees)) in
+    let shrinks = subst (λ (path : List Turn). ShrinksBy c.args.form path one two out fate) c.as_slice.ensures
+    (subst (λ (s : State). ShrinksBy c.args.form c.as_slice.result.now (pages_of_map c.take_out.new.pages s.disk.present) (pages_of_map c.shrink.new.pages s.disk.present) out fate) (c.descend.ensures.state honest) raw) in
+    went c.args.form before one two after c.args.root c.in_ok-new.new levels d.path.items d.page d.leaf d.right place c.args.key.now out fate tree (c.in_ok-descent.ensures.way honest agrees levels tree) taken shrinks
     (c.in_ok-new.ensures.settles image c.args.form)
 
 pub returns-clause-touched : goal.returns-clause-touched
@@ -151,7 +151,7 @@ returns-clause-touched g c = λ honest agrees levels holds.
     let unspent : is_spent c.args.pages.now ≡ false = false_unless (is_spent c.args.pages.now) (λ spent. ok_or_err d Spent (sym c.in_ok-descent.was ∙ c.descend.ensures.spent.1 spent)) in
     let small = few_pages before (page_count c.args.pages.now) c.page_count-page_count.result (c.page_count-page_count.ensures.pages image) c.page_count-page_count.ensures.count (c.page_count-page_count.ensures.few c.requires.open unspent) in
     let few : length levels ≤ 20 = few_levels c.args.form before c.args.root levels small tree in
-    few_touched (length (touched_of c.args.pages.now)) (length (touched_of c.descend.new.pages)) (length (touched_of c.take_out.new.pages)) (length (touched_of c.fall.new.pages)) (length (touched_of c.settle_less.new.pages))
+    few_touched (length (touched_of c.args.pages.now)) (length (touched_of c.descend.new.pages)) (length (touched_of c.take_out.new.pages)) (length (touched_of c.shrink.new.pages)) (length (touched_of c.settle_shrunk.new.pages))
     (spare c.in_ok-out.out) (spare c.in_ok-fate.fate) (length c.as_slice.result.now) (length d.path.items) (length levels)
     (ap length c.descend.ensures.untouched.touched) c.in_ok-out.ensures.touched c.in_ok-fate.ensures.touched c.in_ok-new.ensures.touched
     (ap length c.as_slice.ensures) (turns_count c.args.form c.args.key.now levels d.path.items ends.reaches.top ends.reaches.below ends.reaches.leads) few

@@ -1,0 +1,72 @@
+use Rattle.std.proofs.Common.{List, length, sym, subst}
+use Rattle.std.proofs.lemmas.List.{nil_from_length}
+use Rattle.std.proofs.lemmas.Result.{IfOk-weaker}
+use Rattle.station.specs.State.{State}
+use Rattle.pages.specs.Pages.{touched_of}
+use Rattle.btree.specs.declared.fate.Fate.{Fate}
+use Rattle.btree.specs.declared.fate.Fate.TheVariants.{Kept}
+use Rattle.btree.specs.Path.{Turn}
+use Rattle.btree.specs.Changes.{pages_of_map}
+use Rattle.btree.specs.Fates.{spare}
+use Rattle.btree.specs.Shrinks.{ShrinksBy, NeverShrinks, ShrinksOn, NeverShrinksOn}
+use Rattle.btree.proofs.Downward.{shrinks_none, kept_on, never_below, touched_on}
+use Rattle.btree.proofs.shrink.+shrink.Goals as goal
+
+pub returns-in-None-clause-shrinks : goal.returns-in-None-clause-shrinks
+returns-in-None-clause-shrinks g t c = λ honest agrees.
+    let now = pages_of_map c.args.pages.now (g.D.Device.state c.args.device.now).disk.present in
+    subst (λ (path : List Turn). ShrinksBy c.args.form path now now c.args.fate c.args.fate) (sym (nil_from_length c.args.path.now c.in-None.ensures.cases)) (shrinks_none c.args.form now c.args.fate)
+
+pub returns-in_err-below-clause-damaged : goal.returns-in_err-below-clause-damaged
+returns-in_err-below-clause-damaged g t c = λ honest agrees is.
+    let before = pages_of_map c.args.pages.now (g.D.Device.state c.args.device.now).disk.present in
+    let told = rw is at c.from_residual.ensures.1 in
+    subst (λ (path : List Turn). NeverShrinks c.args.form path before c.args.fate) (sym c.in-Some.ensures.cases.0)
+    (never_below c.args.form before c.in-Some.pair.0.now c.in-Some.pair.1.now c.args.fate (c.in_err-below.ensures.damaged honest agrees (cc told)))
+
+pub returns-in-Kept-clause-shrinks : goal.returns-in-Kept-clause-shrinks
+returns-in-Kept-clause-shrinks g t c = λ honest agrees.
+    let image = (g.D.Device.state c.args.device.now).disk.present in
+    let before = pages_of_map c.args.pages.now image in
+    let two = pages_of_map c.shrink.new.pages image in
+    let turn = c.in-Some.pair.0.now in
+    let rest = c.in-Some.pair.1.now in
+    let below = subst (λ (fate : Fate). ShrinksBy c.args.form rest before two c.args.fate fate) c.in-Kept.is (c.in_ok-below.ensures.shrinks honest agrees) in
+    subst (λ (path : List Turn). ShrinksBy c.args.form path before two c.args.fate Kept) (sym c.in-Some.ensures.cases.0) (kept_on c.args.form two turn rest before c.args.fate below)
+
+pub returns-in_default-clause-shrinks : goal.returns-in_default-clause-shrinks
+returns-in_default-clause-shrinks g t c = λ honest agrees.
+    let image = (g.D.Device.state c.args.device.now).disk.present in
+    let before = pages_of_map c.args.pages.now image in
+    let three = pages_of_map c.shrink_at.new.pages image in
+    let turn = c.in-Some.pair.0.now in
+    let rest = c.in-Some.pair.1.now in
+    let told = c.in_ok-below.below in
+    let below = c.in_ok-below.ensures.shrinks honest agrees in
+    IfOk-weaker c.shrink_at.result _ _
+    (λ up shrinks.
+    let on = subst (λ (s : State). ShrinksOn c.args.form turn (pages_of_map c.shrink.new.pages s.disk.present) (pages_of_map c.shrink_at.new.pages s.disk.present) told up) (c.shrink.ensures.state honest) shrinks in
+    subst (λ (path : List Turn). ShrinksBy c.args.form path before three c.args.fate up) (sym c.in-Some.ensures.cases.0) (on rest before c.args.fate below))
+    (c.shrink_at.ensures.shrinks (c.shrink.ensures.honest.0 honest) (c.shrink.ensures.agrees honest agrees))
+
+pub returns-in_default-clause-damaged : goal.returns-in_default-clause-damaged
+returns-in_default-clause-damaged g t c = λ honest agrees is.
+    let image = (g.D.Device.state c.args.device.now).disk.present in
+    let before = pages_of_map c.args.pages.now image in
+    let turn = c.in-Some.pair.0.now in
+    let rest = c.in-Some.pair.1.now in
+    let told = c.in_ok-below.below in
+    let below = c.in_ok-below.ensures.shrinks honest agrees in
+    let never = subst (λ (s : State). NeverShrinksOn c.args.form turn (pages_of_map c.shrink.new.pages s.disk.present) told) (c.shrink.ensures.state honest)
+    (c.shrink_at.ensures.damaged (c.shrink.ensures.honest.0 honest) (c.shrink.ensures.agrees honest agrees) is) in
+    subst (λ (path : List Turn). NeverShrinks c.args.form path before c.args.fate) (sym c.in-Some.ensures.cases.0) (never rest before c.args.fate below)
+
+pub returns-in_default-clause-touched : goal.returns-in_default-clause-touched
+returns-in_default-clause-touched g t c =
+    let told = c.in_ok-below.below in
+    let one = c.in_ok-below.ensures.touched in
+    IfOk-weaker c.shrink_at.result _ _
+    (λ up more.
+    touched_on (length (touched_of c.args.pages.now)) (length (touched_of c.shrink.new.pages)) (length (touched_of c.shrink_at.new.pages)) (spare c.args.fate) (spare told) (spare up)
+    c.in-Some.pair.0.now c.args.path.now c.in-Some.pair.1.now c.in-Some.ensures.cases.0 one more)
+    c.shrink_at.ensures.touched

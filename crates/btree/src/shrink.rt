@@ -1,0 +1,98 @@
+//! A removal goes up from a leaf, along the way that led down to it.
+ghost use Rattle.std.specs.Prelude.{true, ◌≡◌, ◌≤◌, ◌+◌, ◌*◌, ◌↔◌, Err, length, IfOk, IfErr};
+ghost use Rattle.station.specs.Failures.{Blames};
+ghost use Rattle.pages.specs.Pages.{IsOpen, Agrees, SameCommitted, is_spent, catalog_of, sectors_of, touched_of};
+ghost use Rattle.tree_pages.specs.Form.{IsForm};
+ghost use Rattle.btree.specs.Changes.{pages_of_map};
+ghost use Rattle.btree.specs.Fates.{Fits, spare};
+ghost use Rattle.btree.specs.Shrinks.{ShrinksBy, NeverShrinks, ShrinksOn, NeverShrinksOn};
+ghost use Rattle.btree.specs.Refusals.{IsChangeRefusal};
+
+use crate::fate::Fate;
+use crate::part::read_part;
+use crate::rebalance::rebalance_at;
+use crate::shrink_page::{lose_at, rename_at};
+use crate::turn::Turn;
+use pages::{PageMap, PagesError};
+use station::Device;
+use tree_pages::TreeForm;
+
+/// Tells the pages on the way, from its end on, what became of the page below each: of the leaf at the end became `fate`. The answer
+/// is what became of the page at the beginning.
+pub(crate) fn shrink<D: Device>(
+    pages: &mut PageMap,
+    device: &mut D,
+    form: TreeForm,
+    path: &[Turn],
+    fate: Fate,
+) -> Result<Fate, PagesError>
+    requires open { IsOpen pages.old }
+    requires sectors { sectors_of pages.old ≤ D.sectors device.old }
+    requires form { IsForm form }
+    requires fits { Fits form fate }
+    ensures honest { D.is_honest device.old ↔ D.is_honest device.new }
+    ensures sectors { D.sectors device.new ≡ D.sectors device.old }
+    ensures failures { Blames (result ≡ Err PagesError.Device) (D.failures device.old) (D.failures device.new) }
+    ensures state { D.is_honest device.old → D.state device.new ≡ D.state device.old }
+    ensures history { D.is_honest device.old → D.history device.new ≡ D.history device.old }
+    ensures shrinks { D.is_honest device.old → Agrees pages.old (D.state device.old).disk → IfOk result (
+        ShrinksBy form path.now (pages_of_map pages.old (D.state device.old).disk.present) (pages_of_map pages.new (D.state device.old).disk.present) fate) }
+    ensures damaged { D.is_honest device.old → Agrees pages.old (D.state device.old).disk → result ≡ Err PagesError.Damaged →
+        NeverShrinks form path.now (pages_of_map pages.old (D.state device.old).disk.present) fate }
+    ensures fits { IfOk result (Fits form) }
+    ensures touched { IfOk result (λ up. length (touched_of pages.new) + spare up ≤ length (touched_of pages.old) + spare fate + 2 * length path.now) }
+    ensures committed { SameCommitted pages.old pages.new }
+    ensures catalog { catalog_of pages.new ≡ catalog_of pages.old }
+    ensures agrees { D.is_honest device.old → Agrees pages.old (D.state device.old).disk → Agrees pages.new (D.state device.new).disk }
+    ensures open { IsOpen pages.new }
+    ensures spent { result ≡ Err PagesError.Spent → is_spent pages.old ≡ true }
+    ensures cause { IfErr result IsChangeRefusal }
+{
+    let (turn, rest) = match path.split_first() {
+        Some(pair) => pair,
+        None => return Ok(fate),
+    };
+    match shrink(pages, device, form, rest, fate)? {
+        Fate::Kept => Ok(Fate::Kept),
+        below => shrink_at(pages, device, form, *turn, below),
+    }
+}
+
+/// The page at a turn learns what became of the child that the turn led to.
+fn shrink_at<D: Device>(
+    pages: &mut PageMap,
+    device: &mut D,
+    form: TreeForm,
+    turn: Turn,
+    below: Fate,
+) -> Result<Fate, PagesError>
+    requires open { IsOpen pages.old }
+    requires sectors { sectors_of pages.old ≤ D.sectors device.old }
+    requires form { IsForm form }
+    requires fits { Fits form below }
+    ensures honest { D.is_honest device.old ↔ D.is_honest device.new }
+    ensures sectors { D.sectors device.new ≡ D.sectors device.old }
+    ensures failures { Blames (result ≡ Err PagesError.Device) (D.failures device.old) (D.failures device.new) }
+    ensures state { D.is_honest device.old → D.state device.new ≡ D.state device.old }
+    ensures history { D.is_honest device.old → D.history device.new ≡ D.history device.old }
+    ensures shrinks { D.is_honest device.old → Agrees pages.old (D.state device.old).disk → IfOk result (
+        ShrinksOn form turn (pages_of_map pages.old (D.state device.old).disk.present) (pages_of_map pages.new (D.state device.old).disk.present) below) }
+    ensures damaged { D.is_honest device.old → Agrees pages.old (D.state device.old).disk → result ≡ Err PagesError.Damaged →
+        NeverShrinksOn form turn (pages_of_map pages.old (D.state device.old).disk.present) below }
+    ensures fits { IfOk result (Fits form) }
+    ensures touched { IfOk result (λ up. length (touched_of pages.new) + spare up ≤ length (touched_of pages.old) + spare below + 2) }
+    ensures committed { SameCommitted pages.old pages.new }
+    ensures catalog { catalog_of pages.new ≡ catalog_of pages.old }
+    ensures agrees { D.is_honest device.old → Agrees pages.old (D.state device.old).disk → Agrees pages.new (D.state device.new).disk }
+    ensures open { IsOpen pages.new }
+    ensures spent { result ≡ Err PagesError.Spent → is_spent pages.old ≡ true }
+    ensures cause { IfErr result IsChangeRefusal }
+{
+    let node = read_part(pages, device, form, turn.page)?;
+    match below {
+        Fate::Kept => Ok(Fate::Kept),
+        Fate::Renamed(child) => rename_at(pages, turn, node, &child),
+        Fate::Gone => lose_at(pages, turn, node),
+        Fate::Underfull(child) => rebalance_at(pages, device, form, turn, node, child),
+    }
+}
