@@ -1,5 +1,6 @@
 pub mod Spans
 pub mod Crash
+pub mod Calls
 pub mod Writes
 pub mod Puts
 pub mod Opens

@@ -3,6 +3,7 @@ pub mod State
 pub mod History
 pub mod Failures
 pub mod Blocks
+pub mod Calls
 pub mod Opening
 pub mod Changes
 pub mod Replay

@@ -1,9 +1,8 @@
 //! Blocks and a root that names them, put on the disk so that a crash leaves the old root or all of them.
-ghost use Rattle.std.specs.Prelude.{◌≡◌, ◌<◌, ◌↔◌, slice_set, OnOk};
+ghost use Rattle.std.specs.Prelude.{◌≡◌, ◌<◌, slice_set, OnOk, IsErr};
 ghost use Rattle.station.specs.Disk.{settled, IsSettled};
-ghost use Rattle.station.specs.State.{SameConsole};
 ghost use Rattle.station.specs.History.{Through, EachImage};
-ghost use Rattle.station.specs.Failures.{CountsFailure};
+ghost use Rattle.station.specs.Calls.{OnlyWrites};
 ghost use Rattle.station.specs.Blocks.{AreAt, Spares, WithOrWithout, OldOrNew, Amid, with_all};
 
 use crate::blocks::{Block, write_blocks};
@@ -12,11 +11,8 @@ use crate::{Device, DeviceError};
 /// Writes blocks, which are durable at `Ok`.
 pub fn put_blocks<D: Device>(device: &mut D, blocks: &[Block]) -> Result<(), DeviceError>
     requires { AreAt (λ s. s < D.sectors device.old) blocks.now }
-    ensures honest { D.is_honest device.old ↔ D.is_honest device.new }
-    ensures sectors { D.sectors device.new ≡ D.sectors device.old }
-    ensures failures { CountsFailure result (D.failures device.old) (D.failures device.new) }
+    ensures only { OnlyWrites D.Device (IsErr result) device.old device.new }
     ensures durable { D.is_honest device.old → OnOk result ((D.state device.new).disk ≡ settled (with_all (D.state device.old).disk.present blocks.now)) }
-    ensures console { D.is_honest device.old → SameConsole (D.state device.old) (D.state device.new) }
 
     // At each moment a crash leaves all other sectors as they were.
     ensures moments { D.is_honest device.old → IsSettled (D.state device.old).disk →
@@ -30,11 +26,8 @@ pub fn put_blocks<D: Device>(device: &mut D, blocks: &[Block]) -> Result<(), Dev
 /// Writes a sector, which is durable at `Ok`.
 pub fn save<D: Device>(device: &mut D, sector: u32, bytes: &[u8; 4096]) -> Result<(), DeviceError>
     requires { sector < D.sectors device.old }
-    ensures honest { D.is_honest device.old ↔ D.is_honest device.new }
-    ensures sectors { D.sectors device.new ≡ D.sectors device.old }
-    ensures failures { CountsFailure result (D.failures device.old) (D.failures device.new) }
+    ensures only { OnlyWrites D.Device (IsErr result) device.old device.new }
     ensures durable { D.is_honest device.old → OnOk result ((D.state device.new).disk ≡ settled (slice_set (D.state device.old).disk.present sector bytes.now)) }
-    ensures console { D.is_honest device.old → SameConsole (D.state device.old) (D.state device.new) }
 
     // At each moment a crash leaves all as it was, or with that sector written.
     ensures moments { D.is_honest device.old → IsSettled (D.state device.old).disk →
@@ -54,11 +47,8 @@ pub fn put<D: Device>(
 ) -> Result<(), DeviceError>
     requires blocks { AreAt (λ s. s < D.sectors device.old) blocks.now }
     requires root { root < D.sectors device.old }
-    ensures honest { D.is_honest device.old ↔ D.is_honest device.new }
-    ensures sectors { D.sectors device.new ≡ D.sectors device.old }
-    ensures failures { CountsFailure result (D.failures device.old) (D.failures device.new) }
+    ensures only { OnlyWrites D.Device (IsErr result) device.old device.new }
     ensures durable { D.is_honest device.old → OnOk result ((D.state device.new).disk ≡ settled (slice_set (with_all (D.state device.old).disk.present blocks.now) root bytes.now)) }
-    ensures console { D.is_honest device.old → SameConsole (D.state device.old) (D.state device.new) }
 
     // At each moment a crash leaves the old root and all sectors but the blocks', or the new root and all blocks.
     ensures moments { D.is_honest device.old → IsSettled (D.state device.old).disk →

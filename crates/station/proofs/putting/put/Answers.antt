@@ -1,9 +1,10 @@
-use Rattle.std.proofs.Common.{◌∙◌, sym, ap, subst}
+use Rattle.std.proofs.Common.{◌∙◌, inr, sym, ap, subst}
 use Rattle.std.specs.Prelude.{slice_set}
 use Rattle.station.specs.Disk.{Disk, settled, IsSettled, IsCrashImage}
 use Rattle.station.specs.Blocks.{Spares, OldOrNew, Amid}
 use Rattle.station.proofs.Spans.{goes, weakens}
-use Rattle.station.proofs.Crash.{settled_image, console_then}
+use Rattle.station.proofs.Crash.{settled_image}
+use Rattle.station.proofs.Calls.{writes_then}
 use Rattle.station.proofs.Puts.{early, late, on_ok}
 use Rattle.station.proofs.putting.put.Goals as goal
 
@@ -15,10 +16,10 @@ returns-in_err-put_blocks-clause-moments g c = λ honest disk.
 pub returns-clause-durable : goal.returns-clause-durable
 returns-clause-durable g c = λ honest.
     let there = c.in_ok-put_blocks.ensures.durable honest in
-    on_ok c.save.result (λ is. is ∙ ap (λ (d : Disk). settled (slice_set d.present c.args.root c.args.bytes.now)) there) (c.save.ensures.durable (c.put_blocks.ensures.honest.0 honest))
+    on_ok c.save.result (λ is. is ∙ ap (λ (d : Disk). settled (slice_set d.present c.args.root c.args.bytes.now)) there) (c.save.ensures.durable (c.put_blocks.ensures.only.honest.0 honest))
 
-pub returns-clause-console : goal.returns-clause-console
-returns-clause-console g c = λ honest. console_then _ _ _ (c.put_blocks.ensures.console honest) (c.save.ensures.console (c.put_blocks.ensures.honest.0 honest))
+pub returns-clause-only : goal.returns-clause-only
+returns-clause-only g c = writes_then g.D.Device _ _ _ _ _ _ (λ failed. inr failed) c.put_blocks.ensures.only c.save.ensures.only
 
 pub returns-clause-moments : goal.returns-clause-moments
 returns-clause-moments g c = λ honest disk.
@@ -30,11 +31,11 @@ returns-clause-moments g c = λ honest disk.
     let base = old.disk.present in
     let blocks = c.args.blocks.now in
     let there = c.in_ok-put_blocks.ensures.durable honest in
-    let honest' = c.put_blocks.ensures.honest.0 honest in
+    let honest' = c.put_blocks.ensures.only.honest.0 honest in
     let settled_mid : IsSettled mid.disk = there ∙ sym (ap (λ (d : Disk). settled d.present) there) in
     goes (history c.args.device.now) (history c.put_blocks.new.device) (history c.save.new.device) mid new (Amid old.events (OldOrNew base blocks c.args.root c.args.bytes.now))
     (weakens _ _ mid (Amid old.events (Spares base blocks)) _ (early old.events base blocks c.args.root c.args.bytes.now) (c.put_blocks.ensures.moments honest disk))
-    (weakens _ _ new _ _ (late old.events mid.events base mid.disk.present blocks c.args.root c.args.bytes.now (c.put_blocks.ensures.console honest).events
+    (weakens _ _ new _ _ (late old.events mid.events base mid.disk.present blocks c.args.root c.args.bytes.now (c.put_blocks.ensures.only.console honest).events
     (ap (λ (d : Disk). d.present) there)) (c.save.ensures.moments honest' settled_mid))
 
 pub returns-clause-new : goal.returns-clause-new

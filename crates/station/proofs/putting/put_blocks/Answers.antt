@@ -1,8 +1,8 @@
-use Rattle.std.proofs.Common.{◌∙◌, sym, ap, subst}
+use Rattle.std.proofs.Common.{◌∙◌, inr, sym, ap, subst}
 use Rattle.station.specs.State.{State}
 use Rattle.station.specs.Blocks.{Spares, Writing, Amid}
 use Rattle.station.proofs.Spans.{moves_on, weakens, either}
-use Rattle.station.proofs.Crash.{console_then, sync_console}
+use Rattle.station.proofs.Calls.{syncs, writes_then}
 use Rattle.station.proofs.Puts.{spares, put_spares, put_disk, put_events, on_ok}
 use Rattle.station.proofs.putting.put_blocks.Goals as goal
 
@@ -15,12 +15,12 @@ pub returns-clause-durable : goal.returns-clause-durable
 returns-clause-durable g c = λ honest.
     let state = g.D.Device.state in
     on_ok c.sync.result (λ is. put_disk (state c.args.device.now) (state c.write_blocks.new.device) (state c.sync.new.self) c.args.blocks.now (c.in_ok-write_blocks.ensures.wrote honest)
-    (ap (λ (s : State). s.disk) is)) (c.sync.ensures.synced (c.write_blocks.ensures.honest.0 honest))
+    (ap (λ (s : State). s.disk) is)) (c.sync.ensures.synced (c.write_blocks.ensures.only.honest.0 honest))
 
-pub returns-clause-console : goal.returns-clause-console
-returns-clause-console g c = λ honest.
-    let honest' = c.write_blocks.ensures.honest.0 honest in
-    console_then _ _ _ (c.write_blocks.ensures.console honest) (sync_console _ _ c.sync.result (c.sync.ensures.synced honest') (c.sync.ensures.unsynced honest'))
+pub returns-clause-only : goal.returns-clause-only
+returns-clause-only g c =
+    writes_then g.D.Device _ _ _ _ _ _ (λ failed. inr failed) c.write_blocks.ensures.only
+    (syncs g.D.Device c.sync.result _ _ c.sync.ensures.honest c.sync.ensures.sectors c.sync.ensures.failures c.sync.ensures.synced c.sync.ensures.unsynced)
 
 pub returns-clause-moments : goal.returns-clause-moments
 returns-clause-moments g c = λ honest disk.
@@ -31,7 +31,7 @@ returns-clause-moments g c = λ honest disk.
     let new = state c.sync.new.self in
     let blocks = c.args.blocks.now in
     let P = Amid old.events (Spares old.disk.present blocks) in
-    let honest' = c.write_blocks.ensures.honest.0 honest in
+    let honest' = c.write_blocks.ensures.only.honest.0 honest in
     let so_far = weakens _ _ mid (Writing old.events old.disk.present blocks) P (spares old.events old.disk.present blocks) (c.write_blocks.ensures.moments honest disk) in
     let last : P new = either c.sync.result (P new) (c.sync.ensures.synced honest') (c.sync.ensures.unsynced honest')
     (λ is. put_spares old.events old.disk.present blocks new (ap (λ (s : State). s.events) is ∙ put_events old mid blocks (c.in_ok-write_blocks.ensures.wrote honest))

@@ -1,14 +1,17 @@
-use Rattle.std.proofs.Common.{◌∙◌, sym, ap, subst}
+use Rattle.std.proofs.Common.{◌∙◌, refl, inr, sym, ap, subst}
 use Rattle.station.specs.Disk.{settled}
 use Rattle.station.specs.State.{State}
 use Rattle.station.specs.Blocks.{WithOrWithout, Amid}
 use Rattle.station.proofs.Spans.{moved, moves_on, either}
-use Rattle.station.proofs.Crash.{write_events, write_console, console_then, sync_console}
+use Rattle.station.proofs.Crash.{write_events}
+use Rattle.station.proofs.Calls.{blamed_where, writes, syncs, writes_then}
 use Rattle.station.proofs.Puts.{one_begins, one_saved}
 use Rattle.station.proofs.putting.save.Goals as goal
 
-pub returns-in_err-write-clause-console : goal.returns-in_err-write-clause-console
-returns-in_err-write-clause-console g c = λ honest. write_console _ _ _ _ (c.write.ensures.perhaps honest)
+pub returns-in_err-write-clause-only : goal.returns-in_err-write-clause-only
+returns-in_err-write-clause-only g c =
+    blamed_where g.D.Device _ _ _ _ (λ _. refl)
+    (writes g.D.Device _ _ _ _ _ c.write.ensures.honest c.write.ensures.sectors c.in_err-write.ensures.failures c.write.ensures.perhaps)
 
 pub returns-in_err-write-clause-moments : goal.returns-in_err-write-clause-moments
 returns-in_err-write-clause-moments g c = λ honest disk.
@@ -19,10 +22,11 @@ returns-in_err-write-clause-moments g c = λ honest disk.
     let there = one_begins old c.args.sector c.args.bytes.now (state c.write.new.self) disk (c.write.ensures.perhaps honest) in
     record { spans = moved (history c.args.device.now) old (history c.write.new.self) (state c.write.new.self) P (c.write.ensures.moves honest) there; now = there }
 
-pub returns-clause-console : goal.returns-clause-console
-returns-clause-console g c = λ honest.
-    let honest' = c.write.ensures.honest.0 honest in
-    console_then _ _ _ (write_console _ _ _ _ (c.write.ensures.perhaps honest)) (sync_console _ _ c.sync.result (c.sync.ensures.synced honest') (c.sync.ensures.unsynced honest'))
+pub returns-clause-only : goal.returns-clause-only
+returns-clause-only g c =
+    writes_then g.D.Device _ _ _ _ _ _ (λ failed. inr failed)
+    (writes g.D.Device _ _ _ _ _ c.write.ensures.honest c.write.ensures.sectors c.write.ensures.failures c.write.ensures.perhaps)
+    (syncs g.D.Device c.sync.result _ _ c.sync.ensures.honest c.sync.ensures.sectors c.sync.ensures.failures c.sync.ensures.synced c.sync.ensures.unsynced)
 
 pub returns-clause-moments : goal.returns-clause-moments
 returns-clause-moments g c = λ honest disk.
