@@ -6,12 +6,14 @@ use Rattle.source_tree.specs.declared.statement.Statement.TheVariants as stateme
 use Rattle.source_tree.specs.declared.program.Paragraph.{Paragraph}
 use Rattle.source_tree.specs.declared.program.Program.{Program}
 use Rattle.source_tree.specs.Display.{shown_display}
+use Rattle.source_tree.specs.Given.{Given}
 use Rattle.source_tree.specs.State.{State, Stopped, Outcome, Done, Over, showing, then_do, spend_from, spend}
 use Rattle.source_tree.specs.Meaning.{start, told, in_turn, step, exec, sentence, paragraph, range, paragraphs, meaning}
 use Rattle.code_image.specs.declared.code.Code.{Code}
 use Rattle.code_image.specs.declared.instruction.Instruction.{Instruction}
 use Rattle.code_image.specs.declared.instruction.Instruction.TheVariants.{Tick, Show, Stop}
-use Rattle.code_image.specs.Table.{over, tick_from, show_from, act, exec_code, Runs}
+use Rattle.code_image.specs.Points.{at}
+use Rattle.code_image.specs.Table.{onward, over, tick_from, show_from, act, exec_code, Runs}
 use Rattle.codegen.specs.Layout.{Piece, nothing, joined, in_order, display_piece, stop_run_piece, statement_piece, sentence_piece, start_piece, paragraph_piece, end_piece, code_of}
 use Rattle.codegen.proofs.Pieces.{joined_assoc, joined_nothing, flat}
 use Rattle.codegen.proofs.Standing.{Stands, front, back, first_stands, second_stands, literal_stands}
@@ -22,12 +24,12 @@ end_of code = length code.instructions
 
 -- the machine goes from one place and state to another
 pub record Comes (whole : Code) (place : ℕ) (s : State) (next : ℕ) (t : State) : Type 0 where
-  pub by : (k : ℕ) → (j : ℕ) × (exec_code whole j place s ≡ exec_code whole k next t)
+  pub by : (k : ℕ) → (j : ℕ) × (exec_code whole j (at place s) ≡ exec_code whole k (at next t))
 
 -- the machine does what an outcome says: it comes to the place, or its run ends so
 abbrev pub Does : Code → ℕ → State → ℕ → Outcome → Type 0
 Does whole place s next (Done t) = Comes whole place s next t
-Does whole place s next (Over end t) = (j : ℕ) × (exec_code whole j place s ≡ Some (over end t))
+Does whole place s next (Over end t) = (j : ℕ) × (exec_code whole j (at place s) ≡ Some (over end t))
 
 module _ (whole : Code) where
   after : (place mid next : ℕ) (s t : State) (o : Outcome) → Comes whole place s mid t → Does whole mid t next o → Does whole place s next o
@@ -46,14 +48,14 @@ module _ (whole : Code) where
   moved_from place other next s o e d = subst (λ p. Does whole p s next o) e d
 
   -- one instruction
-  one_step : (place : ℕ) (s : State) (i : Instruction) → slice_get whole.instructions place ≡ Some i → (k : ℕ) → exec_code whole (suc k) place s ≡ act whole (Some i) (exec_code whole k) place s
-  one_step place s i here k = ap (λ o. act whole o (exec_code whole k) place s) here
+  one_step : (place : ℕ) (s : State) (i : Instruction) → slice_get whole.instructions place ≡ Some i → (k : ℕ) → exec_code whole (suc k) (at place s) ≡ act whole (Some i) (exec_code whole k) (at place s)
+  one_step place s i here k = ap (λ o. act whole o (exec_code whole k) (at place s)) here
 
-  steps_to : (place next : ℕ) (s t : State) → ((k : ℕ) → exec_code whole (suc k) place s ≡ exec_code whole k next t) → Comes whole place s next t
+  steps_to : (place next : ℕ) (s t : State) → ((k : ℕ) → exec_code whole (suc k) (at place s) ≡ exec_code whole k (at next t)) → Comes whole place s next t
   steps_to place next s t h = record { by = λ k. (suc k, h k) }
 
   -- one of the budget
-  tick_from_does : (left line place next : ℕ) (s : State) (go : State → Outcome) → ((k : ℕ) → exec_code whole (suc k) place s ≡ tick_from left line (exec_code whole k (place + 1)) s)
+  tick_from_does : (left line place next : ℕ) (s : State) (go : State → Outcome) → ((k : ℕ) → exec_code whole (suc k) (at place s) ≡ tick_from left line (onward (exec_code whole k) (at place s)) s)
       → ((t : State) → Does whole (place + 1) t next (go t)) → Does whole place s next (spend_from left line s go)
   tick_from_does zero line place next s go st h = (1, st 0)
   tick_from_does (suc n) line place next s go st h =
@@ -69,7 +71,7 @@ module _ (whole : Code) where
 
   show_does : (place number : ℕ) (bytes : List ℕ) (s : State) → slice_get whole.instructions place ≡ Some (Show (record { number = number })) → slice_get whole.literals number ≡ Some bytes → Does whole place s (place + 1) (Done (showing bytes s))
   show_does place number bytes s here found =
-      steps_to place (place + 1) s (showing bytes s) (λ k. one_step place s (Show (record { number = number })) here k ∙ ap (λ b. show_from b (exec_code whole k (place + 1)) s) found)
+      steps_to place (place + 1) s (showing bytes s) (λ k. one_step place s (Show (record { number = number })) here k ∙ ap (λ b. show_from b (onward (exec_code whole k) (at place s)) s) found)
 
   two_more : (before : Code) (one two : Instruction) (part : Code) → part.instructions ≡ one ∷ two ∷ [] → end_of before + 1 + 1 ≡ end_of (joined before part)
   two_more before one two part is = let n : length (one ∷ two ∷ []) ≡ 2 = refl in omega (arith, ap length is, length-append before.instructions part.instructions)
@@ -93,7 +95,7 @@ module _ (whole : Code) where
 
   in_order_does : {A : Type 0} (run : A → State → Outcome) (piece : A → Piece) → Follows run piece → (all : List A) (before : Code) (s : State) → Stands whole before (in_order piece all before)
       → Does whole (end_of before) s (end_of (joined before (in_order piece all before))) (in_turn run all s)
-  in_order_does run piece f [] before s st = record { by = λ k. (k, ap (λ (c : Code). exec_code whole k (end_of c) s) (sym (joined_nothing before))) }
+  in_order_does run piece f [] before s st = record { by = λ k. (k, ap (λ (c : Code). exec_code whole k (at (end_of c) s)) (sym (joined_nothing before))) }
   in_order_does run piece f (one ∷ more) before s st =
       let a = piece one before in
       let b = in_order piece more (joined before a) in
@@ -116,7 +118,7 @@ module _ (whole : Code) where
 
   -- the machine's run is over as an outcome is told
   abbrev Ends : ℕ → State → Outcome → Type 0
-  Ends place s o = (j : ℕ) × (exec_code whole j place s ≡ Some (told o))
+  Ends place s o = (j : ℕ) × (exec_code whole j (at place s) ≡ Some (told o))
 
   then_ends : (place mid : ℕ) (s : State) (o : Outcome) (go : State → Outcome) → Does whole place s mid o → ((t : State) → Ends mid t (go t)) → Ends place s (then_do o go)
   then_ends place mid s (Done t) go d h = let e = h t in let c = d.by e.0 in (c.0, c.1 ∙ e.1)
@@ -139,5 +141,5 @@ all_stands code = record { rest = nothing; is = sym (joined_nothing code) }
 laid : (program : Program) → Stands (code_of program) nothing (joined (in_order paragraph_piece (paragraphs program) nothing) end_piece)
 laid program = subst (Stands (code_of program) nothing) (ap (λ (c : Code). joined c end_piece) (flat program.sections nothing)) (all_stands (code_of program))
 
-pub runs : (program : Program) (budget : ℕ) → Runs (code_of program) budget (meaning program budget)
-runs program budget = range_ends (code_of program) budget (paragraphs program) nothing (start budget) (laid program)
+pub runs : (program : Program) (given : Given) → Runs (code_of program) given (meaning program given)
+runs program given = range_ends (code_of program) given.budget (paragraphs program) nothing (start given) (laid program)

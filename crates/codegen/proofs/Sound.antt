@@ -10,7 +10,7 @@ use Rattle.source_tree.specs.declared.program.Paragraph.{Paragraph}
 use Rattle.code_image.specs.declared.code.Code.{Code}
 use Rattle.code_image.specs.declared.instruction.Instruction.{Instruction}
 use Rattle.code_image.specs.declared.instruction.Instruction.TheVariants.{Tick, Show, Stop}
-use Rattle.code_image.specs.Demands.{NamesLiteral, IsPlace, IsVerified}
+use Rattle.code_image.specs.Demands.{NamesLiteral, IsAddress, IsVerified}
 use Rattle.codegen.specs.Layout.{Piece, nothing, joined, in_order, statement_piece, sentence_piece, start_piece, paragraph_piece, section_piece, end_piece, code_of}
 use Rattle.codegen.proofs.Standing.{at_seam}
 
@@ -81,9 +81,9 @@ verified program =
       within = record {
         literals = All-from_recursion (NamesLiteral (length (code_of program).literals)) (code_of program).instructions
             (all_weaker (NamesLiteral (0 + length (code_of program).literals)) (NamesLiteral (length (code_of program).literals)) (λ i h. more_literals _ _ i (omega arith) h) (code_of program).instructions whole.literals);
-        starts = All-from_recursion (IsPlace (length (code_of program).instructions)) (code_of program).starts
-            (all_both (IsPlace (length (code_of program).instructions)) body.starts []
-            (all_weaker (λ start. start ≤ 0 + length body.instructions) (IsPlace (length (code_of program).instructions)) (λ start h. omega (arith, n)) body.starts sound.starts) tt);
+        starts = All-from_recursion (IsAddress (length (code_of program).instructions)) (code_of program).starts
+            (all_both (IsAddress (length (code_of program).instructions)) body.starts []
+            (all_weaker (λ start. start ≤ 0 + length body.instructions) (IsAddress (length (code_of program).instructions)) (λ start h. omega (arith, n)) body.starts sound.starts) tt);
       };
       stops = ap (slice_get (code_of program).instructions) count ∙ at_seam body.instructions Stop [];
     }

@@ -5,6 +5,7 @@ use Rattle.std.specs.declared.alloc.AllocError.{AllocError}
 use Rattle.std.specs.declared.alloc.Global.{Global}
 use Rattle.station.specs.State.{State}
 use Rattle.source_tree.specs.declared.program.Program.{Program}
+use Rattle.source_tree.specs.Given.{Given, given_on}
 use Rattle.source_tree.specs.Meaning.{meaning}
 use Rattle.code_image.specs.Demands.{IsVerified, Refuses}
 use Rattle.code_image.specs.declared.fault.ImageFault.{ImageFault}
@@ -13,6 +14,8 @@ use Rattle.machine.specs.declared.ended.Ended.{Ended as MachineEnded}
 use Rattle.machine.specs.declared.ended.Ended.TheVariants as machine
 use Rattle.machine.specs.declared.ended.Refusal.TheVariants as refused
 use Rattle.machine.specs.Ends as run
+use Rattle.machine.specs.Ends.{code_of, day_of}
+use Rattle.machine.specs.declared.machine.Machine.{Machine}
 use Rattle.run_unit.specs.Ends.{EndsAs, ForImage, IfUnbegun, IsEndOfImage, ended_of}
 use Rattle.run_unit.specs.declared.ended.Refusal.TheVariants.{Image, Device, Memory}
 use Rattle.run_unit.specs.declared.ended.Ended.{Ended}
@@ -41,7 +44,7 @@ keeps_demands : (code : Code) (fault : ImageFault) → IsVerified code → Refus
 keeps_demands code in_image.Mark verified refuses = refuses
 keeps_demands code in_image.Length verified refuses = refuses
 keeps_demands code in_image.Value verified refuses = refuses
-keeps_demands code in_image.Place verified refuses = refuses verified.within
+keeps_demands code in_image.Index verified refuses = refuses verified.within
 keeps_demands code in_image.Shape verified refuses = refuses.1 verified.stops
 
 err_not_ok : (r : Result Code ImageFault) (fault : ImageFault) (code : Code) → r ≡ Err fault → r ≡ Ok code → ⊥
@@ -73,18 +76,23 @@ begun fact machine.Stopped = tt
 begun fact machine.Budget = tt
 begun fact (machine.Refused refused.Device) = tt
 
--- and has one run with a budget
-pub one_run : OneSpelling → ((code : Code) (budget : ℕ) (run other : Run) → Runs code budget run → Runs code budget other → run ≡ other)
-    → (image : List ℕ) (budget : ℕ) (run other : Run) → HasRun image budget run → HasRun image budget other → run ≡ other
-one_run spelt law image budget run other a b =
-    law b.code budget run other (subst (λ c. Runs c budget run) (one_code spelt image a.code b.code a.is b.is) a.runs) b.runs
+-- and has one run with what it is given
+pub one_run : OneSpelling → ((code : Code) (given : Given) (run other : Run) → Runs code given run → Runs code given other → run ≡ other)
+    → (image : List ℕ) (given : Given) (run other : Run) → HasRun image given run → HasRun image given other → run ≡ other
+one_run spelt law image given run other a b =
+    law b.code given run other (subst (λ c. Runs c given run) (one_code spelt image a.code b.code a.is b.is) a.runs) b.runs
 
 -- what is written of a tree's code is an image that means the same
-pub made : (tree : Program) (code : Code) (written : Result (Vec ℕ Global) AllocError) → ((budget : ℕ) → Runs code budget (meaning tree budget)) → IsVerified code
+pub made : (tree : Program) (code : Code) (written : Result (Vec ℕ Global) AllocError) → ((given : Given) → Runs code given (meaning tree given)) → IsVerified code
     → IfOk written (λ bytes. bytes.items ≡ spelling code) → OnOk written (HasSpelling code) → IfOk written (λ image. MeansAs tree image.items)
 made tree code (Ok image) ends verified bytes spelt =
-    λ budget. record { code = code; is = record { bytes = bytes; spelt = spelt; verified = verified }; runs = ends budget }
+    λ given. record { code = code; is = record { bytes = bytes; spelt = spelt; verified = verified }; runs = ends budget }
 made tree code (Err e) ends verified bytes spelt = tt
+
+-- a machine that was loaded has the run of its code, on its day
+pub runs_as : (budget : ℕ) (run : Run) (state : State) (machine : Machine) (day : List ℕ) (code : Code) → code_of machine ≡ code → day_of machine ≡ day
+    → Runs code (given_on state day budget) run → Runs (code_of machine) (given_on state (day_of machine) budget) run
+runs_as budget run state machine day code same_code same_day runs = rw (same_code, same_day) runs
 
 -- what is so after a machine's run
 pub ends_as : (all : Run) (old now : State) (ended : MachineEnded) → run.EndsAs all old ended now → EndsAs all old (ended_of ended) now

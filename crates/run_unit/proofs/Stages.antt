@@ -15,8 +15,8 @@ use Rattle.divisions.specs.declared.fault.ParseFault.TheVariants as in_tree
 use Rattle.run_unit.specs.Faults.{from_tree}
 use Rattle.run_unit.specs.Trees.{IsTreeOf, IsTreeAnswer}
 use Rattle.run_unit.specs.Images.{IsImageAnswer}
-use Rattle.run_unit.specs.declared.fault.CompileFault.{CompileFault}
-use Rattle.run_unit.specs.declared.fault.CompileFault.TheVariants.{Memory, Refused}
+use Rattle.run_unit.specs.declared.fault.CompileError.{CompileError}
+use Rattle.run_unit.specs.declared.fault.CompileError.TheVariants.{Memory, Refused}
 
 ok : {A : Type 0} (F : Type 0) → A → Result A F
 ok F a = Ok a
@@ -59,10 +59,10 @@ pub tree_refusal : (tree : Program) (e : ParseFault) → IsAnswer max_nesting tr
 tree_refusal tree in_tree.Memory allowed = tt
 tree_refusal tree (in_tree.Refused fault) allowed = absurd (let deep : 64 < 64 = allowed.1 in omega (arith, deep))
 
-pub image_refusal : (tree : Program) (e : CompileFault) → IsTreeAnswer tree (Err e) → IsImageAnswer tree (Err e)
+pub image_refusal : (tree : Program) (e : CompileError) → IsTreeAnswer tree (Err e) → IsImageAnswer tree (Err e)
 image_refusal tree Memory allowed = tt
 image_refusal tree (Refused fault) allowed = allowed
 
-pub memory_alone : (tree : Program) (e : CompileFault) → IsImageAnswer tree (Err e) → e ≡ Memory
+pub memory_alone : (tree : Program) (e : CompileError) → IsImageAnswer tree (Err e) → e ≡ Memory
 memory_alone tree Memory allowed = refl
 memory_alone tree (Refused fault) allowed = absurd allowed

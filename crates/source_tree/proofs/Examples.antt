@@ -13,7 +13,10 @@ use Rattle.source_tree.specs.declared.program.Paragraph.{Paragraph}
 use Rattle.source_tree.specs.declared.program.Program.{Program}
 use Rattle.source_tree.specs.State.{Stopped, Budget, Done}
 use Rattle.source_tree.specs.Display.{shown_literal, shown_display, line_feed}
-use Rattle.source_tree.specs.Meaning.{Run, meaning, exec, start}
+use Rattle.source_tree.specs.Given.{Given}
+use Rattle.source_tree.specs.State.{State}
+use Rattle.source_tree.specs.Meaning as given
+use Rattle.source_tree.specs.Meaning.{Run, exec}
 
 abbrev pub at : ℕ → ℕ → Place
 at line column = record { line = line; column = column }
@@ -23,6 +26,16 @@ text bytes = operand.Literal (record { value = Nonnumeric bytes; place = at 5 20
 
 abbrev pub number : List ℕ → List ℕ → Operand
 number whole decimals = operand.Literal (record { value = Numeric (record { sign = sign.Unsigned; whole = whole; decimals = decimals }); place = at 5 24 })
+
+-- with this budget, on 30 July 1926
+abbrev with : ℕ → Given
+with budget = record { budget = budget; day = 50 ∷ 54 ∷ 48 ∷ 55 ∷ 51 ∷ 48 ∷ [] }
+
+abbrev meaning : Program → ℕ → Run
+meaning program budget = given.meaning program (with budget)
+
+abbrev start : ℕ → State
+start budget = given.start (with budget)
 
 -- HELLO
 abbrev pub hello_bytes : List ℕ
@@ -104,5 +117,5 @@ leading_zeros : shown_literal (Numeric (record { sign = sign.Plus; whole = 48 �
 leading_zeros = refl
 
 -- the line of the statement that last used one of the budget
-last_line : exec 1 show_hello (start 3) ≡ Done (record { budget = 2; line = 5; events = map Shown (hello_bytes ++ line_feed ∷ []) })
+last_line : exec 1 show_hello (start 3) ≡ Done (record (start 2) { line = 5; events = map Shown (hello_bytes ++ line_feed ∷ []) })
 last_line = refl

@@ -10,7 +10,7 @@ use Rattle.source_tree.specs.declared.program.Paragraph.{Paragraph}
 use Rattle.source_tree.specs.Places.{place_of}
 use Rattle.source_tree.specs.State.{State, Stopped, Budget, Outcome, Done, Over, showing, then_do, spend_from, spend, outcome_events}
 use Rattle.source_tree.specs.Meaning.{in_turn, step, exec, sentence, paragraph, range}
-use Rattle.source_tree.specs.Laws.{Begins}
+use Rattle.station.specs.State.{Begins}
 
 pub itself : (es : List Event) → Begins es es
 itself es = record { rest = []; whole_is = sym (append-nil es) }

@@ -9,6 +9,7 @@ use Rattle.source_tree.specs.declared.program.Paragraph.{Paragraph}
 use Rattle.source_tree.specs.declared.program.Section.{Section}
 use Rattle.source_tree.specs.declared.program.Program.{Program}
 use Rattle.source_tree.specs.Places.{place_of}
+use Rattle.source_tree.specs.Given.{Given}
 use Rattle.source_tree.specs.State.{State, End, Stopped, Budget, Outcome, Done, Over, showing, then_do, spend}
 use Rattle.source_tree.specs.Display.{shown_display}
 
@@ -48,8 +49,8 @@ paragraphs_in (one ∷ more) = one.paragraphs ++ paragraphs_in more
 abbrev pub paragraphs : Program → List Paragraph
 paragraphs program = paragraphs_in program.sections
 
-abbrev pub start : ℕ → State
-start budget = record { budget = budget; line = 0; events = [] }
+abbrev pub start : Given → State
+start given = record { budget = given.budget; line = 0; day = given.day; events = [] }
 
 -- a run of the program from this state, with nesting up to `depth`
 abbrev pub run_from : ℕ → Program → State → Outcome
@@ -65,6 +66,6 @@ abbrev pub told : Outcome → Run
 told (Done s) = record { events = s.events; end = Stopped }
 told (Over end s) = record { events = s.events; end = end }
 
--- the program's run with this budget
-abbrev pub meaning : Program → ℕ → Run
-meaning program budget = told (run_from (suc budget) program (start budget))
+-- the program's run with what it is given
+abbrev pub meaning : Program → Given → Run
+meaning program given = told (run_from (suc given.budget) program (start given))

@@ -3,7 +3,7 @@ ghost use Rattle.std.specs.Prelude.{◌≡◌, ◌<◌, OnOk, IsErr};
 ghost use Rattle.station.specs.Disk.{IsSettled};
 ghost use Rattle.station.specs.History.{Through};
 ghost use Rattle.station.specs.Calls.{OnlyWrites};
-ghost use Rattle.station.specs.Blocks.{AreAt, Writing, wrote_all};
+ghost use Rattle.station.specs.Blocks.{SectorsAre, Writing, wrote_all};
 
 use crate::{Device, DeviceError};
 
@@ -16,7 +16,7 @@ pub struct Block {
 
 /// Writes each block. None of them is durable yet.
 pub fn write_blocks<D: Device>(device: &mut D, blocks: &[Block]) -> Result<(), DeviceError>
-    requires { AreAt (λ s. s < D.sectors device.old) blocks.now }
+    requires { SectorsAre (λ s. s < D.sectors device.old) blocks.now }
     ensures only { OnlyWrites D.Device (IsErr result) device.old device.new }
     ensures wrote { D.is_honest device.old → OnOk result (D.state device.new ≡ wrote_all (D.state device.old) blocks.now) }
 

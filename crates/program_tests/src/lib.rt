@@ -5,6 +5,6 @@
 #[cfg(test)]
 mod asserted;
 #[cfg(test)]
-mod code_rows;
+mod codes;
 #[cfg(test)]
-mod tree_rows;
+mod trees;

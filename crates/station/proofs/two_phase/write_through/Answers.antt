@@ -1,12 +1,12 @@
 use Rattle.std.proofs.Common.{◌∙◌, refl, inr, sym, ap, subst}
 use Rattle.station.specs.Disk.{settled}
 use Rattle.station.specs.State.{State}
-use Rattle.station.specs.Blocks.{WithOrWithout, Amid}
+use Rattle.station.specs.Blocks.{WithOrWithout, CrashLeaves}
 use Rattle.station.proofs.Spans.{moved, moves_on, either}
 use Rattle.station.proofs.Crash.{write_events}
 use Rattle.station.proofs.Calls.{blamed_where, writes, syncs, writes_then}
-use Rattle.station.proofs.Puts.{one_begins, one_saved}
-use Rattle.station.proofs.putting.save.Goals as goal
+use Rattle.station.proofs.TwoPhase.{one_begins, one_saved}
+use Rattle.station.proofs.two_phase.write_through.Goals as goal
 
 pub returns-in_err-write-clause-only : goal.returns-in_err-write-clause-only
 returns-in_err-write-clause-only g c =
@@ -18,7 +18,7 @@ returns-in_err-write-clause-moments g c = λ honest disk.
     let state = g.D.Device.state in
     let history = g.D.Device.history in
     let old = state c.args.device.now in
-    let P = Amid old.events (WithOrWithout old.disk.present c.args.sector c.args.bytes.now) in
+    let P = CrashLeaves old.events (WithOrWithout old.disk.present c.args.sector c.args.bytes.now) in
     let there = one_begins old c.args.sector c.args.bytes.now (state c.write.new.self) disk (c.write.ensures.perhaps honest) in
     record { spans = moved (history c.args.device.now) old (history c.write.new.self) (state c.write.new.self) P (c.write.ensures.moves honest) there; now = there }
 
@@ -37,7 +37,7 @@ returns-clause-moments g c = λ honest disk.
     let new = state c.sync.new.self in
     let base = old.disk.present in
     let may = c.write.ensures.perhaps honest in
-    let P = Amid old.events (WithOrWithout base c.args.sector c.args.bytes.now) in
+    let P = CrashLeaves old.events (WithOrWithout base c.args.sector c.args.bytes.now) in
     let there = one_begins old c.args.sector c.args.bytes.now mid disk may in
     let honest' = c.write.ensures.honest.0 honest in
     let last : P new = either c.sync.result (P new) (c.sync.ensures.synced honest') (c.sync.ensures.unsynced honest')
