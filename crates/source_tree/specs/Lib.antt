@@ -1,4 +1,3 @@
-pub mod Places
 pub mod State
 pub mod Display
 pub mod Meaning
