@@ -1,20 +1,25 @@
 -- The machine follows the meaning.
 use Rattle.std.proofs.Common.{◌≡◌, ℕ, zero, suc, ◌+◌, List, [], ◌∷◌, length, Some, refl, sym, ap, ◌∙◌, subst, arith, length-append}
 use Rattle.std.specs.Prelude.{slice_get}
-use Rattle.source_tree.specs.declared.statement.Statement.{Statement}
-use Rattle.source_tree.specs.declared.statement.Statement.TheVariants as statement
+use Rattle.source_tree.specs.declared.text.Text.{Text}
+use Rattle.source_tree.specs.declared.text.Text.TheVariants as text
+use Rattle.source_tree.specs.declared.ending.Ending.{Ending}
+use Rattle.source_tree.specs.declared.ending.Ending.TheVariants as ending
+use Rattle.source_tree.specs.declared.statement.Verb.{Verb}
+use Rattle.source_tree.specs.declared.statement.Verb.TheVariants as verb
+use Rattle.source_tree.specs.declared.statement.Statement.{Statement, out-Statement}
 use Rattle.source_tree.specs.declared.program.Paragraph.{Paragraph}
 use Rattle.source_tree.specs.declared.program.Program.{Program}
 use Rattle.source_tree.specs.Display.{shown_display}
 use Rattle.source_tree.specs.Given.{Given}
 use Rattle.source_tree.specs.State.{State, Stopped, Outcome, Done, Over, showing, then_do, spend_from, spend}
-use Rattle.source_tree.specs.Meaning.{start, told, in_turn, step, exec, sentence, paragraph, range, paragraphs, meaning}
+use Rattle.source_tree.specs.Meaning.{start, told, in_turn, texts, finish, step, exec, sentence, paragraph, range, paragraphs, meaning}
 use Rattle.code_image.specs.declared.code.Code.{Code}
 use Rattle.code_image.specs.declared.instruction.Instruction.{Instruction}
 use Rattle.code_image.specs.declared.instruction.Instruction.TheVariants.{Tick, Show, Stop}
 use Rattle.code_image.specs.Points.{at}
 use Rattle.code_image.specs.Table.{onward, over, tick_from, show_from, act, exec_code, Runs}
-use Rattle.codegen.specs.Layout.{Piece, nothing, joined, in_order, display_piece, stop_run_piece, statement_piece, sentence_piece, start_piece, paragraph_piece, end_piece, code_of}
+use Rattle.codegen.specs.Layout.{Piece, nothing, joined, in_order, display_piece, text_piece, stop_run_piece, ending_piece, verb_piece, statement_piece, sentence_piece, start_piece, paragraph_piece, end_piece, code_of}
 use Rattle.codegen.proofs.Pieces.{joined_assoc, joined_nothing, flat}
 use Rattle.codegen.proofs.Standing.{Stands, front, back, first_stands, second_stands, literal_stands}
 
@@ -76,18 +81,29 @@ module _ (whole : Code) where
   two_more : (before : Code) (one two : Instruction) (part : Code) → part.instructions ≡ one ∷ two ∷ [] → end_of before + 1 + 1 ≡ end_of (joined before part)
   two_more before one two part is = let n : length (one ∷ two ∷ []) ≡ 2 = refl in omega (arith, ap length is, length-append before.instructions part.instructions)
 
+  module _ (line : ℕ) (before : Code) (s : State) where
+    text_does : (one : Text) → Stands whole before (text_piece line one before) → Does whole (end_of before) s (end_of (joined before (text_piece line one before))) (spend line s (texts one))
+    text_does (text.Display operands advancing) st =
+        let bytes = shown_display operands advancing in
+        let part = display_piece line bytes before in
+        let show = Show (record { number = length before.literals }) in
+        tick_does line (end_of before) (end_of (joined before part)) s (texts (text.Display operands advancing)) (first_stands whole before part (Tick line) (show ∷ []) refl st) (λ t.
+        moved (end_of before + 1) (end_of before + 1 + 1) (end_of (joined before part)) t (Done (showing bytes t)) (two_more before (Tick line) show part refl)
+        (show_does (end_of before + 1) (length before.literals) bytes t (second_stands whole before part (Tick line) show [] refl st) (literal_stands whole before part bytes [] refl st)))
+
+    ending_does : (one : Ending) → Stands whole before (ending_piece line one before) → Does whole (end_of before) s (end_of (joined before (ending_piece line one before))) (spend line s (finish one))
+    ending_does ending.StopRun st =
+        let part = stop_run_piece line before in
+        tick_does line (end_of before) (end_of (joined before part)) s (finish ending.StopRun) (first_stands whole before part (Tick line) (Stop ∷ []) refl st) (λ t.
+        stop_does (end_of before + 1) (end_of (joined before part)) t (second_stands whole before part (Tick line) Stop [] refl st))
+
+    verb_does : {S : Type 0} (run : S → State → Outcome) (one : Verb S) → Stands whole before (verb_piece line one before)
+        → Does whole (end_of before) s (end_of (joined before (verb_piece line one before))) (spend line s (step run one))
+    verb_does run (verb.Text one) st = text_does one st
+    verb_does run (verb.Ending one inside) st = ending_does one st
+
   statement_does : (depth : ℕ) (one : Statement) (before : Code) (s : State) → Stands whole before (statement_piece one before) → Does whole (end_of before) s (end_of (joined before (statement_piece one before))) (exec (suc depth) one s)
-  statement_does depth (statement.Display place operands advancing) before s st =
-      let bytes = shown_display operands advancing in
-      let part = display_piece place.line bytes before in
-      let show = Show (record { number = length before.literals }) in
-      tick_does place.line (end_of before) (end_of (joined before part)) s (step (exec depth) (statement.Display place operands advancing)) (first_stands whole before part (Tick place.line) (show ∷ []) refl st) (λ t.
-      moved (end_of before + 1) (end_of before + 1 + 1) (end_of (joined before part)) t (Done (showing bytes t)) (two_more before (Tick place.line) show part refl)
-      (show_does (end_of before + 1) (length before.literals) bytes t (second_stands whole before part (Tick place.line) show [] refl st) (literal_stands whole before part bytes [] refl st)))
-  statement_does depth (statement.StopRun place) before s st =
-      let part = stop_run_piece place.line before in
-      tick_does place.line (end_of before) (end_of (joined before part)) s (step (exec depth) (statement.StopRun place)) (first_stands whole before part (Tick place.line) (Stop ∷ []) refl st) (λ t.
-      stop_does (end_of before + 1) (end_of (joined before part)) t (second_stands whole before part (Tick place.line) Stop [] refl st))
+  statement_does depth one before s st = verb_does (out-Statement one).place.line before s (exec depth) (out-Statement one).verb st
 
   -- what is known of the parts of a list
   record Follows {A : Type 0} (run : A → State → Outcome) (piece : A → Piece) : Type 0 where

@@ -3,15 +3,18 @@ use Rattle.std.proofs.Common.{◌≡◌, ℕ, ◌+◌, ◌-◌, ◌≤◌, List,
 use Rattle.std.specs.Prelude.{slice_get}
 use Rattle.std.specs.List.{AllByRecursion}
 use Rattle.std.proofs.lemmas.List.Elements.{All-from_recursion}
-use Rattle.source_tree.specs.declared.statement.Statement.{Statement}
-use Rattle.source_tree.specs.declared.statement.Statement.TheVariants as statement
+use Rattle.source_tree.specs.declared.text.Text.TheVariants as text
+use Rattle.source_tree.specs.declared.ending.Ending.TheVariants as ending
+use Rattle.source_tree.specs.declared.statement.Verb.{Verb}
+use Rattle.source_tree.specs.declared.statement.Verb.TheVariants as verb
+use Rattle.source_tree.specs.declared.statement.Statement.{Statement, out-Statement}
 use Rattle.source_tree.specs.declared.program.Program.{Program}
 use Rattle.source_tree.specs.declared.program.Paragraph.{Paragraph}
 use Rattle.code_image.specs.declared.code.Code.{Code}
 use Rattle.code_image.specs.declared.instruction.Instruction.{Instruction}
 use Rattle.code_image.specs.declared.instruction.Instruction.TheVariants.{Tick, Show, Stop}
 use Rattle.code_image.specs.Demands.{NamesLiteral, IsAddress, IsVerified}
-use Rattle.codegen.specs.Layout.{Piece, nothing, joined, in_order, statement_piece, sentence_piece, start_piece, paragraph_piece, section_piece, end_piece, code_of}
+use Rattle.codegen.specs.Layout.{Piece, nothing, joined, in_order, verb_piece, statement_piece, sentence_piece, start_piece, paragraph_piece, section_piece, end_piece, code_of}
 use Rattle.codegen.proofs.Standing.{at_seam}
 
 all_weaker : {A : Type 0} (P Q : A → Type 0) → ((x : A) → P x → Q x) → (xs : List A) → AllByRecursion P xs → AllByRecursion Q xs
@@ -54,9 +57,12 @@ in_order_sound : {A : Type 0} (piece : A → Piece) → AreSound piece → (all 
 in_order_sound piece f [] before = record { literals = tt; starts = tt }
 in_order_sound piece f (one ∷ more) before = both before (piece one before) (in_order piece more (joined before (piece one before))) (f.by one before) (in_order_sound piece f more (joined before (piece one before)))
 
+verb_sound : {S : Type 0} (line : ℕ) (one : Verb S) (before : Code) → IsSound before (verb_piece line one before)
+verb_sound line (verb.Text (text.Display operands advancing)) before = record { literals = (tt, (omega arith, tt)); starts = tt }
+verb_sound line (verb.Ending ending.StopRun inside) before = record { literals = (tt, (tt, tt)); starts = tt }
+
 statement_sound : (one : Statement) (before : Code) → IsSound before (statement_piece one before)
-statement_sound (statement.Display place operands advancing) before = record { literals = (tt, (omega arith, tt)); starts = tt }
-statement_sound (statement.StopRun place) before = record { literals = (tt, (tt, tt)); starts = tt }
+statement_sound one before = verb_sound (out-Statement one).place.line (out-Statement one).verb before
 
 sentences_sound : AreSound sentence_piece
 sentences_sound = record { by = λ one before. in_order_sound statement_piece (record { by = statement_sound }) one.statements before }

@@ -5,12 +5,13 @@ use code_image::{Code, ImageError, Instruction, LiteralIndex, from_bytes, to_byt
 use codegen::generate;
 use machine::{Ended, Machine, Refusal};
 use source_tree::{
-    Literal, LiteralValue, Name, NumericLiteral, Operand, Paragraph, Place, Program, Section,
-    Sentence, Sign, Statement,
+    Ending, Figurative, Literal, LiteralValue, Name, NumericLiteral, Paragraph, Place, Program,
+    Section, Sentence, Sign, Statement, Text, Verb,
 };
 use sqlite_items::Items;
 use station::MemoryStation;
 use std::alloc::{AllocError, Global};
+use std::marker::PhantomData;
 use std::test::Fail;
 
 const DAY: [u8; 6] = *b"000000";
@@ -28,30 +29,50 @@ fn list<T: Drop>(alloc: Global, item: T) -> Result<Items<T>, AllocError> {
     Ok(items)
 }
 
-fn text(alloc: Global, line: u32, bytes: &[u8]) -> Result<Operand, AllocError> {
-    Ok(Operand::Literal(Literal {
+fn text(alloc: Global, line: u32, bytes: &[u8]) -> Result<Literal, AllocError> {
+    Ok(Literal {
         value: LiteralValue::Nonnumeric(Items::from_slice(alloc, bytes)?),
         place: place(line),
-    }))
+    })
 }
 
-fn number(alloc: Global, sign: Sign, whole: &[u8], decimals: &[u8]) -> Result<Operand, AllocError> {
-    Ok(Operand::Literal(Literal {
+fn number(alloc: Global, sign: Sign, whole: &[u8], decimals: &[u8]) -> Result<Literal, AllocError> {
+    Ok(Literal {
         value: LiteralValue::Numeric(NumericLiteral {
             sign,
             whole: Items::from_slice(alloc, whole)?,
             decimals: Items::from_slice(alloc, decimals)?,
         }),
         place: place(1),
-    }))
+    })
 }
 
 fn display(alloc: Global, line: u32, bytes: &[u8]) -> Result<Statement, AllocError> {
-    Ok(Statement::Display {
+    Ok(Statement {
         place: place(line),
-        operands: list(alloc, text(alloc, line, bytes)?)?,
-        advancing: true,
+        verb: Verb::Text(Text::Display {
+            operands: list(alloc, text(alloc, line, bytes)?)?,
+            advancing: true,
+        }),
     })
+}
+
+/// DISPLAY with NO ADVANCING.
+fn unended(operands: Items<Literal>) -> Statement {
+    Statement {
+        place: place(5),
+        verb: Verb::Text(Text::Display {
+            operands,
+            advancing: false,
+        }),
+    }
+}
+
+fn stop_run(line: u32) -> Statement {
+    Statement {
+        place: place(line),
+        verb: Verb::Ending(Ending::StopRun, PhantomData),
+    }
 }
 
 /// One paragraph of one sentence.
@@ -76,7 +97,7 @@ fn program(alloc: Global, statements: Items<Statement>) -> Result<Program, Alloc
 /// DISPLAY "HELLO". STOP RUN.
 fn hello(alloc: Global) -> Result<Code, AllocError> {
     let mut statements = list(alloc, display(alloc, 5, b"HELLO")?)?;
-    statements.push(Statement::StopRun { place: place(6) })?;
+    statements.push(stop_run(6))?;
     generate(alloc, &program(alloc, statements)?)
 }
 
@@ -85,7 +106,7 @@ fn three_shows(alloc: Global) -> Result<Code, AllocError> {
     let mut statements = list(alloc, display(alloc, 5, b"A")?)?;
     statements.push(display(alloc, 6, b"BC")?)?;
     statements.push(display(alloc, 7, b"D")?)?;
-    statements.push(Statement::StopRun { place: place(8) })?;
+    statements.push(stop_run(8))?;
     generate(alloc, &program(alloc, statements)?)
 }
 
@@ -144,15 +165,35 @@ fn literals_are_shown_as_written(rt: HostRuntime) -> Result<(), Fail> {
     operands.push(text(alloc, 5, b"it's")?)?;
     operands.push(number(alloc, Sign::Minus, b"007", b"")?)?;
     operands.push(number(alloc, Sign::Plus, b"", b"5")?)?;
-    let statement = Statement::Display {
-        place: place(5),
-        operands,
-        advancing: false,
-    };
+    let statement = unended(operands);
     let code = generate(alloc, &program(alloc, list(alloc, statement)?)?)?;
     let (ended, shown) = run(alloc, code, 1)?;
     same(&rt, ended, Ended::Stopped);
     same(&rt, shown.as_slice(), b"A12.50it's-007+.5".as_slice());
+    Ok(())
+}
+
+/// A figurative constant is shown once (COBOL-85, Nucleus, "The DISPLAY statement").
+#[test]
+fn figurative_constants_are_shown_once(rt: HostRuntime) -> Result<(), Fail> {
+    let alloc = rt.alloc();
+    let rows: [(Figurative, &[u8]); 5] = [
+        (Figurative::Zero, b"0"),
+        (Figurative::Space, b" "),
+        (Figurative::HighValue, b"\xff"),
+        (Figurative::LowValue, b"\x00"),
+        (Figurative::Quote, b"\""),
+    ];
+    for (constant, bytes) in rows.iter() {
+        let operand = Literal {
+            value: LiteralValue::Figurative(*constant),
+            place: place(5),
+        };
+        let statement = unended(list(alloc, operand)?);
+        let code = generate(alloc, &program(alloc, list(alloc, statement)?)?)?;
+        let (_, shown) = run(alloc, code, 1)?;
+        same(&rt, shown.as_slice(), *bytes);
+    }
     Ok(())
 }
 

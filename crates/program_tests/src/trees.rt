@@ -3,7 +3,7 @@
 use crate::asserted::{same, same_in};
 use divisions::{ParseFault, parse};
 use source_lines::logical;
-use source_tree::{Operand, Program, Statement};
+use source_tree::{Ending, Program, Statement, Text, Verb};
 use std::alloc::{AllocError, Global};
 use std::test::Fail;
 use tokens::scan;
@@ -135,18 +135,19 @@ fn push_text(to: &mut String, bytes: &[u8]) -> Result<(), AllocError> {
 }
 
 fn push_statement(to: &mut String, alloc: Global, statement: &Statement) -> Result<(), AllocError> {
-    match statement {
-        Statement::Display {
-            operands,
-            advancing,
-            ..
-        } => {
+    match &statement.verb {
+        Verb::Text(
+            Text::Display {
+                operands,
+                advancing,
+            },
+        ) => {
             let end = if *advancing { "+" } else { "-" };
             to.push_str(format!(in alloc; "D{}{end}", operands.len())?.as_str())?;
         }
-        Statement::StopRun { .. } => to.push_str("S")?,
+        Verb::Ending(Ending::StopRun, _) => to.push_str("S")?,
     }
-    let place = statement.place();
+    let place = statement.place;
     to.push_str(format!(in alloc; "@{}:{}", place.line, place.column)?.as_str())
 }
 
@@ -229,10 +230,9 @@ fn operands_in_order(rt: HostRuntime) -> Result<(), Fail> {
         for paragraph in section.paragraphs.as_slice() {
             for sentence in paragraph.sentences.as_slice() {
                 for statement in sentence.statements.as_slice() {
-                    if let Statement::Display { operands, .. } = statement {
+                    if let Verb::Text(Text::Display { operands, .. }) = &statement.verb {
                         for operand in operands.as_slice() {
-                            let Operand::Literal(literal) = operand;
-                            columns.push(literal.place.column)?;
+                            columns.push(operand.place.column)?;
                         }
                     }
                 }

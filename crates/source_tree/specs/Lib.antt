@@ -1,4 +1,3 @@
-pub mod Places
 pub mod Given
 pub mod State
 pub mod Display
