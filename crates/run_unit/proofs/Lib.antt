@@ -1,5 +1,8 @@
--- From a source text to its tree
-pub mod Stages
+-- From a source text to its image
+pub mod Compiling
 
 -- From an image to its run
-pub mod Loading
+pub mod Images
+
+-- At most one tree, and at most one run
+pub mod Uniqueness

@@ -7,7 +7,7 @@ use Rattle.code_image.specs.Table.{Runs}
 use Rattle.code_image.proofs.Determinism.{one_run}
 use Rattle.codegen.specs.Layout.{code_of}
 use Rattle.codegen.proofs.Simulation.{runs}
-use Rattle.codegen.proofs.Sound.{verified}
+use Rattle.codegen.proofs.Demands.{verified}
 use Rattle.codegen.proofs.program.generate.Goals as goal
 
 pub returns-clause-ends : goal.returns-clause-ends

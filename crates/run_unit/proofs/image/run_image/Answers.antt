@@ -3,7 +3,7 @@ use Rattle.station.proofs.Spans.{stays}
 use Rattle.machine.specs.Ends.{code_of}
 use Rattle.machine.proofs.Moments.{at_begin}
 use Rattle.run_unit.specs.Ends.{EndsAs, ForImage, IfUnbegun}
-use Rattle.run_unit.proofs.Loading.{runs_as, ends_as, for_image, begun}
+use Rattle.run_unit.proofs.Images.{runs_as, ends_as, for_image, begun}
 use Rattle.run_unit.proofs.image.run_image.Goals as goal
 
 pub returns-in-Ok-clause-ends : goal.returns-in-Ok-clause-ends

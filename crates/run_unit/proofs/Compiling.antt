@@ -36,9 +36,6 @@ OneFormat = (source : List ℕ) (given : List Character) → HasCharacters sourc
 abbrev pub OneScan : Type 0
 OneScan = (characters : List Character) (found : List Token) → TokensOf characters found → tokens characters ≡ Ok found
 
-abbrev pub OneSpelling : Type 0
-OneSpelling = (depth depth' : ℕ) (tree tree' : Program) (found : List Token) → Spells depth tree found → Spells depth' tree' found → tree ≡ tree'
-
 -- the tokens of a source text with this tree spell it
 pub spelled_by : OneFormat → OneScan → (source : List ℕ) (tree : Program) → IsTreeOf source tree
     → (characters : List Character) (found : List Token) → characters_of source ≡ Ok characters → tokens characters ≡ Ok found → Spells max_nesting tree found
@@ -47,12 +44,6 @@ spelled_by format scan source tree is characters found read scanned =
     let same_tokens : is.tokens ≡ found =
     value (scan is.characters is.tokens is.scanned) (subst (λ c. tokens c ≡ Ok found) (sym same_characters) scanned) in
     subst (λ t. Spells max_nesting tree t) same_tokens is.spelled
-
-pub one : OneFormat → OneScan → OneSpelling → (source : List ℕ) (tree other : Program) → IsTreeOf source tree → IsTreeOf source other → tree ≡ other
-one format scan spelling source tree other a b =
-    spelling max_nesting max_nesting tree other b.tokens
-    (spelled_by format scan source tree a b.characters b.tokens (format source b.characters b.format) (scan b.characters b.tokens b.scanned))
-    b.spelled
 
 -- where a tree of the greatest depth spells the tokens, only memory refuses it
 pub tree_refusal : (tree : Program) (e : ParseFault) → IsAnswer max_nesting tree (Err e) → IsTreeAnswer tree (Err (from_tree e))

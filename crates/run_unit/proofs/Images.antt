@@ -26,18 +26,14 @@ use Rattle.code_image.specs.Spelling.{spelling, HasSpelling}
 use Rattle.code_image.specs.Reading.{code_at}
 use Rattle.code_image.specs.Table.{Runs}
 use Rattle.run_unit.specs.Images.{IsImageOf, IsImage, RefusesImage, HasRun, MeansAs}
-use Rattle.run_unit.proofs.Stages.{value}
+use Rattle.run_unit.proofs.Compiling.{value}
 
 -- what `spelling_law` says
 abbrev pub OneSpelling : Type 0
 OneSpelling = (code : Code) → HasSpelling code → code_at (spelling code) ≡ Ok code
 
-read_again : OneSpelling → (image : List ℕ) (code : Code) → IsImageOf image code → code_at image ≡ Ok code
+pub read_again : OneSpelling → (image : List ℕ) (code : Code) → IsImageOf image code → code_at image ≡ Ok code
 read_again spelt image code is = ap code_at is.bytes ∙ spelt code is.spelt
-
--- an image is of one code
-pub one_code : OneSpelling → (image : List ℕ) (code other : Code) → IsImageOf image code → IsImageOf image other → code ≡ other
-one_code spelt image code other a b = value (read_again spelt image code a) (read_again spelt image other b)
 
 -- verified code breaks no demand
 keeps_demands : (code : Code) (fault : ImageFault) → IsVerified code → Refuses code fault → ⊥
@@ -75,12 +71,6 @@ pub begun : (fact : Type 0) (ended : MachineEnded) → IfUnbegun (ended_of ended
 begun fact machine.Stopped = tt
 begun fact machine.Budget = tt
 begun fact (machine.Refused refused.Device) = tt
-
--- and has one run with what it is given
-pub one_run : OneSpelling → ((code : Code) (given : Given) (run other : Run) → Runs code given run → Runs code given other → run ≡ other)
-    → (image : List ℕ) (given : Given) (run other : Run) → HasRun image given run → HasRun image given other → run ≡ other
-one_run spelt law image given run other a b =
-    law b.code given run other (subst (λ c. Runs c given run) (one_code spelt image a.code b.code a.is b.is) a.runs) b.runs
 
 -- what is written of a tree's code is an image that means the same
 pub made : (tree : Program) (code : Code) (written : Result (Vec ℕ Global) AllocError) → ((given : Given) → Runs code given (meaning tree given)) → IsVerified code

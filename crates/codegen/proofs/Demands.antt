@@ -30,12 +30,12 @@ more_literals m n (Tick line) le h = tt
 more_literals m n (Show literal) le h = omega arith
 more_literals m n Stop le h = tt
 
--- A part names literals that stand before it or in it, and places up to its end.
-record IsSound (before part : Code) : Type 0 where
+-- A part names literals that stand before it or in it, and addresses up to its end.
+record Meets (before part : Code) : Type 0 where
   literals : AllByRecursion (NamesLiteral (length before.literals + length part.literals)) part.instructions
   starts : AllByRecursion (λ start. start ≤ length before.instructions + length part.instructions) part.starts
 
-both : (before a b : Code) → IsSound before a → IsSound (joined before a) b → IsSound before (joined a b)
+both : (before a b : Code) → Meets before a → Meets (joined before a) b → Meets before (joined a b)
 both before a b f s =
     let l1 = length-append before.literals a.literals in
     let l2 = length-append a.literals b.literals in
@@ -50,36 +50,36 @@ both before a b f s =
           (all_weaker (λ start. start ≤ length (before.instructions ++ a.instructions) + length b.instructions) (λ start. start ≤ length before.instructions + length (a.instructions ++ b.instructions)) (λ start h. omega (arith, i1, i2)) b.starts s.starts);
     }
 
-record AreSound {A : Type 0} (piece : A → Piece) : Type 0 where
-  by : (one : A) (before : Code) → IsSound before (piece one before)
+record AllMeet {A : Type 0} (piece : A → Piece) : Type 0 where
+  by : (one : A) (before : Code) → Meets before (piece one before)
 
-in_order_sound : {A : Type 0} (piece : A → Piece) → AreSound piece → (all : List A) (before : Code) → IsSound before (in_order piece all before)
-in_order_sound piece f [] before = record { literals = tt; starts = tt }
-in_order_sound piece f (one ∷ more) before = both before (piece one before) (in_order piece more (joined before (piece one before))) (f.by one before) (in_order_sound piece f more (joined before (piece one before)))
+in_order_meets : {A : Type 0} (piece : A → Piece) → AllMeet piece → (all : List A) (before : Code) → Meets before (in_order piece all before)
+in_order_meets piece f [] before = record { literals = tt; starts = tt }
+in_order_meets piece f (one ∷ more) before = both before (piece one before) (in_order piece more (joined before (piece one before))) (f.by one before) (in_order_meets piece f more (joined before (piece one before)))
 
-verb_sound : {S : Type 0} (line : ℕ) (one : Verb S) (before : Code) → IsSound before (verb_piece line one before)
-verb_sound line (verb.Text (text.Display operands advancing)) before = record { literals = (tt, (omega arith, tt)); starts = tt }
-verb_sound line (verb.Ending ending.StopRun inside) before = record { literals = (tt, (tt, tt)); starts = tt }
+verb_meets : {S : Type 0} (line : ℕ) (one : Verb S) (before : Code) → Meets before (verb_piece line one before)
+verb_meets line (verb.Text (text.Display operands advancing)) before = record { literals = (tt, (omega arith, tt)); starts = tt }
+verb_meets line (verb.Ending ending.StopRun inside) before = record { literals = (tt, (tt, tt)); starts = tt }
 
-statement_sound : (one : Statement) (before : Code) → IsSound before (statement_piece one before)
-statement_sound one before = verb_sound (out-Statement one).place.line (out-Statement one).verb before
+statement_meets : (one : Statement) (before : Code) → Meets before (statement_piece one before)
+statement_meets one before = verb_meets (out-Statement one).place.line (out-Statement one).verb before
 
-sentences_sound : AreSound sentence_piece
-sentences_sound = record { by = λ one before. in_order_sound statement_piece (record { by = statement_sound }) one.statements before }
+sentences_meets : AllMeet sentence_piece
+sentences_meets = record { by = λ one before. in_order_meets statement_piece (record { by = statement_meets }) one.statements before }
 
-paragraph_sound : (one : Paragraph) (before : Code) → IsSound before (paragraph_piece one before)
-paragraph_sound one before =
+paragraph_meets : (one : Paragraph) (before : Code) → Meets before (paragraph_piece one before)
+paragraph_meets one before =
     both before (start_piece before) (in_order sentence_piece one.sentences (joined before (start_piece before))) (record { literals = tt; starts = (omega arith, tt) })
-    (in_order_sound sentence_piece sentences_sound one.sentences (joined before (start_piece before)))
+    (in_order_meets sentence_piece sentences_meets one.sentences (joined before (start_piece before)))
 
-sections_sound : AreSound section_piece
-sections_sound = record { by = λ one before. in_order_sound paragraph_piece (record { by = paragraph_sound }) one.paragraphs before }
+sections_meets : AllMeet section_piece
+sections_meets = record { by = λ one before. in_order_meets paragraph_piece (record { by = paragraph_meets }) one.paragraphs before }
 
 pub verified : (program : Program) → IsVerified (code_of program)
 verified program =
     let body = in_order section_piece program.sections nothing in
-    let sound = in_order_sound section_piece sections_sound program.sections nothing in
-    let whole = both nothing body end_piece sound (record { literals = (tt, tt); starts = tt }) in
+    let met = in_order_meets section_piece sections_meets program.sections nothing in
+    let whole = both nothing body end_piece met (record { literals = (tt, tt); starts = tt }) in
     let n = length-append body.instructions (Stop ∷ []) in
     let l = length-append body.literals [] in
     let count : length (body.instructions ++ Stop ∷ []) - 1 ≡ length body.instructions = omega (arith, n) in
@@ -89,7 +89,7 @@ verified program =
             (all_weaker (NamesLiteral (0 + length (code_of program).literals)) (NamesLiteral (length (code_of program).literals)) (λ i h. more_literals _ _ i (omega arith) h) (code_of program).instructions whole.literals);
         starts = All-from_recursion (IsAddress (length (code_of program).instructions)) (code_of program).starts
             (all_both (IsAddress (length (code_of program).instructions)) body.starts []
-            (all_weaker (λ start. start ≤ 0 + length body.instructions) (IsAddress (length (code_of program).instructions)) (λ start h. omega (arith, n)) body.starts sound.starts) tt);
+            (all_weaker (λ start. start ≤ 0 + length body.instructions) (IsAddress (length (code_of program).instructions)) (λ start h. omega (arith, n)) body.starts met.starts) tt);
       };
       stops = ap (slice_get (code_of program).instructions) count ∙ at_seam body.instructions Stop [];
     }
