@@ -26,7 +26,7 @@ use Rattle.code_image.specs.Spelling.{spelling, HasSpelling}
 use Rattle.code_image.specs.Reading.{code_at}
 use Rattle.code_image.specs.Table.{Runs}
 use Rattle.run_unit.specs.Images.{IsImageOf, IsImage, RefusesImage, HasRun, MeansAs}
-use Rattle.run_unit.proofs.Compiling.{value}
+use Rattle.run_unit.proofs.Stages.{value}
 
 -- what `spelling_law` says
 abbrev pub OneSpelling : Type 0
@@ -76,7 +76,7 @@ begun fact (machine.Refused refused.Device) = tt
 pub made : (tree : Program) (code : Code) (written : Result (Vec ℕ Global) AllocError) → ((given : Given) → Runs code given (meaning tree given)) → IsVerified code
     → IfOk written (λ bytes. bytes.items ≡ spelling code) → OnOk written (HasSpelling code) → IfOk written (λ image. MeansAs tree image.items)
 made tree code (Ok image) ends verified bytes spelt =
-    λ given. record { code = code; is = record { bytes = bytes; spelt = spelt; verified = verified }; runs = ends budget }
+    λ given. record { code = code; is = record { bytes = bytes; spelt = spelt; verified = verified }; runs = ends given }
 made tree code (Err e) ends verified bytes spelt = tt
 
 -- a machine that was loaded has the run of its code, on its day

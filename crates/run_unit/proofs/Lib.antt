@@ -1,5 +1,5 @@
 -- From a source text to its image
-pub mod Compiling
+pub mod Stages
 
 -- From an image to its run
 pub mod Images

@@ -10,7 +10,7 @@ use Rattle.code_image.specs.declared.code.Code.{Code}
 use Rattle.code_image.specs.Table.{Runs}
 use Rattle.run_unit.specs.Trees.{IsTreeOf}
 use Rattle.run_unit.specs.Images.{IsImageOf, HasRun}
-use Rattle.run_unit.proofs.Compiling.{value, OneFormat, OneScan, spelled_by}
+use Rattle.run_unit.proofs.Stages.{value, OneFormat, OneScan, spelled_by}
 use Rattle.run_unit.proofs.Images.{OneSpelling, read_again}
 
 -- what `one_tree` says

@@ -1,7 +1,7 @@
 use Rattle.std.proofs.Common.{subst}
 use Rattle.std.proofs.lemmas.Result.{err_from_is_err_and}
 use Rattle.run_unit.specs.Images.{MeansAs}
-use Rattle.run_unit.proofs.Compiling.{image_refusal}
+use Rattle.run_unit.proofs.Stages.{image_refusal}
 use Rattle.run_unit.proofs.compiling.compile.Goals as goal
 
 pub returns-in_err-tree-clause-only : goal.returns-in_err-tree-clause-only

@@ -3,7 +3,7 @@ use Rattle.std.proofs.lemmas.Result.{err_from_is_err_and}
 use Rattle.tokens.specs.Tokens.{TokensOf}
 use Rattle.statements.specs.Spelling.{max_nesting}
 use Rattle.divisions.specs.Spelling.{Spells}
-use Rattle.run_unit.proofs.Compiling.{spelled_by, tree_refusal}
+use Rattle.run_unit.proofs.Stages.{spelled_by, tree_refusal}
 use Rattle.run_unit.proofs.compiling.read_tree.Goals as goal
 
 pub returns-in_err-tree-clause-only : goal.returns-in_err-tree-clause-only

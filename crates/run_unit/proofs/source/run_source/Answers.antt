@@ -3,7 +3,7 @@ use Rattle.std.proofs.lemmas.Result.{err_from_is_err_and}
 use Rattle.station.proofs.Spans.{stays}
 use Rattle.machine.proofs.Moments.{at_begin}
 use Rattle.run_unit.specs.Images.{IsImage}
-use Rattle.run_unit.proofs.Compiling.{memory_alone}
+use Rattle.run_unit.proofs.Stages.{memory_alone}
 use Rattle.run_unit.proofs.Images.{end_of_image}
 use Rattle.run_unit.proofs.source.run_source.Goals as goal
 
