@@ -2,7 +2,9 @@ use Rattle.std.proofs.Common.{[], sym, subst}
 use Rattle.std.proofs.lemmas.Result.{err_from_is_err_and}
 use Rattle.station.proofs.Spans.{stays}
 use Rattle.machine.proofs.Moments.{at_begin}
-use Rattle.run_unit.specs.Images.{IsImage}
+use Rattle.source_tree.specs.Given.{given_on}
+use Rattle.source_tree.specs.Meaning.{meaning}
+use Rattle.run_unit.specs.Images.{IsImage, HasRun}
 use Rattle.run_unit.proofs.Stages.{memory_alone}
 use Rattle.run_unit.proofs.Images.{end_of_image}
 use Rattle.run_unit.proofs.source.run_source.Goals as goal
@@ -14,6 +16,12 @@ returns-in_err-image-clause-only g c =
 
 pub returns-in_err-image-clause-moments : goal.returns-in_err-image-clause-moments
 returns-in_err-image-clause-moments g c = λ honest tree is. stays _ _ _ (at_begin _ (g.S.Device.state c.args.station.now))
+
+pub returns-clause-moments : goal.returns-clause-moments
+returns-clause-moments g c = λ honest tree is.
+    let given = given_on (g.S.Device.state c.args.station.now) c.args.day c.args.budget in
+    c.run_image.ensures.moments honest (meaning tree given)
+    (subst (λ bytes. HasRun bytes given (meaning tree given)) (sym c.as_slice.ensures.value) (c.in_ok-image.ensures.only tree is given))
 
 pub returns-clause-own : goal.returns-clause-own
 returns-clause-own g c =
