@@ -1,13 +1,13 @@
 //! How a run ends, in the words of a row.
 
-use run_unit::{CompileFault, Ended};
+use run_unit::{CompileError, Ended};
 use std::fmt;
 
 /// What came of a source text.
 #[derive(Clone, Copy)]
 pub enum Ending {
     Run(Ended),
-    Compile(CompileFault),
+    Compile(CompileError),
 }
 
 impl fmt::Display for Ending {
@@ -19,8 +19,8 @@ impl fmt::Display for Ending {
                 let number = refusal.number();
                 write!(f, "refused {number}")
             }
-            Ending::Compile(CompileFault::Memory) => write!(f, "out of memory"),
-            Ending::Compile(CompileFault::Refused(fault)) => {
+            Ending::Compile(CompileError::Memory) => write!(f, "out of memory"),
+            Ending::Compile(CompileError::Refused(fault)) => {
                 let line = fault.place().line;
                 let column = fault.place().column;
                 let number = fault.number();

@@ -1,5 +1,12 @@
--- The exit status of a command (own choice).
+-- How a command ends, and its exit status (own choice).
 use Rattle.std.specs.Prelude.{ℕ}
+use Rattle.run_unit.specs.Ends as run
+use Rattle.run_unit.specs.Faults as source
+use Rattle.run_unit.specs.declared.ended.Ended.{Ended}
+use Rattle.run_unit.specs.declared.ended.Ended.TheVariants as ended
+use Rattle.run_unit.specs.declared.ended.Refusal.TheVariants as refusal
+use Rattle.run_unit.specs.declared.fault.CompileError.{CompileError}
+use Rattle.run_unit.specs.declared.fault.CompileError.TheVariants as compiling
 use Rattle.cobol.specs.declared.verdict.Verdict.{Verdict}
 use Rattle.cobol.specs.declared.verdict.Verdict.TheVariants.{Done, SourceFault, WrongCommand, NotText, Refused, Budget}
 
@@ -10,3 +17,14 @@ status_of WrongCommand = 2
 status_of NotText = 2
 status_of (Refused number) = 4
 status_of Budget = 5
+
+-- how a run's end is told
+abbrev pub verdict_after : Ended → Verdict
+verdict_after ended.Stopped = Done
+verdict_after ended.Budget = Budget
+verdict_after (ended.Refused why) = Refused (run.number_of why)
+
+-- how a source text that isn't run is told
+abbrev pub verdict_refusing : CompileError → Verdict
+verdict_refusing compiling.Memory = Refused (run.number_of refusal.Memory)
+verdict_refusing (compiling.Refused fault) = SourceFault (source.place_of fault).line (source.place_of fault).column (source.number_of fault)

@@ -1,10 +1,10 @@
 //! A command: from its words to an exit status.
 
 use crate::host_station::HostStation;
-use crate::source_file::{MEMORY, read_source};
+use crate::source_file::read_source;
 use crate::verdict::Verdict;
 use crate::words::{Request, read_words};
-use run_unit::{CompileFault, Ended, compile, run_image};
+use run_unit::{compile, run_image};
 use std::alloc::Global;
 use std::convert::AsStr;
 use std::io::{BufRead, Write};
@@ -14,8 +14,6 @@ use std::rt::Files;
 const BUDGET: u64 = 1_000_000_000;
 /// The day that a program is told, YYMMDD.
 const DAY: [u8; 6] = *b"000000";
-/// The number of output that fails.
-const DEVICE: u8 = 80;
 
 /// Does what the words ask for; the first is the program's name. Console lines come from `console`, shown bytes go to `out`,
 /// and why a command was refused to `err`. The answer is the exit status.
@@ -33,7 +31,7 @@ where
             let _ = err.write_all(text.as_str().as_bytes());
             Verdict::WrongCommand
         }
-        Err(_) => Verdict::Refused(MEMORY),
+        Err(_) => Verdict::memory(),
     };
     explain(&mut err, verdict);
     verdict.status()
@@ -47,54 +45,35 @@ where
     O: Write + Drop,
 {
     match image_of(rt, path) {
-        Ok(image) => run_on_host(rt.alloc(), image.as_slice(), console, out),
+        Ok(image) => run_on_host(rt.alloc(), image.as_slice(), BUDGET, console, out),
         Err(verdict) => verdict,
     }
 }
 
 fn image_of<R: Files + AllocGlobal>(rt: &R, path: &str) -> Result<Vec<u8>, Verdict> {
     let source = read_source(rt, path)?;
-    compile(rt.alloc(), source.as_slice()).map_err(refusal)
+    compile(rt.alloc(), source.as_slice()).map_err(Verdict::refusing)
 }
 
-fn refusal(fault: CompileFault) -> Verdict {
-    match fault {
-        CompileFault::Memory => Verdict::Refused(MEMORY),
-        CompileFault::Refused(fault) => {
-            let place = fault.place();
-            Verdict::SourceFault {
-                line: place.line,
-                column: place.column,
-                number: fault.number(),
-            }
-        }
-    }
-}
-
-fn run_on_host<C: BufRead + Drop, O: Write + Drop>(
+/// Runs an image over the host's console, with this budget.
+pub fn run_on_host<C: BufRead + Drop, O: Write + Drop>(
     alloc: Global,
     image: &[u8],
+    budget: u64,
     console: C,
     out: O,
 ) -> Verdict {
     let Ok(mut station) = HostStation::new(alloc, console, out) else {
-        return Verdict::Refused(MEMORY);
+        return Verdict::memory();
     };
-    let ended = run_image(alloc, image, &mut station, DAY, BUDGET);
-    if station.flush().is_err() {
-        return Verdict::Refused(DEVICE);
-    }
-    match ended {
-        Ended::Stopped => Verdict::Done,
-        Ended::Budget => Verdict::Budget,
-        Ended::Refused(refusal) => Verdict::Refused(refusal.number()),
-    }
+    let ended = run_image(alloc, image, &mut station, DAY, budget);
+    Verdict::after(ended, station.flush())
 }
 
 /// Shows a text that was asked for.
 fn tell<O: Write>(out: &mut O, text: &str) -> Verdict {
     if out.write_all(text.as_bytes()).is_err() || out.flush().is_err() {
-        return Verdict::Refused(DEVICE);
+        return Verdict::device();
     }
     Verdict::Done
 }

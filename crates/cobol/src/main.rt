@@ -22,7 +22,7 @@ fn words_of(rt: &HostRuntime) -> Result<Vec<String>, Verdict> {
     };
     words
         .collect(rt.alloc())
-        .map_err(|_| Verdict::Refused(source_file::MEMORY))
+        .map_err(|_| Verdict::memory())
 }
 
 fn main(rt: HostRuntime) -> ExitCode {

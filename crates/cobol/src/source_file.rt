@@ -8,8 +8,6 @@ use std::{fs, io};
 
 /// The number of a host file that can't be read or written.
 const HOST_FILE: u8 = 85;
-/// The number of want of memory.
-pub const MEMORY: u8 = 83;
 /// One byte more than a source may have: what follows needn't be read to refuse it.
 const MOST_READ: u64 = 8_000_001;
 
@@ -17,7 +15,7 @@ const MOST_READ: u64 = 8_000_001;
 pub fn read_source<R: Files + AllocGlobal>(rt: &R, path: &str) -> Result<Vec<u8>, Verdict> {
     match read_bytes(rt, path) {
         Ok(bytes) => Ok(bytes),
-        Err(error) if error.kind() == ErrorKind::OutOfMemory => Err(Verdict::Refused(MEMORY)),
+        Err(error) if error.kind() == ErrorKind::OutOfMemory => Err(Verdict::memory()),
         Err(_) => Err(Verdict::Refused(HOST_FILE)),
     }
 }

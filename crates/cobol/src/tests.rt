@@ -1,6 +1,7 @@
 //! Rows of the command: what it shows, what it says, and its exit status.
 
-use crate::command::command;
+use crate::command::{command, run_on_host};
+use run_unit::compile;
 use std::alloc::{AllocError, Global};
 use std::io::Write;
 use std::test::Fail;
@@ -133,5 +134,44 @@ fn output_that_fails(rt: HostRuntime) -> Result<(), Fail> {
     fs::remove_file(&rt, "shown.cob")?;
     assert_eq!(rt; status, 4);
     assert_eq!(rt; err.as_slice(), b"refused 80\n".as_slice());
+    Ok(())
+}
+
+/// A writer that takes all that it is given, and fails only when it is flushed.
+#[derive(Drop)]
+struct FailsAtFlush;
+
+impl Write for FailsAtFlush {
+    fn write(&mut self, buf: &[u8]) -> io::Result<usize> {
+        Ok(buf.len())
+    }
+
+    fn flush(&mut self) -> io::Result<()> {
+        Err(io::Error::from(io::ErrorKind::StorageFull))
+    }
+}
+
+#[test]
+fn output_that_fails_at_the_last_flush(rt: HostRuntime) -> Result<(), Fail> {
+    fs::write(&rt, "flushed.cob", displays(rt.alloc(), 1)?)?;
+    let mut err = Vec::new(rt.alloc());
+    let words = words_of(rt.alloc(), &["flushed.cob"])?;
+    let status = command(&rt, words.as_slice(), io::empty(), FailsAtFlush, &mut err);
+    fs::remove_file(&rt, "flushed.cob")?;
+    assert_eq!(rt; status, 4);
+    assert_eq!(rt; err.as_slice(), b"refused 80\n".as_slice());
+    Ok(())
+}
+
+/// Three statements with a budget of two: two are done, and the exit status is 5.
+#[test]
+fn a_budget_that_is_used_up(rt: HostRuntime) -> Result<(), Fail> {
+    let alloc = rt.alloc();
+    let mut out = Vec::new(alloc);
+    let source = displays(alloc, 3)?;
+    let image = compile(alloc, source.as_str().as_bytes())?;
+    let verdict = run_on_host(alloc, image.as_slice(), 2, io::empty(), &mut out);
+    assert_eq!(rt; verdict.status(), 5);
+    assert_eq!(rt; out.as_slice(), b"AA".as_slice());
     Ok(())
 }

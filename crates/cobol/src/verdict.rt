@@ -1,9 +1,12 @@
 //! What a command answers: a line on standard error, and an exit status.
 
-ghost use Rattle.std.specs.Prelude.{◌≡◌};
-ghost use Rattle.cobol.specs.Status.{status_of};
+ghost use Rattle.std.specs.Prelude.{◌≡◌, OnOk, OnErr};
+ghost use Rattle.cobol.specs.Status.{status_of, verdict_after, verdict_refusing};
 
+use run_unit::{CompileError, Ended, Refusal};
+use station::DeviceError;
 use std::fmt;
+
 
 /// How a command ended.
 #[derive(Clone, Copy, Debug, PartialEq, Eq)]
@@ -23,6 +26,52 @@ pub enum Verdict {
 }
 
 impl Verdict {
+    /// How a run ended. Output is flushed after it; where that failed, it isn't known what was shown.
+    pub fn after(ended: Ended, flushed: Result<(), DeviceError>) -> Verdict
+        ensures told { OnOk flushed (result ≡ verdict_after ended) }
+        ensures lost { OnErr flushed (result ≡ verdict_after (Ended.Refused Refusal.Device)) }
+    {
+        if flushed.is_err() {
+            return Verdict::device();
+        }
+        match ended {
+            Ended::Stopped => Verdict::Done,
+            Ended::Budget => Verdict::Budget,
+            Ended::Refused(refusal) => Verdict::Refused(refusal.number()),
+        }
+    }
+
+    /// Why a source text wasn't run.
+    pub fn refusing(fault: CompileError) -> Verdict
+        ensures { result ≡ verdict_refusing fault }
+    {
+        match fault {
+            CompileError::Memory => Verdict::memory(),
+            CompileError::Refused(fault) => {
+                let place = fault.place();
+                Verdict::SourceFault {
+                    line: place.line,
+                    column: place.column,
+                    number: fault.number(),
+                }
+            }
+        }
+    }
+
+    /// Output failed.
+    pub fn device() -> Verdict
+        ensures { result ≡ verdict_after (Ended.Refused Refusal.Device) }
+    {
+        Verdict::Refused(Refusal::Device.number())
+    }
+
+    /// Memory ran out.
+    pub fn memory() -> Verdict
+        ensures { result ≡ verdict_after (Ended.Refused Refusal.Memory) }
+    {
+        Verdict::Refused(Refusal::Memory.number())
+    }
+
     /// The exit status.
     pub fn status(self) -> u8
         ensures { result ≡ status_of self }

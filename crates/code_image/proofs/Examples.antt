@@ -2,7 +2,7 @@
 use Rattle.std.proofs.Common.{◌≡◌, ℕ, List, [], ◌∷◌, ◌++◌, take, Some, None, Ok, Err, map, refl}
 use Rattle.station.specs.State.{Shown}
 use Rattle.source_tree.specs.State.{Stopped, Budget}
-use Rattle.source_tree.specs.Meaning.{start}
+use Rattle.code_image.specs.Points.{Point, first_point}
 use Rattle.code_image.specs.declared.code.Code.{Code}
 use Rattle.code_image.specs.declared.instruction.Instruction.TheVariants.{Tick, Show, Stop}
 use Rattle.code_image.specs.declared.fault.ImageFault.TheVariants as faults
@@ -22,25 +22,29 @@ code = record {
   instructions = Tick 5 ∷ Show (record { number = 0 }) ∷ Tick 6 ∷ Stop ∷ Stop ∷ [];
 }
 
-budget_2 : exec_code code 4 0 (start 2) ≡ Some (record { events = map Shown hello; end = Stopped })
+-- at the first instruction, on some day
+abbrev with_budget : ℕ → Point
+with_budget budget = first_point (record { budget = budget; day = 50 ∷ 54 ∷ 48 ∷ 55 ∷ 51 ∷ 48 ∷ [] })
+
+budget_2 : exec_code code 4 (with_budget 2) ≡ Some (record { events = map Shown hello; end = Stopped })
 budget_2 = refl
 
-budget_1 : exec_code code 3 0 (start 1) ≡ Some (record { events = map Shown hello; end = Budget })
+budget_1 : exec_code code 3 (with_budget 1) ≡ Some (record { events = map Shown hello; end = Budget })
 budget_1 = refl
 
-budget_0 : exec_code code 1 0 (start 0) ≡ Some (record { events = []; end = Budget })
+budget_0 : exec_code code 1 (with_budget 0) ≡ Some (record { events = []; end = Budget })
 budget_0 = refl
 
 -- three instructions aren't enough for the whole run
-not_over : exec_code code 3 0 (start 2) ≡ None
+not_over : exec_code code 3 (with_budget 2) ≡ None
 not_over = refl
 
 -- a literal outside the table ends nothing
-outside : exec_code (record { literals = []; starts = []; instructions = Show (record { number = 0 }) ∷ Stop ∷ [] }) 9 0 (start 1) ≡ None
+outside : exec_code (record { literals = []; starts = []; instructions = Show (record { number = 0 }) ∷ Stop ∷ [] }) 9 (with_budget 1) ≡ None
 outside = refl
 
 -- code that runs out ends nothing
-runs_out : exec_code (record { literals = []; starts = []; instructions = Tick 1 ∷ [] }) 9 0 (start 1) ≡ None
+runs_out : exec_code (record { literals = []; starts = []; instructions = Tick 1 ∷ [] }) 9 (with_budget 1) ≡ None
 runs_out = refl
 
 tick_spelt : instruction_bytes (Tick 258) ≡ 1 ∷ 0 ∷ 0 ∷ 1 ∷ 2 ∷ []

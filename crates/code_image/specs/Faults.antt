@@ -15,5 +15,5 @@ abbrev pub number_of : ImageFault → ℕ
 number_of faults.Mark = 70
 number_of faults.Length = 71
 number_of faults.Value = 72
-number_of faults.Place = 73
+number_of faults.Index = 73
 number_of faults.Shape = 74

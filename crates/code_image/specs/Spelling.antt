@@ -6,7 +6,7 @@ use Rattle.code_image.specs.declared.code.Code.{Code}
 use Rattle.code_image.specs.declared.instruction.Instruction.{Instruction}
 use Rattle.code_image.specs.declared.instruction.Instruction.TheVariants.{Tick, Show, Stop}
 
--- a count, a place or an index: eight bytes, the highest first
+-- a count, an address or an index: eight bytes, the highest first
 unfoldable pub count_bytes : ℕ → List ℕ
 count_bytes n = big_bytes 8 n
 

@@ -8,7 +8,7 @@ use sqlite_items::Items;
 pub struct Code {
     /// The bytes that instructions show.
     pub literals: Items<Items<u8>>,
-    /// Where each code paragraph starts: places among the instructions, counted from 0.
+    /// The address at which each code paragraph starts. An address is the index of an instruction, from 0.
     pub starts: Items<usize>,
     pub instructions: Items<Instruction>,
 }

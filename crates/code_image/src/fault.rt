@@ -14,8 +14,8 @@ pub enum ImageFault {
     Length,
     #[error("a value is out of range")]
     Value,
-    #[error("a place is outside its table")]
-    Place,
+    #[error("an index is outside its table")]
+    Index,
     #[error("the code has a shape that no program has")]
     Shape,
 }
@@ -27,7 +27,7 @@ const LENGTH: u8 = 71;
 
 const VALUE: u8 = 72;
 
-const PLACE: u8 = 73;
+const INDEX: u8 = 73;
 
 const SHAPE: u8 = 74;
 
@@ -40,7 +40,7 @@ impl ImageFault {
             ImageFault::Mark => MARK,
             ImageFault::Length => LENGTH,
             ImageFault::Value => VALUE,
-            ImageFault::Place => PLACE,
+            ImageFault::Index => INDEX,
             ImageFault::Shape => SHAPE,
         }
     }

@@ -1,6 +1,7 @@
 //! What holds of every code's run.
 
-ghost use Rattle.std.specs.Prelude.{◌≡◌, ℕ, Ok};
+ghost use Rattle.std.specs.Prelude.{◌≡◌, Ok};
+ghost use Rattle.source_tree.specs.Given.{Given};
 ghost use Rattle.source_tree.specs.Meaning.{Run};
 ghost use Rattle.code_image.specs.declared.code.Code.{Code};
 ghost use Rattle.code_image.specs.Demands.{IsVerified};
@@ -8,10 +9,10 @@ ghost use Rattle.code_image.specs.Table.{Runs};
 ghost use Rattle.code_image.specs.Spelling.{spelling, HasSpelling};
 ghost use Rattle.code_image.specs.Reading.{code_at};
 
-/// Code has at most one run with a budget. Verified code has one with each: it is never stuck.
+/// Code has at most one run with what it is given. Verified code has one, whatever that is: it is never stuck.
 pub fn run_law()
-    ensures one { (code : Code) (budget : ℕ) (run other : Run) → Runs code budget run → Runs code budget other → run ≡ other }
-    ensures ends { (code : Code) (budget : ℕ) → IsVerified code → (run : Run) × Runs code budget run }
+    ensures one { (code : Code) (given : Given) (run other : Run) → Runs code given run → Runs code given other → run ≡ other }
+    ensures ends { (code : Code) (given : Given) → IsVerified code → (run : Run) × Runs code given run }
 {}
 
 /// Code is read again from its spelling.

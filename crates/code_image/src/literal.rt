@@ -13,7 +13,7 @@ use std::alloc::{AllocError, Global};
 /// A literal of the table of literals.
 #[derive(Clone, Copy, Debug, PartialEq, Eq)]
 pub struct LiteralIndex {
-    /// Its place in the table, counted from 0.
+    /// Its index in the table, from 0.
     pub number: usize,
 }
 

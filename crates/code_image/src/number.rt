@@ -11,7 +11,7 @@ use crate::table::TableEntry;
 use byteorder::{BigEndian, ByteOrder};
 use std::alloc::{AllocError, Global};
 
-/// The bytes of a count, a place or an index.
+/// The bytes of a count, an address or an index.
 const COUNT_WIDTH: usize = 8;
 /// The bytes of a line number.
 const LINE_WIDTH: usize = 4;
@@ -56,7 +56,7 @@ pub(crate) fn read_line(bytes: &[u8]) -> Result<(u32, &[u8]), ImageError>
     Ok((BigEndian::read_u32(bytes), &bytes[LINE_WIDTH..]))
 }
 
-/// A place among the instructions.
+/// An address.
 impl TableEntry for usize {
     ghost spelled = { count_bytes };
 

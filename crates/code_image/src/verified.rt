@@ -2,7 +2,7 @@
 
 ghost use Rattle.std.specs.Prelude.{◌≡◌, ◌-◌, ◌↔◌, IsTrue, All, length, slice_get, Some, IfOk, IfErr};
 ghost use Rattle.code_image.specs.declared.instruction.Instruction.TheVariants.{Stop};
-ghost use Rattle.code_image.specs.Demands.{IsVerified, Refuses, NamesLiteral, IsPlace};
+ghost use Rattle.code_image.specs.Demands.{IsVerified, Refuses, NamesLiteral, IsAddress};
 
 use crate::code::Code;
 use crate::fault::ImageFault;
@@ -46,8 +46,8 @@ fn name_literals(instructions: &[Instruction], count: usize) -> bool
     true
 }
 
-fn are_places(starts: &[usize], count: usize) -> bool
-    ensures { IsTrue result ↔ All (IsPlace count) starts.now }
+fn are_addresses(starts: &[usize], count: usize) -> bool
+    ensures { IsTrue result ↔ All (IsAddress count) starts.now }
 {
     for start in starts {
         if *start >= count {
@@ -63,7 +63,7 @@ fn stops_last(instructions: &[Instruction]) -> bool
     matches!(instructions.last(), Some(Instruction::Stop))
 }
 
-/// Tests that a machine can run the code: each literal that it shows and each start of a paragraph is a place in its
+/// Tests that a machine can run the code: each literal that it shows and each start of a paragraph is an index in its
 /// table, and `stop` comes last. 73 where the first demand is broken, or else 74 where the other is.
 pub fn verify(code: Code) -> Result<Verified, ImageFault>
     ensures value { IfOk result (λ verified. verified ≡ code) }
@@ -72,10 +72,10 @@ pub fn verify(code: Code) -> Result<Verified, ImageFault>
 {
     let instructions = code.instructions.as_slice();
     if !name_literals(instructions, code.literals.len()) {
-        return Err(ImageFault::Place);
+        return Err(ImageFault::Index);
     }
-    if !are_places(code.starts.as_slice(), instructions.len()) {
-        return Err(ImageFault::Place);
+    if !are_addresses(code.starts.as_slice(), instructions.len()) {
+        return Err(ImageFault::Index);
     }
     if !stops_last(instructions) {
         return Err(ImageFault::Shape);

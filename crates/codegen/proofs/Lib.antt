@@ -1,4 +1,9 @@
+-- Pieces of code, and what stands where in the whole
 pub mod Pieces
 pub mod Standing
+
+-- The machine does what the tree means
 pub mod Simulation
-pub mod Sound
+
+-- A machine can run the code
+pub mod Demands

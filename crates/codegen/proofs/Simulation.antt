@@ -1,91 +1,109 @@
 -- The machine follows the meaning.
 use Rattle.std.proofs.Common.{◌≡◌, ℕ, zero, suc, ◌+◌, List, [], ◌∷◌, length, Some, refl, sym, ap, ◌∙◌, subst, arith, length-append}
 use Rattle.std.specs.Prelude.{slice_get}
-use Rattle.source_tree.specs.declared.statement.Statement.{Statement}
-use Rattle.source_tree.specs.declared.statement.Statement.TheVariants as statement
+use Rattle.source_tree.specs.declared.text.Text.{Text}
+use Rattle.source_tree.specs.declared.text.Text.TheVariants as text
+use Rattle.source_tree.specs.declared.ending.Ending.{Ending}
+use Rattle.source_tree.specs.declared.ending.Ending.TheVariants as ending
+use Rattle.source_tree.specs.declared.statement.Verb.{Verb}
+use Rattle.source_tree.specs.declared.statement.Verb.TheVariants as verb
+use Rattle.source_tree.specs.declared.statement.Statement.{Statement, out-Statement}
 use Rattle.source_tree.specs.declared.program.Paragraph.{Paragraph}
 use Rattle.source_tree.specs.declared.program.Program.{Program}
 use Rattle.source_tree.specs.Display.{shown_display}
+use Rattle.source_tree.specs.Given.{Given}
 use Rattle.source_tree.specs.State.{State, Stopped, Outcome, Done, Over, showing, then_do, spend_from, spend}
-use Rattle.source_tree.specs.Meaning.{start, told, in_turn, step, exec, sentence, paragraph, range, paragraphs, meaning}
+use Rattle.source_tree.specs.Meaning.{start, told, in_turn, texts, finish, step, exec, sentence, paragraph, range, paragraphs, meaning}
 use Rattle.code_image.specs.declared.code.Code.{Code}
 use Rattle.code_image.specs.declared.instruction.Instruction.{Instruction}
 use Rattle.code_image.specs.declared.instruction.Instruction.TheVariants.{Tick, Show, Stop}
-use Rattle.code_image.specs.Table.{over, tick_from, show_from, act, exec_code, Runs}
-use Rattle.codegen.specs.Layout.{Piece, nothing, joined, in_order, display_piece, stop_run_piece, statement_piece, sentence_piece, start_piece, paragraph_piece, end_piece, code_of}
+use Rattle.code_image.specs.Points.{at}
+use Rattle.code_image.specs.Table.{onward, over, tick_from, show_from, act, exec_code, Runs}
+use Rattle.codegen.specs.Layout.{Piece, nothing, joined, in_order, display_piece, text_piece, stop_run_piece, ending_piece, verb_piece, statement_piece, sentence_piece, start_piece, paragraph_piece, end_piece, code_of}
 use Rattle.codegen.proofs.Pieces.{joined_assoc, joined_nothing, flat}
 use Rattle.codegen.proofs.Standing.{Stands, front, back, first_stands, second_stands, literal_stands}
 
--- the place after a code
+-- the address after a code
 abbrev pub end_of : Code → ℕ
 end_of code = length code.instructions
 
--- the machine goes from one place and state to another
-pub record Comes (whole : Code) (place : ℕ) (s : State) (next : ℕ) (t : State) : Type 0 where
-  pub by : (k : ℕ) → (j : ℕ) × (exec_code whole j place s ≡ exec_code whole k next t)
+-- the machine goes from one address and state to another
+pub record Comes (whole : Code) (address : ℕ) (s : State) (next : ℕ) (t : State) : Type 0 where
+  pub by : (k : ℕ) → (j : ℕ) × (exec_code whole j (at address s) ≡ exec_code whole k (at next t))
 
--- the machine does what an outcome says: it comes to the place, or its run ends so
+-- the machine does what an outcome says: it comes to the address, or its run ends so
 abbrev pub Does : Code → ℕ → State → ℕ → Outcome → Type 0
-Does whole place s next (Done t) = Comes whole place s next t
-Does whole place s next (Over end t) = (j : ℕ) × (exec_code whole j place s ≡ Some (over end t))
+Does whole address s next (Done t) = Comes whole address s next t
+Does whole address s next (Over end t) = (j : ℕ) × (exec_code whole j (at address s) ≡ Some (over end t))
 
 module _ (whole : Code) where
-  after : (place mid next : ℕ) (s t : State) (o : Outcome) → Comes whole place s mid t → Does whole mid t next o → Does whole place s next o
-  after place mid next s t (Done u) c d = record { by = λ k. let b = d.by k in let a = c.by b.0 in (a.0, a.1 ∙ b.1) }
-  after place mid next s t (Over end u) c d = let a = c.by d.0 in (a.0, a.1 ∙ d.1)
+  after : (address mid next : ℕ) (s t : State) (o : Outcome) → Comes whole address s mid t → Does whole mid t next o → Does whole address s next o
+  after address mid next s t (Done u) c d = record { by = λ k. let b = d.by k in let a = c.by b.0 in (a.0, a.1 ∙ b.1) }
+  after address mid next s t (Over end u) c d = let a = c.by d.0 in (a.0, a.1 ∙ d.1)
 
   -- one part after another
-  then_does : (place mid next : ℕ) (s : State) (o : Outcome) (go : State → Outcome) → Does whole place s mid o → ((t : State) → Does whole mid t next (go t)) → Does whole place s next (then_do o go)
-  then_does place mid next s (Done t) go d h = after place mid next s t (go t) d (h t)
-  then_does place mid next s (Over end t) go d h = d
+  then_does : (address mid next : ℕ) (s : State) (o : Outcome) (go : State → Outcome) → Does whole address s mid o → ((t : State) → Does whole mid t next (go t)) → Does whole address s next (then_do o go)
+  then_does address mid next s (Done t) go d h = after address mid next s t (go t) d (h t)
+  then_does address mid next s (Over end t) go d h = d
 
-  moved : (place mid next : ℕ) (s : State) (o : Outcome) → mid ≡ next → Does whole place s mid o → Does whole place s next o
-  moved place mid next s o e d = subst (λ p. Does whole place s p o) e d
+  moved : (address mid next : ℕ) (s : State) (o : Outcome) → mid ≡ next → Does whole address s mid o → Does whole address s next o
+  moved address mid next s o e d = subst (λ p. Does whole address s p o) e d
 
-  moved_from : (place other next : ℕ) (s : State) (o : Outcome) → other ≡ place → Does whole other s next o → Does whole place s next o
-  moved_from place other next s o e d = subst (λ p. Does whole p s next o) e d
+  moved_from : (address other next : ℕ) (s : State) (o : Outcome) → other ≡ address → Does whole other s next o → Does whole address s next o
+  moved_from address other next s o e d = subst (λ p. Does whole p s next o) e d
 
   -- one instruction
-  one_step : (place : ℕ) (s : State) (i : Instruction) → slice_get whole.instructions place ≡ Some i → (k : ℕ) → exec_code whole (suc k) place s ≡ act whole (Some i) (exec_code whole k) place s
-  one_step place s i here k = ap (λ o. act whole o (exec_code whole k) place s) here
+  one_step : (address : ℕ) (s : State) (i : Instruction) → slice_get whole.instructions address ≡ Some i → (k : ℕ) → exec_code whole (suc k) (at address s) ≡ act whole (Some i) (exec_code whole k) (at address s)
+  one_step address s i here k = ap (λ o. act whole o (exec_code whole k) (at address s)) here
 
-  steps_to : (place next : ℕ) (s t : State) → ((k : ℕ) → exec_code whole (suc k) place s ≡ exec_code whole k next t) → Comes whole place s next t
-  steps_to place next s t h = record { by = λ k. (suc k, h k) }
+  steps_to : (address next : ℕ) (s t : State) → ((k : ℕ) → exec_code whole (suc k) (at address s) ≡ exec_code whole k (at next t)) → Comes whole address s next t
+  steps_to address next s t h = record { by = λ k. (suc k, h k) }
 
   -- one of the budget
-  tick_from_does : (left line place next : ℕ) (s : State) (go : State → Outcome) → ((k : ℕ) → exec_code whole (suc k) place s ≡ tick_from left line (exec_code whole k (place + 1)) s)
-      → ((t : State) → Does whole (place + 1) t next (go t)) → Does whole place s next (spend_from left line s go)
-  tick_from_does zero line place next s go st h = (1, st 0)
-  tick_from_does (suc n) line place next s go st h =
+  tick_from_does : (left line address next : ℕ) (s : State) (go : State → Outcome) → ((k : ℕ) → exec_code whole (suc k) (at address s) ≡ tick_from left line (onward (exec_code whole k) (at address s)) s)
+      → ((t : State) → Does whole (address + 1) t next (go t)) → Does whole address s next (spend_from left line s go)
+  tick_from_does zero line address next s go st h = (1, st 0)
+  tick_from_does (suc n) line address next s go st h =
       let t : State = record s { budget = n; line = line } in
-      after place (place + 1) next s t (go t) (steps_to place (place + 1) s t st) (h t)
+      after address (address + 1) next s t (go t) (steps_to address (address + 1) s t st) (h t)
 
-  tick_does : (line place next : ℕ) (s : State) (go : State → Outcome) → slice_get whole.instructions place ≡ Some (Tick line)
-      → ((t : State) → Does whole (place + 1) t next (go t)) → Does whole place s next (spend line s go)
-  tick_does line place next s go here h = tick_from_does s.budget line place next s go (λ k. one_step place s (Tick line) here k) h
+  tick_does : (line address next : ℕ) (s : State) (go : State → Outcome) → slice_get whole.instructions address ≡ Some (Tick line)
+      → ((t : State) → Does whole (address + 1) t next (go t)) → Does whole address s next (spend line s go)
+  tick_does line address next s go here h = tick_from_does s.budget line address next s go (λ k. one_step address s (Tick line) here k) h
 
-  stop_does : (place next : ℕ) (s : State) → slice_get whole.instructions place ≡ Some Stop → Does whole place s next (Over Stopped s)
-  stop_does place next s here = (1, one_step place s Stop here 0)
+  stop_does : (address next : ℕ) (s : State) → slice_get whole.instructions address ≡ Some Stop → Does whole address s next (Over Stopped s)
+  stop_does address next s here = (1, one_step address s Stop here 0)
 
-  show_does : (place number : ℕ) (bytes : List ℕ) (s : State) → slice_get whole.instructions place ≡ Some (Show (record { number = number })) → slice_get whole.literals number ≡ Some bytes → Does whole place s (place + 1) (Done (showing bytes s))
-  show_does place number bytes s here found =
-      steps_to place (place + 1) s (showing bytes s) (λ k. one_step place s (Show (record { number = number })) here k ∙ ap (λ b. show_from b (exec_code whole k (place + 1)) s) found)
+  show_does : (address number : ℕ) (bytes : List ℕ) (s : State) → slice_get whole.instructions address ≡ Some (Show (record { number = number })) → slice_get whole.literals number ≡ Some bytes → Does whole address s (address + 1) (Done (showing bytes s))
+  show_does address number bytes s here found =
+      steps_to address (address + 1) s (showing bytes s) (λ k. one_step address s (Show (record { number = number })) here k ∙ ap (λ b. show_from b (onward (exec_code whole k) (at address s)) s) found)
 
   two_more : (before : Code) (one two : Instruction) (part : Code) → part.instructions ≡ one ∷ two ∷ [] → end_of before + 1 + 1 ≡ end_of (joined before part)
   two_more before one two part is = let n : length (one ∷ two ∷ []) ≡ 2 = refl in omega (arith, ap length is, length-append before.instructions part.instructions)
 
+  module _ (line : ℕ) (before : Code) (s : State) where
+    text_does : (one : Text) → Stands whole before (text_piece line one before) → Does whole (end_of before) s (end_of (joined before (text_piece line one before))) (spend line s (texts one))
+    text_does (text.Display operands advancing) st =
+        let bytes = shown_display operands advancing in
+        let part = display_piece line bytes before in
+        let show = Show (record { number = length before.literals }) in
+        tick_does line (end_of before) (end_of (joined before part)) s (texts (text.Display operands advancing)) (first_stands whole before part (Tick line) (show ∷ []) refl st) (λ t.
+        moved (end_of before + 1) (end_of before + 1 + 1) (end_of (joined before part)) t (Done (showing bytes t)) (two_more before (Tick line) show part refl)
+        (show_does (end_of before + 1) (length before.literals) bytes t (second_stands whole before part (Tick line) show [] refl st) (literal_stands whole before part bytes [] refl st)))
+
+    ending_does : (one : Ending) → Stands whole before (ending_piece line one before) → Does whole (end_of before) s (end_of (joined before (ending_piece line one before))) (spend line s (finish one))
+    ending_does ending.StopRun st =
+        let part = stop_run_piece line before in
+        tick_does line (end_of before) (end_of (joined before part)) s (finish ending.StopRun) (first_stands whole before part (Tick line) (Stop ∷ []) refl st) (λ t.
+        stop_does (end_of before + 1) (end_of (joined before part)) t (second_stands whole before part (Tick line) Stop [] refl st))
+
+    verb_does : {S : Type 0} (run : S → State → Outcome) (one : Verb S) → Stands whole before (verb_piece line one before)
+        → Does whole (end_of before) s (end_of (joined before (verb_piece line one before))) (spend line s (step run one))
+    verb_does run (verb.Text one) st = text_does one st
+    verb_does run (verb.Ending one inside) st = ending_does one st
+
   statement_does : (depth : ℕ) (one : Statement) (before : Code) (s : State) → Stands whole before (statement_piece one before) → Does whole (end_of before) s (end_of (joined before (statement_piece one before))) (exec (suc depth) one s)
-  statement_does depth (statement.Display place operands advancing) before s st =
-      let bytes = shown_display operands advancing in
-      let part = display_piece place.line bytes before in
-      let show = Show (record { number = length before.literals }) in
-      tick_does place.line (end_of before) (end_of (joined before part)) s (step (exec depth) (statement.Display place operands advancing)) (first_stands whole before part (Tick place.line) (show ∷ []) refl st) (λ t.
-      moved (end_of before + 1) (end_of before + 1 + 1) (end_of (joined before part)) t (Done (showing bytes t)) (two_more before (Tick place.line) show part refl)
-      (show_does (end_of before + 1) (length before.literals) bytes t (second_stands whole before part (Tick place.line) show [] refl st) (literal_stands whole before part bytes [] refl st)))
-  statement_does depth (statement.StopRun place) before s st =
-      let part = stop_run_piece place.line before in
-      tick_does place.line (end_of before) (end_of (joined before part)) s (step (exec depth) (statement.StopRun place)) (first_stands whole before part (Tick place.line) (Stop ∷ []) refl st) (λ t.
-      stop_does (end_of before + 1) (end_of (joined before part)) t (second_stands whole before part (Tick place.line) Stop [] refl st))
+  statement_does depth one before s st = verb_does (out-Statement one).place.line before s (exec depth) (out-Statement one).verb st
 
   -- what is known of the parts of a list
   record Follows {A : Type 0} (run : A → State → Outcome) (piece : A → Piece) : Type 0 where
@@ -93,7 +111,7 @@ module _ (whole : Code) where
 
   in_order_does : {A : Type 0} (run : A → State → Outcome) (piece : A → Piece) → Follows run piece → (all : List A) (before : Code) (s : State) → Stands whole before (in_order piece all before)
       → Does whole (end_of before) s (end_of (joined before (in_order piece all before))) (in_turn run all s)
-  in_order_does run piece f [] before s st = record { by = λ k. (k, ap (λ (c : Code). exec_code whole k (end_of c) s) (sym (joined_nothing before))) }
+  in_order_does run piece f [] before s st = record { by = λ k. (k, ap (λ (c : Code). exec_code whole k (at (end_of c) s)) (sym (joined_nothing before))) }
   in_order_does run piece f (one ∷ more) before s st =
       let a = piece one before in
       let b = in_order piece more (joined before a) in
@@ -116,11 +134,11 @@ module _ (whole : Code) where
 
   -- the machine's run is over as an outcome is told
   abbrev Ends : ℕ → State → Outcome → Type 0
-  Ends place s o = (j : ℕ) × (exec_code whole j place s ≡ Some (told o))
+  Ends address s o = (j : ℕ) × (exec_code whole j (at address s) ≡ Some (told o))
 
-  then_ends : (place mid : ℕ) (s : State) (o : Outcome) (go : State → Outcome) → Does whole place s mid o → ((t : State) → Ends mid t (go t)) → Ends place s (then_do o go)
-  then_ends place mid s (Done t) go d h = let e = h t in let c = d.by e.0 in (c.0, c.1 ∙ e.1)
-  then_ends place mid s (Over end t) go d h = d
+  then_ends : (address mid : ℕ) (s : State) (o : Outcome) (go : State → Outcome) → Does whole address s mid o → ((t : State) → Ends mid t (go t)) → Ends address s (then_do o go)
+  then_ends address mid s (Done t) go d h = let e = h t in let c = d.by e.0 in (c.0, c.1 ∙ e.1)
+  then_ends address mid s (Over end t) go d h = d
 
   -- the end of the last paragraph stops
   range_ends : (depth : ℕ) (all : List Paragraph) (before : Code) (s : State) → Stands whole before (joined (in_order paragraph_piece all before) end_piece) → Ends (end_of before) s (range (exec (suc depth)) all (length all) s)
@@ -139,5 +157,5 @@ all_stands code = record { rest = nothing; is = sym (joined_nothing code) }
 laid : (program : Program) → Stands (code_of program) nothing (joined (in_order paragraph_piece (paragraphs program) nothing) end_piece)
 laid program = subst (Stands (code_of program) nothing) (ap (λ (c : Code). joined c end_piece) (flat program.sections nothing)) (all_stands (code_of program))
 
-pub runs : (program : Program) (budget : ℕ) → Runs (code_of program) budget (meaning program budget)
-runs program budget = range_ends (code_of program) budget (paragraphs program) nothing (start budget) (laid program)
+pub runs : (program : Program) (given : Given) → Runs (code_of program) given (meaning program given)
+runs program given = range_ends (code_of program) given.budget (paragraphs program) nothing (start given) (laid program)

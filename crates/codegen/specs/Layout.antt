@@ -1,7 +1,12 @@
 -- The layout of a program's code (own choice).
 use Rattle.std.specs.Prelude.{ℕ, List, [], ◌∷◌, ◌++◌, length}
-use Rattle.source_tree.specs.declared.statement.Statement.{Statement}
-use Rattle.source_tree.specs.declared.statement.Statement.TheVariants.{Display, StopRun}
+use Rattle.source_tree.specs.declared.text.Text.{Text}
+use Rattle.source_tree.specs.declared.text.Text.TheVariants as text
+use Rattle.source_tree.specs.declared.ending.Ending.{Ending}
+use Rattle.source_tree.specs.declared.ending.Ending.TheVariants as ending
+use Rattle.source_tree.specs.declared.statement.Verb.{Verb}
+use Rattle.source_tree.specs.declared.statement.Verb.TheVariants as verb
+use Rattle.source_tree.specs.declared.statement.Statement.{Statement, out-Statement}
 use Rattle.source_tree.specs.declared.program.Sentence.{Sentence}
 use Rattle.source_tree.specs.declared.program.Paragraph.{Paragraph}
 use Rattle.source_tree.specs.declared.program.Section.{Section}
@@ -36,9 +41,19 @@ display_piece line bytes before = record {
 abbrev pub stop_run_piece : ℕ → Piece
 stop_run_piece line before = record { literals = []; starts = []; instructions = Tick line ∷ Stop ∷ [] }
 
+abbrev pub text_piece : ℕ → Text → Piece
+text_piece line (text.Display operands advancing) = display_piece line (shown_display operands advancing)
+
+abbrev pub ending_piece : ℕ → Ending → Piece
+ending_piece line ending.StopRun = stop_run_piece line
+
+-- a statement at this line, by its family
+abbrev pub verb_piece : {S : Type 0} → ℕ → Verb S → Piece
+verb_piece line (verb.Text one) = text_piece line one
+verb_piece line (verb.Ending one inside) = ending_piece line one
+
 abbrev pub statement_piece : Statement → Piece
-statement_piece (Display place operands advancing) = display_piece place.line (shown_display operands advancing)
-statement_piece (StopRun place) = stop_run_piece place.line
+statement_piece one = verb_piece (out-Statement one).place.line (out-Statement one).verb
 
 abbrev pub sentence_piece : Sentence → Piece
 sentence_piece sentence = in_order statement_piece sentence.statements

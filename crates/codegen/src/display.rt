@@ -1,9 +1,9 @@
 //! The bytes that a DISPLAY shows.
 
 ghost use Rattle.std.specs.Prelude.{◌≡◌, ◌++◌, OnOk, IfOk};
-ghost use Rattle.source_tree.specs.Display.{shown_sign, shown_decimals, shown_number, shown_operand, shown_operands, shown_display};
+ghost use Rattle.source_tree.specs.Display.{shown_sign, shown_decimals, shown_number, figurative_byte, shown_literal, shown_operands, shown_display};
 
-use source_tree::{LiteralValue, NumericLiteral, Operand, Sign};
+use source_tree::{Figurative, Literal, LiteralValue, NumericLiteral, Sign};
 use sqlite_items::Items;
 use std::alloc::{AllocError, Global};
 
@@ -44,21 +44,37 @@ fn put_number(out: &mut Vec<u8>, number: &NumericLiteral) -> Result<(), AllocErr
     put_decimals(out, number.decimals.as_slice())
 }
 
-fn put_operand(out: &mut Vec<u8>, operand: &Operand) -> Result<(), AllocError>
-    ensures { OnOk result (out.new.items ≡ out.old.items ++ shown_operand operand.now) }
+fn figurative(constant: Figurative) -> u8
+    ensures { result ≡ figurative_byte constant }
 {
-    let Operand::Literal(literal) = operand;
-    match &literal.value {
-        LiteralValue::Numeric(number) => put_number(out, number),
-        LiteralValue::Nonnumeric(bytes) => out.extend_from_slice(bytes.as_slice()),
+    match constant {
+        Figurative::Zero => b'0',
+        Figurative::Space => b' ',
+        Figurative::HighValue => u8::MAX,
+        Figurative::LowValue => u8::MIN,
+        Figurative::Quote => b'"',
     }
 }
 
-fn put_operands(out: &mut Vec<u8>, operands: &[Operand]) -> Result<(), AllocError>
+fn put_literal(out: &mut Vec<u8>, value: &LiteralValue) -> Result<(), AllocError>
+    ensures { OnOk result (out.new.items ≡ out.old.items ++ shown_literal value.now) }
+{
+    match value {
+        LiteralValue::Numeric(number) => put_number(out, number),
+        LiteralValue::Nonnumeric(bytes) => out.extend_from_slice(bytes.as_slice()),
+        LiteralValue::Figurative(constant) => {
+            out.push(figurative(*constant))?;
+            Ok(())
+        }
+        LiteralValue::All(bytes) => out.extend_from_slice(bytes.as_slice()),
+    }
+}
+
+fn put_operands(out: &mut Vec<u8>, operands: &[Literal]) -> Result<(), AllocError>
     ensures { OnOk result (out.new.items ≡ out.old.items ++ shown_operands operands.now) }
 {
     for operand in operands {
-        put_operand(out, operand)?;
+        put_literal(out, &operand.value)?;
     }
     Ok(())
 }
@@ -66,7 +82,7 @@ fn put_operands(out: &mut Vec<u8>, operands: &[Operand]) -> Result<(), AllocErro
 /// All that a DISPLAY shows, with the end of its line where it ends one.
 pub(crate) fn display_bytes(
     alloc: Global,
-    operands: &[Operand],
+    operands: &[Literal],
     advancing: bool,
 ) -> Result<Items<u8>, AllocError>
     ensures { IfOk result (λ bytes. bytes ≡ shown_display operands.now advancing) }

@@ -2,18 +2,18 @@
 
 ghost use Rattle.std.specs.Prelude.{◌≡◌, OnOk};
 ghost use Rattle.source_tree.specs.Display.{shown_display};
-ghost use Rattle.codegen.specs.Layout.{joined, display_piece, stop_run_piece, statement_piece, sentence_piece, start_piece, paragraph_piece, section_piece, in_order, end_piece};
+ghost use Rattle.codegen.specs.Layout.{joined, display_piece, text_piece, stop_run_piece, statement_piece, sentence_piece, start_piece, paragraph_piece, section_piece, in_order, end_piece};
 
 use crate::display::display_bytes;
 use code_image::{Code, Instruction, LiteralIndex};
-use source_tree::{Operand, Paragraph, Section, Sentence, Statement};
+use source_tree::{Ending, Literal, Paragraph, Section, Sentence, Statement, Text, Verb};
 use std::alloc::{AllocError, Global};
 
 fn emit_display(
     alloc: Global,
     code: &mut Code,
     line: u32,
-    operands: &[Operand],
+    operands: &[Literal],
     advancing: bool,
 ) -> Result<(), AllocError>
     ensures { OnOk result (code.new ≡ joined code.old (display_piece line (shown_display operands.now advancing) code.old)) }
@@ -27,6 +27,17 @@ fn emit_display(
     Ok(())
 }
 
+fn emit_text(alloc: Global, code: &mut Code, line: u32, text: &Text) -> Result<(), AllocError>
+    ensures { OnOk result (code.new ≡ joined code.old (text_piece line text.now code.old)) }
+{
+    match text {
+        Text::Display {
+            operands,
+            advancing,
+        } => emit_display(alloc, code, line, operands.as_slice(), *advancing),
+    }
+}
+
 fn emit_stop_run(code: &mut Code, line: u32) -> Result<(), AllocError>
     ensures { OnOk result (code.new ≡ joined code.old (stop_run_piece line code.old)) }
 {
@@ -38,13 +49,10 @@ fn emit_stop_run(code: &mut Code, line: u32) -> Result<(), AllocError>
 fn emit_statement(alloc: Global, code: &mut Code, statement: &Statement) -> Result<(), AllocError>
     ensures { OnOk result (code.new ≡ joined code.old (statement_piece statement.now code.old)) }
 {
-    match statement {
-        Statement::Display {
-            place,
-            operands,
-            advancing,
-        } => emit_display(alloc, code, place.line, operands.as_slice(), *advancing),
-        Statement::StopRun { place } => emit_stop_run(code, place.line),
+    let line = statement.place.line;
+    match &statement.verb {
+        Verb::Text(text) => emit_text(alloc, code, line, text),
+        Verb::Ending(Ending::StopRun, _) => emit_stop_run(code, line),
     }
 }
 

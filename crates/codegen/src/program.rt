@@ -1,6 +1,7 @@
 //! The code of a program.
 
-ghost use Rattle.std.specs.Prelude.{◌≡◌, ℕ, IfOk};
+ghost use Rattle.std.specs.Prelude.{◌≡◌, IfOk};
+ghost use Rattle.source_tree.specs.Given.{Given};
 ghost use Rattle.source_tree.specs.Meaning.{Run, meaning};
 ghost use Rattle.code_image.specs.Demands.{IsVerified};
 ghost use Rattle.code_image.specs.Table.{Runs};
@@ -15,10 +16,10 @@ use std::alloc::{AllocError, Global};
 /// The code of a program. It is refused for want of memory alone.
 pub fn generate(alloc: Global, program: &Program) -> Result<Code, AllocError>
     ensures layout { IfOk result (λ code. code ≡ code_of program.now) }
-    // With each budget the code's run is what the tree means,
-    ensures ends { IfOk result (λ code. (budget : ℕ) → Runs code budget (meaning program.now budget)) }
+    // Whatever it is given, the code's run is what the tree means,
+    ensures ends { IfOk result (λ code. (given : Given) → Runs code given (meaning program.now given)) }
     // and nothing else is.
-    ensures ends_only { IfOk result (λ code. (budget : ℕ) (run : Run) → Runs code budget run → run ≡ meaning program.now budget) }
+    ensures ends_only { IfOk result (λ code. (given : Given) (run : Run) → Runs code given run → run ≡ meaning program.now given) }
     // A machine can run it.
     ensures verified { IfOk result (λ code. IsVerified code) }
 {

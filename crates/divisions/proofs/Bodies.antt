@@ -1,6 +1,6 @@
 -- Sentences, paragraphs and bodies: what is read is spelled, and what is spelled is read.
 use Rattle.std.proofs.Common.{◌≡◌, ◌<◌, ℕ, Bool, true, false, List, [], ◌∷◌, Option, None, Some, length, refl, ap, ◌∙◌, subst, arith}
-use Rattle.std.specs.Prelude.{if◌then◌else◌, ◌||◌, ◌&&◌, Ok}
+use Rattle.std.specs.Prelude.{if◌then◌else◌, ◌&&◌, is_some, Ok}
 use Rattle.tokens.specs.declared.reserved.Reserved.{Reserved}
 use Rattle.tokens.specs.declared.reserved.Reserved.TheVariants as w
 use Rattle.tokens.specs.declared.token.Kind.{Kind}
@@ -13,12 +13,13 @@ use Rattle.source_tree.specs.declared.program.Paragraph.{Paragraph}
 use Rattle.grammar.specs.Parts as parts
 use Rattle.grammar.specs.Parts.{any, several}
 use Rattle.grammar.specs.Reading as read
-use Rattle.grammar.specs.Reading.{Outcome, Parser, begins_word, is_kind}
+use Rattle.grammar.specs.Reading.{Outcome, Parser}
 use Rattle.grammar.proofs.Outcomes.{Answers, Reached, step, unstep, value, last}
 use Rattle.grammar.proofs.Lists
 use Rattle.grammar.proofs.Lists.{Sound, Complete, Shrinks, Starts}
 use Rattle.grammar.proofs.Parts.{name_sound, name_complete, name_shrinks, period_sound, period_complete, period_shrinks}
-use Rattle.statements.specs.Spelling.{sentence, begins_statement}
+use Rattle.statements.specs.Verbs.{verb_in, begins_statement}
+use Rattle.statements.specs.Spelling.{sentence}
 use Rattle.statements.specs.Reading as statements
 use Rattle.statements.proofs.Depth.{sentence_sound, sentence_complete, sentence_shrinks, sentence_starts}
 use Rattle.divisions.specs.Spelling as g
@@ -139,22 +140,19 @@ body_sound depth x i rest e = go (begins_statement i) (g.begins_paragraph i) e
 
 -- ---- a name is no verb
 
-no_word : (kind : Kind) (place : Place) (given : Name) → parts.named_by kind place ≡ Some given → (one : Reserved) → is_kind one kind ≡ false
-no_word (k.Reserved _) place given e one = cc
-no_word (k.Word characters) place given e one = refl
-no_word (k.Numeric number) place given e one = cc
-no_word (k.Nonnumeric bytes) place given e one = cc
-no_word (k.Picture characters) place given e one = cc
-no_word k.Period place given e one = cc
-no_word k.LeftParenthesis place given e one = cc
-no_word k.RightParenthesis place given e one = cc
-no_word (k.Operator operator) place given e one = cc
+no_verb : (kind : Kind) (place : Place) (given : Name) → parts.named_by kind place ≡ Some given → verb_in kind ≡ None
+no_verb (k.Reserved _) place given e = cc
+no_verb (k.Word characters) place given e = refl
+no_verb (k.Numeric number) place given e = cc
+no_verb (k.Nonnumeric bytes) place given e = cc
+no_verb (k.Picture characters) place given e = cc
+no_verb k.Period place given e = cc
+no_verb k.LeftParenthesis place given e = cc
+no_verb k.RightParenthesis place given e = cc
+no_verb (k.Operator operator) place given e = cc
 
 name_begins_none : (given : Name) (i rest : List Token) → parts.name given i rest → begins_statement i ≡ false
-name_begins_none given i rest (first, is, tell) =
-    ap begins_statement is
-    ∙ ap (λ b. b || is_kind w.Stop first.kind) (no_word first.kind (parts.place_in first) given tell w.Display)
-    ∙ no_word first.kind (parts.place_in first) given tell w.Stop
+name_begins_none given i rest (first, is, tell) = ap begins_statement is ∙ ap is_some (no_verb first.kind (parts.place_in first) given tell)
 
 pub body_complete : (depth depth' : ℕ) → Complete (depth < depth') (g.body depth') (r.body depth)
 unfolding r.body r.opening

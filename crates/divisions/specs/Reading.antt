@@ -6,7 +6,7 @@ use Rattle.source_tree.specs.declared.program.Sentence.{Sentence}
 use Rattle.source_tree.specs.declared.program.Paragraph.{Paragraph}
 use Rattle.source_tree.specs.declared.program.Program.{Program}
 use Rattle.grammar.specs.Reading.{Parser, ◌>>=◌, ◌>>◌, pure, refuse, begins_word, expect, period, nothing, name, several, any}
-use Rattle.statements.specs.Spelling.{begins_statement}
+use Rattle.statements.specs.Verbs.{begins_statement}
 use Rattle.statements.specs.Reading.{sentence}
 use Rattle.divisions.specs.Spelling.{begins_paragraph}
 

@@ -8,7 +8,8 @@ use Rattle.source_tree.specs.declared.program.Section.{Section}
 use Rattle.source_tree.specs.declared.program.Program.{Program}
 use Rattle.grammar.specs.Parts.{Part, ◌then◌, optional, any, several, word, period, name, begins_name}
 use Rattle.grammar.specs.Reading.{is_period}
-use Rattle.statements.specs.Spelling.{sentence, begins_statement}
+use Rattle.statements.specs.Verbs.{begins_statement}
+use Rattle.statements.specs.Spelling.{sentence}
 
 -- no token is left
 abbrev pub nothing : Part

@@ -4,7 +4,7 @@ use Rattle.station.specs.Disk.{Sector, sector_at}
 use Rattle.roots.specs.declared.root.Root.{Root}
 use Rattle.roots.specs.declared.root.RootSector.TheVariants.{Valid}
 use Rattle.roots.specs.declared.pair.Roots.{Roots}
-use Rattle.roots.specs.Root.{place, is_valid, is_blank, root_in, root_bytes, IsWithin}
+use Rattle.roots.specs.Root.{mark_index, is_valid, is_blank, root_in, root_bytes, IsWithin}
 use Rattle.roots.specs.Pair.{EachRoot}
 use Rattle.roots.specs.Reading.{roots_in}
 
@@ -24,7 +24,7 @@ NextIsNewest = (known : List (List ℕ)) (own : ℕ) (image : List Sector) (now 
 -- a root's bytes are read as that root
 abbrev pub ReadsBack : Type 0
 ReadsBack = (known : List (List ℕ)) (count number : ℕ) (mark : List ℕ) (root : Root)
-    → length mark ≡ 8 → is_blank (root_bytes mark root) ≡ false → place known (root_bytes mark root) ≡ Some root.mark → is_valid count number root ≡ true
+    → length mark ≡ 8 → is_blank (root_bytes mark root) ≡ false → mark_index known (root_bytes mark root) ≡ Some root.mark → is_valid count number root ≡ true
     → root_in known count number (root_bytes mark root) ≡ Valid root
 
 -- a root is that of the sector of its parity

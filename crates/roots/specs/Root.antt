@@ -7,9 +7,9 @@ use Rattle.roots.specs.declared.root.Root.{Root}
 use Rattle.roots.specs.declared.root.RootSector.{RootSector}
 use Rattle.roots.specs.declared.root.RootSector.TheVariants.{Blank, Broken, Valid}
 
--- the place of the first known mark that the sector begins with
-abbrev pub place : List (List ℕ) → Sector → Option ℕ
-place known bytes = position (λ mark. starts_with nat_eq bytes mark) known
+-- the index of the first known mark that the sector begins with
+abbrev pub mark_index : List (List ℕ) → Sector → Option ℕ
+mark_index known bytes = position (λ mark. starts_with nat_eq bytes mark) known
 
 abbrev pub root_with : Sector → ℕ → Root
 root_with bytes mark = record { mark = mark; generation = big_number 8 (drop 8 bytes); sectors = big_number 4 (drop 16 bytes); payload = drop 20 bytes }
@@ -44,7 +44,7 @@ is_blank bytes = list_all (λ byte. byte == 0) bytes
 
 -- what the root sector of this number is
 abbrev pub root_in : List (List ℕ) → ℕ → ℕ → Sector → RootSector
-root_in known count number bytes = if is_blank bytes then Blank else marked count number bytes (place known bytes)
+root_in known count number bytes = if is_blank bytes then Blank else marked count number bytes (mark_index known bytes)
 
 -- a sector after these bytes were put there
 abbrev pub put_at : ℕ → List ℕ → Sector → Sector

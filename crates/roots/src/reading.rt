@@ -1,7 +1,7 @@
 //! The roots of a device.
-ghost use Rattle.std.specs.Prelude.{◌≡◌, ◌↔◌, ◌<◌, Err, IfOk, IfErr};
+ghost use Rattle.std.specs.Prelude.{◌≡◌, ◌<◌, Err, IfOk, IfErr};
 ghost use Rattle.station.specs.Disk.{sector_at};
-ghost use Rattle.station.specs.Failures.{Blames};
+ghost use Rattle.station.specs.Calls.{OnlyReads};
 ghost use Rattle.answers.specs.Answer.{Gives};
 ghost use Rattle.roots.specs.Root.{root_in, IsWithin, IfValid};
 ghost use Rattle.roots.specs.Pair.{EachRoot};
@@ -19,11 +19,7 @@ fn root_of<D: Device>(
     number: u32,
 ) -> Result<RootSector, RootsError>
     requires { number < D.sectors device.old }
-    ensures honest { D.is_honest device.old ↔ D.is_honest device.new }
-    ensures sectors { D.sectors device.new ≡ D.sectors device.old }
-    ensures failures { Blames (result ≡ Err RootsError.Device) (D.failures device.old) (D.failures device.new) }
-    ensures state { D.is_honest device.old → D.state device.new ≡ D.state device.old }
-    ensures history { D.is_honest device.old → D.history device.new ≡ D.history device.old }
+    ensures only { OnlyReads D.Device (result ≡ Err RootsError.Device) device.old device.new }
     ensures root { D.is_honest device.old → IfOk result (λ root. root ≡ root_in known.now (D.sectors device.old) number (sector_at (D.state device.old).disk.present number)) }
     ensures within { IfOk result (λ root. IfValid root (IsWithin (D.sectors device.old))) }
     ensures cause { IfErr result (λ error. error ≡ RootsError.Device) }
@@ -40,11 +36,7 @@ pub fn read_roots<D: Device>(
     known: &[[u8; 8]],
     own: usize,
 ) -> Result<Roots, RootsError>
-    ensures honest { D.is_honest device.old ↔ D.is_honest device.new }
-    ensures sectors { D.sectors device.new ≡ D.sectors device.old }
-    ensures failures { Blames (result ≡ Err RootsError.Device) (D.failures device.old) (D.failures device.new) }
-    ensures state { D.is_honest device.old → D.state device.new ≡ D.state device.old }
-    ensures history { D.is_honest device.old → D.history device.new ≡ D.history device.old }
+    ensures only { OnlyReads D.Device (result ≡ Err RootsError.Device) device.old device.new }
 
     // The roots of the present image, or the fault that it has.
     ensures roots { D.is_honest device.old → Gives (λ roots. roots) fault_of result (roots_in known.now own (D.state device.old).disk.present) }

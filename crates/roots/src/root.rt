@@ -1,6 +1,6 @@
 //! A root sector. Numbers are big-endian; the layout is this project's own.
 ghost use Rattle.std.specs.Prelude.{◌≡◌, ◌≤◌, ◌+◌, length, Option};
-ghost use Rattle.roots.specs.Root.{place, root_in, root_with, is_blank, is_valid, put_at, root_bytes};
+ghost use Rattle.roots.specs.Root.{mark_index, root_in, root_with, is_blank, is_valid, put_at, root_bytes};
 
 use byteorder::{BigEndian, ByteOrder};
 
@@ -25,7 +25,7 @@ pub const MOST_SECTORS: u32 = 921_600;
 /// payload.
 #[derive(Clone, Copy, Debug, PartialEq, Eq)]
 pub struct Root {
-    /// The place of its mark among those that the reader knows, from 0.
+    /// The index of its mark among those that the reader knows, from 0.
     pub mark: usize,
     /// One more than that of the root before it.
     pub generation: u64,
@@ -45,9 +45,9 @@ pub enum RootSector {
     Valid(Root),
 }
 
-/// The place of the mark at the front of a sector.
-fn place_of(known: &[[u8; 8]], bytes: &[u8; 4096]) -> Option<usize>
-    ensures { result ≡ place known.now bytes.now }
+/// The index of the mark at the front of a sector.
+fn known_mark(known: &[[u8; 8]], bytes: &[u8; 4096]) -> Option<usize>
+    ensures { result ≡ mark_index known.now bytes.now }
 {
     known.iter().position(|mark| bytes.starts_with(mark))
 }
@@ -91,7 +91,7 @@ pub fn read_root(known: &[[u8; 8]], count: u32, number: u32, bytes: &[u8; 4096])
     if is_all_zeros(bytes) {
         return RootSector::Blank;
     }
-    let mark = match place_of(known, bytes) {
+    let mark = match known_mark(known, bytes) {
         Some(mark) => mark,
         None => return RootSector::Broken,
     };
@@ -103,7 +103,7 @@ pub fn read_root(known: &[[u8; 8]], count: u32, number: u32, bytes: &[u8; 4096])
     }
 }
 
-/// Puts bytes into a sector from this place on.
+/// Puts bytes into a sector from this byte on.
 fn put(bytes: &mut [u8; 4096], at: usize, part: &[u8])
     requires { at + length part.now ≤ 4096 }
     ensures { bytes.new ≡ put_at at part.now bytes.old }

@@ -1,2 +1,8 @@
+-- From a source text to its image
 pub mod Stages
-pub mod Loading
+
+-- From an image to its run
+pub mod Images
+
+-- At most one tree, and at most one run
+pub mod Uniqueness

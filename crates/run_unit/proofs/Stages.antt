@@ -15,8 +15,8 @@ use Rattle.divisions.specs.declared.fault.ParseFault.TheVariants as in_tree
 use Rattle.run_unit.specs.Faults.{from_tree}
 use Rattle.run_unit.specs.Trees.{IsTreeOf, IsTreeAnswer}
 use Rattle.run_unit.specs.Images.{IsImageAnswer}
-use Rattle.run_unit.specs.declared.fault.CompileFault.{CompileFault}
-use Rattle.run_unit.specs.declared.fault.CompileFault.TheVariants.{Memory, Refused}
+use Rattle.run_unit.specs.declared.fault.CompileError.{CompileError}
+use Rattle.run_unit.specs.declared.fault.CompileError.TheVariants.{Memory, Refused}
 
 ok : {A : Type 0} (F : Type 0) → A → Result A F
 ok F a = Ok a
@@ -36,9 +36,6 @@ OneFormat = (source : List ℕ) (given : List Character) → HasCharacters sourc
 abbrev pub OneScan : Type 0
 OneScan = (characters : List Character) (found : List Token) → TokensOf characters found → tokens characters ≡ Ok found
 
-abbrev pub OneSpelling : Type 0
-OneSpelling = (depth depth' : ℕ) (tree tree' : Program) (found : List Token) → Spells depth tree found → Spells depth' tree' found → tree ≡ tree'
-
 -- the tokens of a source text with this tree spell it
 pub spelled_by : OneFormat → OneScan → (source : List ℕ) (tree : Program) → IsTreeOf source tree
     → (characters : List Character) (found : List Token) → characters_of source ≡ Ok characters → tokens characters ≡ Ok found → Spells max_nesting tree found
@@ -48,21 +45,15 @@ spelled_by format scan source tree is characters found read scanned =
     value (scan is.characters is.tokens is.scanned) (subst (λ c. tokens c ≡ Ok found) (sym same_characters) scanned) in
     subst (λ t. Spells max_nesting tree t) same_tokens is.spelled
 
-pub one : OneFormat → OneScan → OneSpelling → (source : List ℕ) (tree other : Program) → IsTreeOf source tree → IsTreeOf source other → tree ≡ other
-one format scan spelling source tree other a b =
-    spelling max_nesting max_nesting tree other b.tokens
-    (spelled_by format scan source tree a b.characters b.tokens (format source b.characters b.format) (scan b.characters b.tokens b.scanned))
-    b.spelled
-
 -- where a tree of the greatest depth spells the tokens, only memory refuses it
 pub tree_refusal : (tree : Program) (e : ParseFault) → IsAnswer max_nesting tree (Err e) → IsTreeAnswer tree (Err (from_tree e))
 tree_refusal tree in_tree.Memory allowed = tt
 tree_refusal tree (in_tree.Refused fault) allowed = absurd (let deep : 64 < 64 = allowed.1 in omega (arith, deep))
 
-pub image_refusal : (tree : Program) (e : CompileFault) → IsTreeAnswer tree (Err e) → IsImageAnswer tree (Err e)
+pub image_refusal : (tree : Program) (e : CompileError) → IsTreeAnswer tree (Err e) → IsImageAnswer tree (Err e)
 image_refusal tree Memory allowed = tt
 image_refusal tree (Refused fault) allowed = allowed
 
-pub memory_alone : (tree : Program) (e : CompileFault) → IsImageAnswer tree (Err e) → e ≡ Memory
+pub memory_alone : (tree : Program) (e : CompileError) → IsImageAnswer tree (Err e) → e ≡ Memory
 memory_alone tree Memory allowed = refl
 memory_alone tree (Refused fault) allowed = absurd allowed

@@ -1,6 +1,7 @@
 -- What is so after a run.
-use Rattle.std.specs.Prelude.{◌≡◌, ◌≤◌, ◌<◌, ◌⊎◌, ◌-◌, ◌^◌, ℕ, List, Result, Ok, Err}
+use Rattle.std.specs.Prelude.{◌≡◌, ℕ, List, Result, Ok, Err}
 use Rattle.station.specs.State.{State}
+use Rattle.station.specs.Failures.{Blames}
 use Rattle.source_tree.specs.State as end
 use Rattle.source_tree.specs.Meaning.{Run}
 use Rattle.code_image.specs.Faults as image
@@ -11,9 +12,10 @@ use Rattle.machine.specs.declared.ended.Ended.TheVariants as machine
 use Rattle.machine.specs.declared.ended.Refusal.TheVariants as refused
 use Rattle.code_image.specs.declared.code.Code.{Code}
 use Rattle.machine.specs.declared.machine.Machine.{Machine}
+use Rattle.machine.specs.Ends as run
 use Rattle.machine.specs.Ends.{code_of, Finished}
 use Rattle.run_unit.specs.Images.{IsImage, RefusesImage}
-use Rattle.run_unit.specs.declared.fault.CompileFault.{CompileFault}
+use Rattle.run_unit.specs.declared.fault.CompileError.{CompileError}
 use Rattle.run_unit.specs.declared.ended.Refusal.{Refusal}
 use Rattle.run_unit.specs.declared.ended.Refusal.TheVariants.{Image, Device, Memory}
 use Rattle.run_unit.specs.declared.ended.Ended.{Ended}
@@ -22,7 +24,7 @@ use Rattle.run_unit.specs.declared.ended.Ended.TheVariants.{Stopped, Budget, Ref
 -- the number that the product prints (own choice)
 abbrev pub number_of : Refusal → ℕ
 number_of (Image fault) = image.number_of fault
-number_of Device = 80
+number_of Device = run.number_of refused.Device
 number_of Memory = 83
 
 -- the refusal that an error becomes
@@ -45,10 +47,9 @@ EndsAs run old (Refused (Image fault)) now = ⊥
 EndsAs run old (Refused Memory) now = now ≡ old
 EndsAs run old (Refused Device) now = Unit {0}
 
--- The count of failures never falls. A run is refused for the device only where it rose, or stood at its last value.
-pub record HasCause (ended : Ended) (old new : ℕ) : Type 0 where
-  pub no_fewer : old ≤ new
-  pub failed : ended ≡ Refused Device → (old < new) ⊎ (2 ^ 64 - 1 ≤ new)
+-- A run is refused for the device only where the device counted a failure.
+abbrev pub HasCause : Ended → ℕ → ℕ → Type 0
+HasCause ended old new = Blames (ended ≡ Refused Device) old new
 
 -- An image is refused by its number where that number says so.
 abbrev pub IsCauseOf : Refusal → List ℕ → Type 0
@@ -88,6 +89,6 @@ IsLoaded code (Err (Image fault)) = ⊥
 IsLoaded code (Err Device) = ⊥
 
 -- the same of a call that may refuse its source text
-abbrev pub ForSource : Result Ended CompileFault → ℕ → ℕ → Type 0
+abbrev pub ForSource : Result Ended CompileError → ℕ → ℕ → Type 0
 ForSource (Ok ended) old new = HasCause ended old new
 ForSource (Err fault) old new = new ≡ old

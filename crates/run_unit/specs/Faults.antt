@@ -10,35 +10,35 @@ use Rattle.divisions.specs.Faults as trees
 use Rattle.divisions.specs.declared.fault.ParseFault.{ParseFault}
 use Rattle.divisions.specs.declared.fault.ParseFault.TheVariants as in_tree
 use Rattle.source_tree.specs.declared.place.Place.{Place}
-use Rattle.run_unit.specs.declared.fault.Fault.{Fault}
-use Rattle.run_unit.specs.declared.fault.Fault.TheVariants.{Lines, Tokens, Tree}
 use Rattle.run_unit.specs.declared.fault.CompileFault.{CompileFault}
-use Rattle.run_unit.specs.declared.fault.CompileFault.TheVariants.{Memory, Refused}
+use Rattle.run_unit.specs.declared.fault.CompileFault.TheVariants.{Lines, Tokens, Tree}
+use Rattle.run_unit.specs.declared.fault.CompileError.{CompileError}
+use Rattle.run_unit.specs.declared.fault.CompileError.TheVariants.{Memory, Refused}
 
-abbrev pub number_of : Fault → ℕ
+abbrev pub number_of : CompileFault → ℕ
 number_of (Lines fault) = lines.number_of fault.kind
 number_of (Tokens fault) = tokens.number_of fault.kind
 number_of (Tree fault) = trees.number_of fault.kind
 
-abbrev pub place_of : Fault → Place
+abbrev pub place_of : CompileFault → Place
 place_of (Lines fault) = record { line = fault.place.line; column = fault.place.column }
 place_of (Tokens fault) = record { line = fault.place.line; column = fault.place.column }
 place_of (Tree fault) = fault.place
 
 -- the fault of an error, or none where memory ran out
-abbrev pub fault_of : CompileFault → Option Fault
+abbrev pub fault_of : CompileError → Option CompileFault
 fault_of Memory = None
 fault_of (Refused fault) = Some fault
 
 -- the error that a stage's error becomes
-abbrev pub from_lines : SourceFault → CompileFault
+abbrev pub from_lines : SourceFault → CompileError
 from_lines in_lines.Memory = Memory
 from_lines (in_lines.Refused fault) = Refused (Lines fault)
 
-abbrev pub from_tokens : TokenFault → CompileFault
+abbrev pub from_tokens : TokenFault → CompileError
 from_tokens in_tokens.Memory = Memory
 from_tokens (in_tokens.Refused fault) = Refused (Tokens fault)
 
-abbrev pub from_tree : ParseFault → CompileFault
+abbrev pub from_tree : ParseFault → CompileError
 from_tree in_tree.Memory = Memory
 from_tree (in_tree.Refused fault) = Refused (Tree fault)

@@ -2,6 +2,7 @@
 use Rattle.std.specs.Prelude.{◌≡◌, ◌⊎◌, ℕ, List, Vec, Result, Ok, Err}
 use Rattle.std.specs.declared.alloc.Global.{Global}
 use Rattle.source_tree.specs.declared.program.Program.{Program}
+use Rattle.source_tree.specs.Given.{Given}
 use Rattle.source_tree.specs.Meaning.{Run, meaning}
 use Rattle.code_image.specs.declared.code.Code.{Code}
 use Rattle.code_image.specs.declared.fault.ImageFault.{ImageFault}
@@ -9,8 +10,8 @@ use Rattle.code_image.specs.Spelling.{spelling, HasSpelling}
 use Rattle.code_image.specs.Reading.{code_at}
 use Rattle.code_image.specs.Demands.{IsVerified, Refuses}
 use Rattle.code_image.specs.Table.{Runs}
-use Rattle.run_unit.specs.declared.fault.CompileFault.{CompileFault}
-use Rattle.run_unit.specs.declared.fault.CompileFault.TheVariants.{Memory, Refused}
+use Rattle.run_unit.specs.declared.fault.CompileError.{CompileError}
+use Rattle.run_unit.specs.declared.fault.CompileError.TheVariants.{Memory, Refused}
 
 -- The bytes spell code that a machine can run.
 pub record IsImageOf (image : List ℕ) (code : Code) : Type 0 where
@@ -18,18 +19,18 @@ pub record IsImageOf (image : List ℕ) (code : Code) : Type 0 where
   pub spelt : HasSpelling code
   pub verified : IsVerified code
 
--- The bytes are an image, and this is its run with the budget.
-pub record HasRun (image : List ℕ) (budget : ℕ) (run : Run) : Type 0 where
+-- The bytes are an image, and this is its run with what it is given.
+pub record HasRun (image : List ℕ) (given : Given) (run : Run) : Type 0 where
   pub code : Code
   pub is : IsImageOf image code
-  pub runs : Runs code budget run
+  pub runs : Runs code given run
 
--- With each budget the run of the image is what the tree means.
+-- Whatever it is given, the run of the image is what the tree means.
 abbrev pub MeansAs : Program → List ℕ → Type 0
-MeansAs tree image = (budget : ℕ) → HasRun image budget (meaning tree budget)
+MeansAs tree image = (given : Given) → HasRun image given (meaning tree given)
 
 -- What `compile` may answer where this is the tree of the source text: an image that means the same, or that memory ran out.
-abbrev pub IsImageAnswer : Program → Result (Vec ℕ Global) CompileFault → Type 0
+abbrev pub IsImageAnswer : Program → Result (Vec ℕ Global) CompileError → Type 0
 IsImageAnswer tree (Ok image) = MeansAs tree image.items
 IsImageAnswer tree (Err Memory) = Unit {0}
 IsImageAnswer tree (Err (Refused fault)) = ⊥

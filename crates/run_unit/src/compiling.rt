@@ -8,7 +8,7 @@ ghost use Rattle.run_unit.specs.Faults.{fault_of};
 ghost use Rattle.run_unit.specs.Trees.{IsTreeOf, IsTreeAnswer, tree_of};
 ghost use Rattle.run_unit.specs.Images.{MeansAs, IsImageAnswer};
 
-use crate::fault::CompileFault;
+use crate::fault::CompileError;
 use code_image::to_bytes;
 use codegen::generate;
 use divisions::parse;
@@ -18,7 +18,7 @@ use std::alloc::{AllocError, Global};
 use tokens::{laws, scan};
 
 /// The tree of a source text, by the stages in order.
-fn read_tree(alloc: Global, source: &[u8]) -> Result<Program, CompileFault>
+fn read_tree(alloc: Global, source: &[u8]) -> Result<Program, CompileError>
     ensures tree { IfOk result (λ tree. IsTreeOf source.now tree) }
     ensures only { (tree : Program) → IsTreeOf source.now tree → IsTreeAnswer tree result }
     ensures fault { IfErr result (λ e. Fails (fault_of e) (tree_of source.now)) }
@@ -42,8 +42,8 @@ fn make_image(alloc: Global, tree: &Program) -> Result<Vec<u8>, AllocError>
 /// The image of a source text.
 ///
 /// `Refused` with the first fault that a stage meets: 10 to 14 for its lines, 15 to 18 for its tokens, 30 and 31 for its tree.
-pub fn compile(alloc: Global, source: &[u8]) -> Result<Vec<u8>, CompileFault>
-    // What is answered is an image of the source text's tree: with each budget its run is what the tree means.
+pub fn compile(alloc: Global, source: &[u8]) -> Result<Vec<u8>, CompileError>
+    // What is answered is an image of the source text's tree: whatever it is given, its run is what the tree means.
     ensures image { IfOk result (λ image. (tree : Program) × IsTreeOf source.now tree × MeansAs tree image.items) }
     // A source text with a tree is answered with such an image, unless memory runs out.
     ensures only { (tree : Program) → IsTreeOf source.now tree → IsImageAnswer tree result }

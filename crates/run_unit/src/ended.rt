@@ -21,9 +21,7 @@ pub enum Refusal {
     Memory,
 }
 
-// The numbers that the product prints.
-const DEVICE: u8 = 80;
-
+/// The number of want of memory.
 const MEMORY: u8 = 83;
 
 impl Refusal {
@@ -33,7 +31,7 @@ impl Refusal {
     {
         match self {
             Refusal::Image(fault) => fault.number(),
-            Refusal::Device => DEVICE,
+            Refusal::Device => machine::Refusal::Device.number(),
             Refusal::Memory => MEMORY,
         }
     }

@@ -12,7 +12,7 @@ use tokens::TokenFault;
 
 /// A fault of a source text, by the stage that met it.
 #[derive(Clone, Copy, Debug, PartialEq, Eq)]
-pub enum Fault {
+pub enum CompileFault {
     /// 10 to 14.
     Lines(source_lines::Fault),
     /// 15 to 18.
@@ -21,15 +21,15 @@ pub enum Fault {
     Tree(divisions::Fault),
 }
 
-impl Fault {
+impl CompileFault {
     /// The number that the product prints.
     pub fn number(self) -> u8
         ensures { result ≡ number_of self }
     {
         match self {
-            Fault::Lines(fault) => fault.kind.number(),
-            Fault::Tokens(fault) => fault.kind.number(),
-            Fault::Tree(fault) => fault.kind.number(),
+            CompileFault::Lines(fault) => fault.kind.number(),
+            CompileFault::Tokens(fault) => fault.kind.number(),
+            CompileFault::Tree(fault) => fault.kind.number(),
         }
     }
 
@@ -38,77 +38,77 @@ impl Fault {
         ensures { result ≡ place_of self }
     {
         match self {
-            Fault::Lines(fault) => Place {
+            CompileFault::Lines(fault) => Place {
                 line: fault.place.line,
                 column: fault.place.column,
             },
-            Fault::Tokens(fault) => Place {
+            CompileFault::Tokens(fault) => Place {
                 line: fault.place.line,
                 column: fault.place.column,
             },
-            Fault::Tree(fault) => fault.place,
+            CompileFault::Tree(fault) => fault.place,
         }
     }
 }
 
 /// Why there is no image of a source text.
 #[derive(Clone, Copy, Debug, PartialEq, Eq, Error)]
-pub enum CompileFault {
+pub enum CompileError {
     #[error("out of memory")]
     Memory,
     #[error("the source text has a fault")]
-    Refused(Fault),
+    Refused(CompileFault),
 }
 
-impl From<SourceFault> for CompileFault {
+impl From<SourceFault> for CompileError {
     ghost use Rattle.std.specs.Prelude.{◌≡◌};
     ghost use Rattle.run_unit.specs.Faults.{from_lines};
 
     ghost from_gives = { λ fault e. e ≡ from_lines fault };
 
-    fn from(fault: SourceFault) -> CompileFault {
+    fn from(fault: SourceFault) -> CompileError {
         match fault {
-            SourceFault::Memory => CompileFault::Memory,
-            SourceFault::Refused(fault) => CompileFault::Refused(Fault::Lines(fault)),
+            SourceFault::Memory => CompileError::Memory,
+            SourceFault::Refused(fault) => CompileError::Refused(CompileFault::Lines(fault)),
         }
     }
 }
 
-impl From<TokenFault> for CompileFault {
+impl From<TokenFault> for CompileError {
     ghost use Rattle.std.specs.Prelude.{◌≡◌};
     ghost use Rattle.run_unit.specs.Faults.{from_tokens};
 
     ghost from_gives = { λ fault e. e ≡ from_tokens fault };
 
-    fn from(fault: TokenFault) -> CompileFault {
+    fn from(fault: TokenFault) -> CompileError {
         match fault {
-            TokenFault::Memory => CompileFault::Memory,
-            TokenFault::Refused(fault) => CompileFault::Refused(Fault::Tokens(fault)),
+            TokenFault::Memory => CompileError::Memory,
+            TokenFault::Refused(fault) => CompileError::Refused(CompileFault::Tokens(fault)),
         }
     }
 }
 
-impl From<ParseFault> for CompileFault {
+impl From<ParseFault> for CompileError {
     ghost use Rattle.std.specs.Prelude.{◌≡◌};
     ghost use Rattle.run_unit.specs.Faults.{from_tree};
 
     ghost from_gives = { λ fault e. e ≡ from_tree fault };
 
-    fn from(fault: ParseFault) -> CompileFault {
+    fn from(fault: ParseFault) -> CompileError {
         match fault {
-            ParseFault::Memory => CompileFault::Memory,
-            ParseFault::Refused(fault) => CompileFault::Refused(Fault::Tree(fault)),
+            ParseFault::Memory => CompileError::Memory,
+            ParseFault::Refused(fault) => CompileError::Refused(CompileFault::Tree(fault)),
         }
     }
 }
 
-impl From<AllocError> for CompileFault {
+impl From<AllocError> for CompileError {
     ghost use Rattle.std.specs.Prelude.{◌≡◌};
-    ghost use Rattle.run_unit.specs.declared.fault.CompileFault.TheVariants.{Memory};
+    ghost use Rattle.run_unit.specs.declared.fault.CompileError.TheVariants.{Memory};
 
     ghost from_gives = { λ _ e. e ≡ Memory };
 
-    fn from(_: AllocError) -> CompileFault {
-        CompileFault::Memory
+    fn from(_: AllocError) -> CompileError {
+        CompileError::Memory
     }
 }

@@ -2,9 +2,10 @@
 
 ghost use Rattle.std.specs.Prelude.{◌≡◌, ◌↔◌, ℕ, All, IfOk, IfErr};
 ghost use Rattle.station.specs.History.{Through};
+ghost use Rattle.source_tree.specs.Given.{given_on};
 ghost use Rattle.source_tree.specs.Meaning.{Run};
 ghost use Rattle.code_image.specs.declared.code.Code.{Code};
-ghost use Rattle.machine.specs.Ends.{code_of, IsDigit, Told};
+ghost use Rattle.machine.specs.Ends.{code_of, day_of, IsDigit, Moment};
 ghost use Rattle.run_unit.specs.Images.{IsImageOf, HasRun};
 ghost use Rattle.run_unit.specs.Ends.{EndsAs, HasCause, IsCauseOf, ForImage, IfUnbegun, IsLoaded};
 
@@ -18,6 +19,7 @@ use std::alloc::Global;
 fn load(alloc: Global, image: &[u8], day: [u8; 6]) -> Result<Machine, Refusal>
     requires { All IsDigit day }
     ensures loaded { IfOk result (λ machine. IsImageOf image.now (code_of machine)) }
+    ensures day { IfOk result (λ machine. day_of machine ≡ day) }
     ensures only { (code : Code) → IsImageOf image.now code → IsLoaded code result }
     ensures cause { IfErr result (λ refusal. IsCauseOf refusal image.now) }
 {
@@ -46,10 +48,10 @@ pub fn run_image<S: Station>(
     // Where they are refused, or memory runs out, nothing was done.
     ensures unbegun { IfUnbegun result (station.new ≡ station.old) }
     // At each moment a beginning of the image's run was shown, and nothing else was done.
-    ensures moments { S.is_honest station.old → (run : Run) → HasRun image.now budget run →
-        Through (S.history station.old) (S.history station.new) (S.state station.new) (Told run (S.state station.old)) }
+    ensures moments { S.is_honest station.old → (run : Run) → HasRun image.now (given_on (S.state station.old) day budget) run →
+        Through (S.history station.old) (S.history station.new) (S.state station.new) (Moment run (S.state station.old)) }
     // At the end all of it was, and the end is the run's.
-    ensures ends { S.is_honest station.old → (run : Run) → HasRun image.now budget run →
+    ensures ends { S.is_honest station.old → (run : Run) → HasRun image.now (given_on (S.state station.old) day budget) run →
         EndsAs run (S.state station.old) result (S.state station.new) }
 {
     match load(alloc, image, day) {

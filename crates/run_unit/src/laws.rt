@@ -2,6 +2,7 @@
 
 ghost use Rattle.std.specs.Prelude.{◌≡◌, ℕ, List};
 ghost use Rattle.source_tree.specs.declared.program.Program.{Program};
+ghost use Rattle.source_tree.specs.Given.{Given};
 ghost use Rattle.source_tree.specs.Meaning.{Run};
 ghost use Rattle.run_unit.specs.Trees.{IsTreeOf};
 ghost use Rattle.run_unit.specs.Images.{HasRun};
@@ -11,10 +12,10 @@ use divisions::one_tree;
 use source_lines::reference_format;
 use tokens::laws;
 
-/// A source text has at most one tree, and an image at most one run with a budget.
+/// A source text has at most one tree, and an image at most one run with what it is given.
 pub fn one_meaning()
     ensures tree { (source : List ℕ) (tree other : Program) → IsTreeOf source tree → IsTreeOf source other → tree ≡ other }
-    ensures run { (image : List ℕ) (budget : ℕ) (run other : Run) → HasRun image budget run → HasRun image budget other → run ≡ other }
+    ensures run { (image : List ℕ) (given : Given) (run other : Run) → HasRun image given run → HasRun image given other → run ≡ other }
 {
     reference_format();
     laws();

@@ -12,7 +12,7 @@ mod source;
 
 pub use compiling::compile;
 pub use ended::{Ended, Refusal};
-pub use fault::{CompileFault, Fault};
+pub use fault::{CompileError, CompileFault};
 pub use image::run_image;
 pub use laws::one_meaning;
 pub use source::run_source;

@@ -4,16 +4,17 @@ ghost use Rattle.std.specs.Prelude.{◌≡◌, ◌↔◌, All, OnErr, IfOk, IfEr
 ghost use Rattle.answers.specs.Answer.{Fails};
 ghost use Rattle.station.specs.History.{Through};
 ghost use Rattle.source_tree.specs.declared.program.Program.{Program};
+ghost use Rattle.source_tree.specs.Given.{given_on};
 ghost use Rattle.source_tree.specs.Meaning.{meaning};
-ghost use Rattle.machine.specs.Ends.{IsDigit, Told};
+ghost use Rattle.machine.specs.Ends.{IsDigit, Moment};
 ghost use Rattle.run_unit.specs.Faults.{fault_of};
 ghost use Rattle.run_unit.specs.Trees.{IsTreeOf, tree_of};
 ghost use Rattle.run_unit.specs.Ends.{EndsAs, HasCause, IfUnbegun, IsEndOfImage, ForSource};
-ghost use Rattle.run_unit.specs.declared.fault.CompileFault.TheVariants.{Memory};
+ghost use Rattle.run_unit.specs.declared.fault.CompileError.TheVariants.{Memory};
 
 use crate::compiling::compile;
 use crate::ended::Ended;
-use crate::fault::CompileFault;
+use crate::fault::CompileError;
 use crate::image::run_image;
 use code_image::spelling_law;
 use station::Station;
@@ -26,7 +27,7 @@ pub fn run_source<S: Station>(
     station: &mut S,
     day: [u8; 6],
     budget: u64,
-) -> Result<Ended, CompileFault>
+) -> Result<Ended, CompileError>
     requires { All IsDigit day }
     ensures sectors { S.sectors station.new ≡ S.sectors station.old }
     ensures honest { S.is_honest station.old ↔ S.is_honest station.new }
@@ -42,10 +43,10 @@ pub fn run_source<S: Station>(
     ensures only { (tree : Program) → IsTreeOf source.now tree → IfErr result (λ e. e ≡ Memory) }
     // At each moment of the call a beginning of what the tree means was shown, and nothing else was done.
     ensures moments { S.is_honest station.old → (tree : Program) → IsTreeOf source.now tree →
-        Through (S.history station.old) (S.history station.new) (S.state station.new) (Told (meaning tree budget) (S.state station.old)) }
+        Through (S.history station.old) (S.history station.new) (S.state station.new) (Moment (meaning tree (given_on (S.state station.old) day budget)) (S.state station.old)) }
     // At the end all of it was, and the end is the meaning's.
     ensures ends { S.is_honest station.old → (tree : Program) → IsTreeOf source.now tree →
-        IfOk result (λ ended. EndsAs (meaning tree budget) (S.state station.old) ended (S.state station.new)) }
+        IfOk result (λ ended. EndsAs (meaning tree (given_on (S.state station.old) day budget)) (S.state station.old) ended (S.state station.new)) }
 {
     spelling_law();
     let image = compile(alloc, source)?;

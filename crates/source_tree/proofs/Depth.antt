@@ -1,9 +1,9 @@
 -- A depth above the budget changes nothing.
 use Rattle.std.proofs.Common.{◌≡◌, ℕ, zero, suc, ◌<◌, ◌≤◌, List, [], ◌∷◌, refl, ap, ◌∙◌, arith}
-use Rattle.source_tree.specs.declared.statement.Statement.{Statement}
-use Rattle.source_tree.specs.declared.statement.Statement.TheVariants.{Display, StopRun}
+use Rattle.source_tree.specs.declared.statement.Verb.{Verb}
+use Rattle.source_tree.specs.declared.statement.Verb.TheVariants as verb
+use Rattle.source_tree.specs.declared.statement.Statement.{Statement, out-Statement}
 use Rattle.source_tree.specs.declared.program.Paragraph.{Paragraph}
-use Rattle.source_tree.specs.Places.{place_of}
 use Rattle.source_tree.specs.State.{State, Outcome, Done, Over, then_do, spend_from}
 use Rattle.source_tree.specs.Meaning.{in_turn, step, exec, sentence, paragraph, range}
 use Rattle.source_tree.proofs.Runs
@@ -32,18 +32,20 @@ in_turn_agrees n run other r a [] = record { by = λ s le. refl }
 in_turn_agrees n run other r a (one ∷ more) = then_agrees n (run one) (other one) (in_turn run more) (in_turn other more) (r one) (a one) (in_turn_agrees n run other r a more)
 
 -- the statements in a statement run with less budget than it began with
-step_same : (n : ℕ) (run other : Statement → State → Outcome) → ((one : Statement) → IsRun (run one)) → ((one : Statement) → Agrees n (run one) (other one))
-    → (one : Statement) → Agrees n (step run one) (step other one)
-step_same n run other r a (Display place operands advancing) = record { by = λ s le. refl }
-step_same n run other r a (StopRun place) = record { by = λ s le. refl }
+step_same : {S : Type 0} (n : ℕ) (run other : S → State → Outcome) → ((one : S) → IsRun (run one)) → ((one : S) → Agrees n (run one) (other one))
+    → (one : Verb S) → Agrees n (step run one) (step other one)
+step_same n run other r a (verb.Text one) = record { by = λ s le. refl }
+step_same n run other r a (verb.Ending one inside) = record { by = λ s le. refl }
 
 -- two depths above the budget are the same
 pub exec_same : (d e : ℕ) (one : Statement) (s : State) → s.budget < d → s.budget < e → exec d one s ≡ exec e one s
 exec_same zero e one s below under = absurd (omega arith)
 exec_same (suc d) zero one s below under = absurd (omega arith)
 exec_same (suc d) (suc e) one s below under =
-    spend_same s.budget (place_of one).line s (step (exec d) one) (step (exec e) one) (λ n lt.
-    (step_same n (exec d) (exec e) (exec_runs d) (λ inner. record { by = λ t le. exec_same d e inner t (omega arith) (omega arith) }) one).by (record s { budget = n; line = (place_of one).line }) (omega arith))
+    let line = (out-Statement one).place.line in
+    let verb = (out-Statement one).verb in
+    spend_same s.budget line s (step (exec d) verb) (step (exec e) verb) (λ n lt.
+    (step_same n (exec d) (exec e) (exec_runs d) (λ inner. record { by = λ t le. exec_same d e inner t (omega arith) (omega arith) }) verb).by (record s { budget = n; line = line }) (omega arith))
 
 exec_agrees : (n d e : ℕ) → n < d → n < e → (one : Statement) → Agrees n (exec d one) (exec e one)
 exec_agrees n d e below under one = record { by = λ s le. exec_same d e one s (omega arith) (omega arith) }

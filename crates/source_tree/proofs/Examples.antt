@@ -1,28 +1,50 @@
 -- Programs and what they do.
-use Rattle.std.proofs.Common.{◌≡◌, ℕ, true, false, List, [], ◌∷◌, ◌++◌, None, Some, refl}
+use Rattle.std.proofs.Common.{◌≡◌, ℕ, Bool, true, false, List, [], ◌∷◌, ◌++◌, None, Some, refl}
 use Rattle.std.specs.Prelude.{map}
 use Rattle.station.specs.State.{Shown}
 use Rattle.source_tree.specs.declared.place.Place.{Place}
 use Rattle.source_tree.specs.declared.literal.Sign.TheVariants as sign
-use Rattle.source_tree.specs.declared.literal.LiteralValue.TheVariants.{Numeric, Nonnumeric}
-use Rattle.source_tree.specs.declared.statement.Operand.TheVariants as operand
-use Rattle.source_tree.specs.declared.statement.Operand.{Operand}
-use Rattle.source_tree.specs.declared.statement.Statement.{Statement}
-use Rattle.source_tree.specs.declared.statement.Statement.TheVariants.{Display, StopRun}
+use Rattle.source_tree.specs.declared.literal.Figurative.TheVariants.{Space, Quote}
+use Rattle.source_tree.specs.declared.literal.LiteralValue.TheVariants.{Numeric, Nonnumeric, Figurative, All}
+use Rattle.source_tree.specs.declared.literal.Literal.{Literal}
+use Rattle.source_tree.specs.declared.text.Text.TheVariants as text_as
+use Rattle.source_tree.specs.declared.ending.Ending.TheVariants as ending
+use Rattle.source_tree.specs.declared.statement.Verb.TheVariants as verb
+use Rattle.source_tree.specs.declared.statement.Statement.{Statement, out-Statement, roll-Statement}
 use Rattle.source_tree.specs.declared.program.Paragraph.{Paragraph}
 use Rattle.source_tree.specs.declared.program.Program.{Program}
 use Rattle.source_tree.specs.State.{Stopped, Budget, Done}
 use Rattle.source_tree.specs.Display.{shown_literal, shown_display, line_feed}
-use Rattle.source_tree.specs.Meaning.{Run, meaning, exec, start}
+use Rattle.source_tree.specs.Given.{Given}
+use Rattle.source_tree.specs.State.{State}
+use Rattle.source_tree.specs.Meaning as given
+use Rattle.source_tree.specs.Meaning.{Run, exec}
 
 abbrev pub at : ℕ → ℕ → Place
 at line column = record { line = line; column = column }
 
-abbrev pub text : List ℕ → Operand
-text bytes = operand.Literal (record { value = Nonnumeric bytes; place = at 5 20 })
+abbrev pub text : List ℕ → Literal
+text bytes = record { value = Nonnumeric bytes; place = at 5 20 }
 
-abbrev pub number : List ℕ → List ℕ → Operand
-number whole decimals = operand.Literal (record { value = Numeric (record { sign = sign.Unsigned; whole = whole; decimals = decimals }); place = at 5 24 })
+abbrev pub number : List ℕ → List ℕ → Literal
+number whole decimals = record { value = Numeric (record { sign = sign.Unsigned; whole = whole; decimals = decimals }); place = at 5 24 }
+
+-- DISPLAY with these operands
+abbrev pub display : Place → List Literal → Bool → Statement
+display place operands advancing = roll-Statement (record { place = place; verb = verb.Text (text_as.Display operands advancing) })
+
+abbrev pub stop_run : Place → Statement
+stop_run place = roll-Statement (record { place = place; verb = verb.Ending ending.StopRun (record {}) })
+
+-- with this budget, on 30 July 1926
+abbrev with : ℕ → Given
+with budget = record { budget = budget; day = 50 ∷ 54 ∷ 48 ∷ 55 ∷ 51 ∷ 48 ∷ [] }
+
+abbrev meaning : Program → ℕ → Run
+meaning program budget = given.meaning program (with budget)
+
+abbrev start : ℕ → State
+start budget = given.start (with budget)
 
 -- HELLO
 abbrev pub hello_bytes : List ℕ
@@ -30,10 +52,10 @@ hello_bytes = 72 ∷ 69 ∷ 76 ∷ 76 ∷ 79 ∷ []
 
 -- IDENTIFICATION DIVISION. / PROGRAM-ID. HELLO. / PROCEDURE DIVISION. / MAIN-PARA. / DISPLAY "HELLO". / STOP RUN.
 abbrev pub show_hello : Statement
-show_hello = Display (at 5 12) (text hello_bytes ∷ []) true
+show_hello = display (at 5 12) (text hello_bytes ∷ []) true
 
 abbrev pub stop : Statement
-stop = StopRun (at 6 12)
+stop = stop_run (at 6 12)
 
 abbrev pub hello : Program
 hello = record {
@@ -52,14 +74,17 @@ shows_hello = record { events = map Shown (hello_bytes ++ line_feed ∷ []); end
 
 -- with budget 2 all of it
 hello_with_two : meaning hello 2 ≡ shows_hello
+unfolding out-Statement roll-Statement denote.Hole.Carrier.out denote.Hole.Carrier.roll
 hello_with_two = refl
 
 -- with budget 1 STOP RUN has none left
 hello_with_one : meaning hello 1 ≡ record shows_hello { end = Budget }
+unfolding out-Statement roll-Statement denote.Hole.Carrier.out denote.Hole.Carrier.roll
 hello_with_one = refl
 
 -- with budget 0 nothing is shown
 hello_with_none : meaning hello 0 ≡ record { events = []; end = Budget }
+unfolding out-Statement roll-Statement denote.Hole.Carrier.out denote.Hole.Carrier.roll
 hello_with_none = refl
 
 -- paragraphs without names and STOP RUN, one statement each
@@ -72,15 +97,18 @@ plain all = record { name = record { characters = 80 ∷ []; place = at 2 20 }; 
 
 -- the end of the last paragraph stops, and uses none of the budget
 end_stops : meaning (plain ((show_hello ∷ []) ∷ [])) 1 ≡ shows_hello
+unfolding out-Statement roll-Statement denote.Hole.Carrier.out denote.Hole.Carrier.roll
 end_stops = refl
 
 -- nothing runs after STOP RUN
 stop_is_last : meaning (plain ((stop ∷ show_hello ∷ []) ∷ (show_hello ∷ []) ∷ [])) 9 ≡ record { events = []; end = Stopped }
+unfolding out-Statement roll-Statement denote.Hole.Carrier.out denote.Hole.Carrier.roll
 stop_is_last = refl
 
 -- paragraphs follow one another, and one without sentences uses none of the budget
-in_order : meaning (plain ((Display (at 1 12) (text (65 ∷ []) ∷ []) false ∷ []) ∷ [] ∷ (Display (at 3 12) (text (66 ∷ []) ∷ []) false ∷ []) ∷ [])) 2
+in_order : meaning (plain ((display (at 1 12) (text (65 ∷ []) ∷ []) false ∷ []) ∷ [] ∷ (display (at 3 12) (text (66 ∷ []) ∷ []) false ∷ []) ∷ [])) 2
     ≡ record { events = map Shown (65 ∷ 66 ∷ []); end = Stopped }
+unfolding out-Statement roll-Statement denote.Hole.Carrier.out denote.Hole.Carrier.roll
 in_order = refl
 
 -- a program without paragraphs has stopped
@@ -104,5 +132,11 @@ leading_zeros : shown_literal (Numeric (record { sign = sign.Plus; whole = 48 �
 leading_zeros = refl
 
 -- the line of the statement that last used one of the budget
-last_line : exec 1 show_hello (start 3) ≡ Done (record { budget = 2; line = 5; events = map Shown (hello_bytes ++ line_feed ∷ []) })
+last_line : exec 1 show_hello (start 3) ≡ Done (record (start 2) { line = 5; events = map Shown (hello_bytes ++ line_feed ∷ []) })
+unfolding out-Statement roll-Statement denote.Hole.Carrier.out denote.Hole.Carrier.roll
 last_line = refl
+
+-- DISPLAY SPACE ALL "AB" QUOTE
+figurative_constants : shown_display (record { value = Figurative Space; place = at 5 20 } ∷ record { value = All (65 ∷ 66 ∷ []); place = at 5 26 } ∷ record { value = Figurative Quote; place = at 5 35 } ∷ []) false
+    ≡ 32 ∷ 65 ∷ 66 ∷ 34 ∷ []
+figurative_constants = refl

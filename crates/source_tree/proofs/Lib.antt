@@ -1,3 +1,4 @@
+pub mod Givens
 pub mod Runs
 pub mod Depth
 pub mod Programs

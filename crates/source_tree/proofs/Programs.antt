@@ -2,18 +2,19 @@
 use Rattle.std.proofs.Common.{◌≡◌, ◌≢◌, ℕ, suc, ◌+◌, ◌-◌, ◌<◌, ◌≤◌, refl, sym, ap, subst, arith}
 use Rattle.std.specs.Prelude.{length}
 use Rattle.source_tree.specs.declared.program.Program.{Program}
+use Rattle.source_tree.specs.Given.{Given, with_budget}
 use Rattle.source_tree.specs.State.{Stopped, Budget, Outcome, Done, Over}
 use Rattle.source_tree.specs.Meaning.{paragraphs, start, run_from, told, meaning}
-use Rattle.source_tree.specs.Laws.{Begins}
+use Rattle.station.specs.State.{Begins}
 use Rattle.source_tree.proofs.Runs.{Alike, richer, itself, range_runs}
 use Rattle.source_tree.proofs.Depth.{range_agrees}
 
-deep : (program : Program) (depth budget : ℕ) → budget < depth → run_from depth program (start budget) ≡ run_from (suc budget) program (start budget)
-deep program depth budget below =
-    (range_agrees budget depth (suc budget) below (omega arith) (paragraphs program) (length (paragraphs program))).by (start budget) (omega arith)
+deep : (program : Program) (given : Given) (depth : ℕ) → given.budget < depth → run_from depth program (start given) ≡ run_from (suc given.budget) program (start given)
+deep program given depth below =
+    (range_agrees given.budget depth (suc given.budget) below (omega arith) (paragraphs program) (length (paragraphs program))).by (start given) (omega arith)
 
-pub depth_is_enough : (program : Program) (depth budget : ℕ) → budget < depth → told (run_from depth program (start budget)) ≡ meaning program budget
-depth_is_enough program depth budget below = ap told (deep program depth budget below)
+pub depth_is_enough : (program : Program) (given : Given) (depth : ℕ) → given.budget < depth → told (run_from depth program (start given)) ≡ meaning program given
+depth_is_enough program given depth below = ap told (deep program given depth below)
 
 told_alike : (k : ℕ) (o other : Outcome) → Alike k o other → (told o).end ≢ Budget → told other ≡ told o
 told_alike k (Done s) other a ends = ap told a
@@ -26,22 +27,23 @@ told_begins k (Over Stopped s) other a = subst (λ x. Begins s.events (told x).e
 told_begins k (Over Budget s) (Done t) a = a
 told_begins k (Over Budget s) (Over end t) a = a
 
-richer_start : (budget more : ℕ) → budget ≤ more → richer (more - budget) (start budget) ≡ start more
-richer_start budget more le = let e : budget + (more - budget) ≡ more = omega arith in ap start e
+richer_start : (given : Given) (more : ℕ) → given.budget ≤ more → richer (more - given.budget) (start given) ≡ start (with_budget more given)
+richer_start given more le = let e : given.budget + (more - given.budget) ≡ more = omega arith in ap (λ n. start (with_budget n given)) e
 
 -- the same program, at the depth of the greater budget
-both : (program : Program) (budget more : ℕ) → budget ≤ more
-    → Alike (more - budget) (run_from (suc budget) program (start budget)) (run_from (suc more) program (start more))
-both program budget more le =
-    let e = deep program (suc more) budget (omega arith) in
-    subst (λ o. Alike (more - budget) o (run_from (suc more) program (start more))) e
-    (subst (λ t. Alike (more - budget) (run_from (suc more) program (start budget)) (run_from (suc more) program t)) (richer_start budget more le)
-    ((range_runs (suc more) (paragraphs program) (length (paragraphs program))).alike (more - budget) (start budget)))
+both : (program : Program) (given : Given) (more : ℕ) → given.budget ≤ more
+    → Alike (more - given.budget) (run_from (suc given.budget) program (start given)) (run_from (suc more) program (start (with_budget more given)))
+both program given more le =
+    let e = deep program given (suc more) (omega arith) in
+    let k = more - given.budget in
+    subst (λ o. Alike k o (run_from (suc more) program (start (with_budget more given)))) e
+    (subst (λ t. Alike k (run_from (suc more) program (start given)) (run_from (suc more) program t)) (richer_start given more le)
+    ((range_runs (suc more) (paragraphs program) (length (paragraphs program))).alike k (start given)))
 
-pub enough_budget : (program : Program) (budget more : ℕ) → budget ≤ more → (meaning program budget).end ≢ Budget → meaning program more ≡ meaning program budget
-enough_budget program budget more le ends =
-    told_alike (more - budget) (run_from (suc budget) program (start budget)) (run_from (suc more) program (start more)) (both program budget more le) ends
+pub enough_budget : (program : Program) (given : Given) (more : ℕ) → given.budget ≤ more → (meaning program given).end ≢ Budget → meaning program (with_budget more given) ≡ meaning program given
+enough_budget program given more le ends =
+    told_alike (more - given.budget) (run_from (suc given.budget) program (start given)) (run_from (suc more) program (start (with_budget more given))) (both program given more le) ends
 
-pub more_tells_more : (program : Program) (budget more : ℕ) → budget ≤ more → Begins (meaning program budget).events (meaning program more).events
-more_tells_more program budget more le =
-    told_begins (more - budget) (run_from (suc budget) program (start budget)) (run_from (suc more) program (start more)) (both program budget more le)
+pub more_tells_more : (program : Program) (given : Given) (more : ℕ) → given.budget ≤ more → Begins (meaning program given).events (meaning program (with_budget more given)).events
+more_tells_more program given more le =
+    told_begins (more - given.budget) (run_from (suc given.budget) program (start given)) (run_from (suc more) program (start (with_budget more given))) (both program given more le)

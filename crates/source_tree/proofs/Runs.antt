@@ -4,13 +4,17 @@ use Rattle.std.proofs.Common.{◌≡◌, ℕ, zero, suc, ◌+◌, ◌≤◌, Lis
 use Rattle.std.specs.Prelude.{map}
 use Rattle.std.proofs.lemmas.List.{append-nil, append_assoc}
 use Rattle.station.specs.State.{Event, Shown}
-use Rattle.source_tree.specs.declared.statement.Statement.{Statement}
-use Rattle.source_tree.specs.declared.statement.Statement.TheVariants.{Display, StopRun}
+use Rattle.source_tree.specs.declared.text.Text.{Text}
+use Rattle.source_tree.specs.declared.text.Text.TheVariants as text
+use Rattle.source_tree.specs.declared.ending.Ending.{Ending}
+use Rattle.source_tree.specs.declared.ending.Ending.TheVariants as ending
+use Rattle.source_tree.specs.declared.statement.Verb.{Verb}
+use Rattle.source_tree.specs.declared.statement.Verb.TheVariants as verb
+use Rattle.source_tree.specs.declared.statement.Statement.{Statement, out-Statement}
 use Rattle.source_tree.specs.declared.program.Paragraph.{Paragraph}
-use Rattle.source_tree.specs.Places.{place_of}
 use Rattle.source_tree.specs.State.{State, Stopped, Budget, Outcome, Done, Over, showing, then_do, spend_from, spend, outcome_events}
-use Rattle.source_tree.specs.Meaning.{in_turn, step, exec, sentence, paragraph, range}
-use Rattle.source_tree.specs.Laws.{Begins}
+use Rattle.source_tree.specs.Meaning.{in_turn, texts, finish, step, exec, sentence, paragraph, range}
+use Rattle.station.specs.State.{Begins}
 
 pub itself : (es : List Event) → Begins es es
 itself es = record { rest = []; whole_is = sym (append-nil es) }
@@ -98,13 +102,19 @@ pub in_turn_runs : {A : Type 0} (run : A → State → Outcome) → ((one : A) �
 in_turn_runs run r [] = done_runs
 in_turn_runs run r (one ∷ more) = then_runs (run one) (in_turn run more) (r one) (in_turn_runs run r more)
 
-step_runs : (run : Statement → State → Outcome) → ((one : Statement) → IsRun (run one)) → (one : Statement) → IsRun (step run one)
-step_runs run r (Display place operands advancing) = show_runs _
-step_runs run r (StopRun place) = stop_runs
+texts_runs : (one : Text) → IsRun (texts one)
+texts_runs (text.Display operands advancing) = show_runs _
+
+finish_runs : (one : Ending) → IsRun (finish one)
+finish_runs ending.StopRun = stop_runs
+
+step_runs : {S : Type 0} (run : S → State → Outcome) → ((one : S) → IsRun (run one)) → (one : Verb S) → IsRun (step run one)
+step_runs run r (verb.Text one) = texts_runs one
+step_runs run r (verb.Ending one inside) = finish_runs one
 
 pub exec_runs : (depth : ℕ) (one : Statement) → IsRun (exec depth one)
 exec_runs zero one = record { falls = λ s. tt; grows = λ s. itself s.events; alike = λ k s. itself s.events }
-exec_runs (suc depth) one = spend_runs (place_of one).line (step (exec depth) one) (step_runs (exec depth) (exec_runs depth) one)
+exec_runs (suc depth) one = spend_runs (out-Statement one).place.line (step (exec depth) (out-Statement one).verb) (step_runs (exec depth) (exec_runs depth) (out-Statement one).verb)
 
 pub paragraph_runs : (depth : ℕ) (one : Paragraph) → IsRun (paragraph (exec depth) one)
 paragraph_runs depth one = in_turn_runs (sentence (exec depth)) (λ some. in_turn_runs (exec depth) (exec_runs depth) some.statements) one.sentences

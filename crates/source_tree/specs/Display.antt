@@ -3,10 +3,11 @@ use Rattle.std.specs.Prelude.{ℕ, Bool, true, false, List, [], ◌∷◌, ◌++
 use Rattle.source_tree.specs.declared.literal.Sign.{Sign}
 use Rattle.source_tree.specs.declared.literal.Sign.TheVariants as sign
 use Rattle.source_tree.specs.declared.literal.NumericLiteral.{NumericLiteral}
+use Rattle.source_tree.specs.declared.literal.Figurative.{Figurative}
+use Rattle.source_tree.specs.declared.literal.Figurative.TheVariants.{Zero, Space, HighValue, LowValue, Quote}
 use Rattle.source_tree.specs.declared.literal.LiteralValue.{LiteralValue}
-use Rattle.source_tree.specs.declared.literal.LiteralValue.TheVariants.{Numeric, Nonnumeric}
-use Rattle.source_tree.specs.declared.statement.Operand.{Operand}
-use Rattle.source_tree.specs.declared.statement.Operand.TheVariants as operand
+use Rattle.source_tree.specs.declared.literal.LiteralValue.TheVariants as value
+use Rattle.source_tree.specs.declared.literal.Literal.{Literal}
 
 -- in ASCII
 abbrev pub line_feed : ℕ
@@ -35,21 +36,30 @@ shown_decimals (digit ∷ digits) = point ∷ digit ∷ digits
 abbrev pub shown_number : NumericLiteral → List ℕ
 shown_number n = shown_sign n.sign ++ n.whole ++ shown_decimals n.decimals
 
+-- the character of a figurative constant (COBOL-85, Nucleus, "Figurative constants"); HIGH-VALUE and LOW-VALUE are the
+-- greatest and the least byte (own choice)
+abbrev pub figurative_byte : Figurative → ℕ
+figurative_byte Zero = 48
+figurative_byte Space = 32
+figurative_byte HighValue = 255
+figurative_byte LowValue = 0
+figurative_byte Quote = 34
+
+-- A figurative constant is shown once. ALL shows its literal once (own choice).
 abbrev pub shown_literal : LiteralValue → List ℕ
-shown_literal (Numeric number) = shown_number number
-shown_literal (Nonnumeric bytes) = bytes
+shown_literal (value.Numeric number) = shown_number number
+shown_literal (value.Nonnumeric bytes) = bytes
+shown_literal (value.Figurative one) = figurative_byte one ∷ []
+shown_literal (value.All bytes) = bytes
 
-abbrev pub shown_operand : Operand → List ℕ
-shown_operand (operand.Literal literal) = shown_literal literal.value
-
-abbrev pub shown_operands : List Operand → List ℕ
+abbrev pub shown_operands : List Literal → List ℕ
 shown_operands [] = []
-shown_operands (one ∷ more) = shown_operand one ++ shown_operands more
+shown_operands (one ∷ more) = shown_literal one.value ++ shown_operands more
 
 abbrev pub line_end : Bool → List ℕ
 line_end true = line_feed ∷ []
 line_end false = []
 
 -- The operands follow one another with nothing between, and the line ends unless NO ADVANCING was written.
-abbrev pub shown_display : List Operand → Bool → List ℕ
+abbrev pub shown_display : List Literal → Bool → List ℕ
 shown_display operands advancing = shown_operands operands ++ line_end advancing

@@ -1,6 +1,5 @@
-pub mod Places
+pub mod Given
 pub mod State
 pub mod Display
 pub mod Meaning
-pub mod Laws
 pub use Rattle.station.specs.State as Events

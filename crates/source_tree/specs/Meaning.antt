@@ -2,13 +2,18 @@
 -- acts as STOP RUN and uses none of the budget (own choice; COBOL-85, Nucleus, "Procedure division execution").
 use Rattle.std.specs.Prelude.{ℕ, zero, suc, List, [], ◌∷◌, ◌++◌, length}
 use Rattle.station.specs.State.{Event}
-use Rattle.source_tree.specs.declared.statement.Statement.{Statement}
-use Rattle.source_tree.specs.declared.statement.Statement.TheVariants.{Display, StopRun}
+use Rattle.source_tree.specs.declared.text.Text.{Text}
+use Rattle.source_tree.specs.declared.text.Text.TheVariants as text
+use Rattle.source_tree.specs.declared.ending.Ending.{Ending}
+use Rattle.source_tree.specs.declared.ending.Ending.TheVariants as ending
+use Rattle.source_tree.specs.declared.statement.Verb.{Verb}
+use Rattle.source_tree.specs.declared.statement.Verb.TheVariants as verb
+use Rattle.source_tree.specs.declared.statement.Statement.{Statement, out-Statement}
 use Rattle.source_tree.specs.declared.program.Sentence.{Sentence}
 use Rattle.source_tree.specs.declared.program.Paragraph.{Paragraph}
 use Rattle.source_tree.specs.declared.program.Section.{Section}
 use Rattle.source_tree.specs.declared.program.Program.{Program}
-use Rattle.source_tree.specs.Places.{place_of}
+use Rattle.source_tree.specs.Given.{Given}
 use Rattle.source_tree.specs.State.{State, End, Stopped, Budget, Outcome, Done, Over, showing, then_do, spend}
 use Rattle.source_tree.specs.Display.{shown_display}
 
@@ -17,16 +22,22 @@ abbrev pub in_turn : {A : Type 0} → (A → State → Outcome) → List A → S
 in_turn run [] s = Done s
 in_turn run (one ∷ more) s = then_do (run one s) (in_turn run more)
 
--- One statement after it has used one of the budget. `run` runs the statements that stand in it.
-abbrev pub step : (Statement → State → Outcome) → Statement → State → Outcome
-step run (Display place operands advancing) s = Done (showing (shown_display operands advancing) s)
-step run (StopRun place) s = Over Stopped s
+abbrev pub texts : Text → State → Outcome
+texts (text.Display operands advancing) s = Done (showing (shown_display operands advancing) s)
+
+abbrev pub finish : Ending → State → Outcome
+finish ending.StopRun s = Over Stopped s
+
+-- One statement after it has used one of the budget, by its family. `run` runs the statements that stand in it.
+abbrev pub step : {S : Type 0} → (S → State → Outcome) → Verb S → State → Outcome
+step run (verb.Text one) s = texts one s
+step run (verb.Ending one inside) s = finish one s
 
 -- A statement, with at most `depth` statements in one another, itself among them. Each of these has used one of the
 -- budget, so that a depth above the budget is never used up.
 abbrev pub exec : ℕ → Statement → State → Outcome
 exec zero one s = Over Budget s
-exec (suc depth) one s = spend (place_of one).line s (step (exec depth) one)
+exec (suc depth) one s = spend (out-Statement one).place.line s (step (exec depth) (out-Statement one).verb)
 
 abbrev pub sentence : (Statement → State → Outcome) → Sentence → State → Outcome
 sentence run one s = in_turn run one.statements s
@@ -48,8 +59,8 @@ paragraphs_in (one ∷ more) = one.paragraphs ++ paragraphs_in more
 abbrev pub paragraphs : Program → List Paragraph
 paragraphs program = paragraphs_in program.sections
 
-abbrev pub start : ℕ → State
-start budget = record { budget = budget; line = 0; events = [] }
+abbrev pub start : Given → State
+start given = record { budget = given.budget; line = 0; day = given.day; events = [] }
 
 -- a run of the program from this state, with nesting up to `depth`
 abbrev pub run_from : ℕ → Program → State → Outcome
@@ -65,6 +76,6 @@ abbrev pub told : Outcome → Run
 told (Done s) = record { events = s.events; end = Stopped }
 told (Over end s) = record { events = s.events; end = end }
 
--- the program's run with this budget
-abbrev pub meaning : Program → ℕ → Run
-meaning program budget = told (run_from (suc budget) program (start budget))
+-- the program's run with what it is given
+abbrev pub meaning : Program → Given → Run
+meaning program given = told (run_from (suc given.budget) program (start given))

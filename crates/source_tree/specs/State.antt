@@ -7,6 +7,8 @@ pub record State : Type 0 where
   pub budget : ℕ
   -- the line of the statement that last used one of the budget; 0 before the first
   pub line : ℕ
+  -- the day that the program is told
+  pub day : List ℕ
   -- what was told so far, the first of it first
   pub events : List Event
 

@@ -1,42 +1,22 @@
 //! Statements.
 
-ghost use Rattle.std.specs.Prelude.{◌≡◌};
-ghost use Rattle.source_tree.specs.Places.{place_of};
-
-use crate::literal::Literal;
+use crate::ending::Ending;
 use crate::place::Place;
-use sqlite_items::Items;
+use crate::text::Text;
+use std::marker::PhantomData;
 
-/// What a statement takes a value from.
+/// What a statement does, by families. `S` is the statements inside it: in a tree, `Statement`.
 #[derive(Debug, Drop)]
-pub enum Operand {
-    Literal(Literal),
+pub enum Verb<S> {
+    Text(Text),
+    /// The mark stands for the statements inside until a family has some.
+    Ending(Ending, PhantomData<S>),
 }
 
-/// A statement (COBOL-85, Nucleus, "Procedure division"). Each begins with its place, which is its verb's.
+/// A statement (COBOL-85, Nucleus, "Procedure division").
 #[derive(Debug, Drop)]
-pub enum Statement {
-    /// DISPLAY. One or more operands.
-    Display {
-        place: Place,
-        operands: Items<Operand>,
-        /// The line is ended after the operands: NO ADVANCING was not written.
-        advancing: bool,
-    },
-    /// STOP RUN.
-    StopRun {
-        place: Place,
-    },
-}
-
-impl Statement {
+pub struct Statement {
     /// Where its verb stands.
-    pub fn place(&self) -> Place
-        ensures { result ≡ place_of self.now }
-    {
-        match self {
-            Statement::Display { place, .. } => *place,
-            Statement::StopRun { place } => *place,
-        }
-    }
+    pub place: Place,
+    pub verb: Verb<Statement>,
 }

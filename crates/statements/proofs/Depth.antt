@@ -7,9 +7,9 @@ use Rattle.grammar.proofs.Lists
 use Rattle.grammar.proofs.Lists.{Sound, Complete, Shrinks, Starts}
 use Rattle.grammar.proofs.Parts.{period_sound, period_complete, period_shrinks}
 use Rattle.statements.specs.Spelling as g
-use Rattle.statements.specs.Spelling.{begins_statement}
+use Rattle.statements.specs.Verbs.{begins_statement}
 use Rattle.statements.specs.Reading as r
-use Rattle.statements.proofs.Verbs.{line_shrinks, line_starts, line_sound, line_complete}
+use Rattle.statements.proofs.Lines.{line_shrinks, line_starts, line_sound, line_complete}
 
 statement_shrinks : (depth : ℕ) → Shrinks (g.statement depth)
 statement_shrinks zero x i rest s = absurd s

@@ -1,3 +1,4 @@
-pub mod Operands
+pub mod Standing
 pub mod Verbs
+pub mod Lines
 pub mod Depth

@@ -1,3 +1,6 @@
+pub mod Verbs
+pub mod Display
+pub mod StopRun
 pub mod Spelling
 pub mod Reading
 pub mod Nests

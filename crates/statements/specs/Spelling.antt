@@ -1,40 +1,38 @@
--- Which tokens spell which statement: one line for each line of the grammar.
-use Rattle.std.specs.Prelude.{◌||◌, ℕ, zero, suc, Bool, List}
-use Rattle.tokens.specs.declared.reserved.Reserved.TheVariants as w
-use Rattle.tokens.specs.declared.token.Token.{Token}
-use Rattle.source_tree.specs.declared.statement.Operand.{Operand}
-use Rattle.source_tree.specs.declared.statement.Operand.TheVariants as from
-use Rattle.source_tree.specs.declared.statement.Statement.{Statement}
-use Rattle.source_tree.specs.declared.statement.Statement.TheVariants.{Display, StopRun}
+-- Which tokens spell which statement: one line for each verb, whose rule stands in a file of its own.
+use Rattle.std.specs.Prelude.{ℕ, zero, suc, List}
+use Rattle.source_tree.specs.declared.text.Text.{Text}
+use Rattle.source_tree.specs.declared.text.Text.TheVariants as text
+use Rattle.source_tree.specs.declared.ending.Ending.{Ending}
+use Rattle.source_tree.specs.declared.ending.Ending.TheVariants as ending
+use Rattle.source_tree.specs.declared.statement.Verb.{Verb}
+use Rattle.source_tree.specs.declared.statement.Verb.TheVariants as verb
+use Rattle.source_tree.specs.declared.statement.Statement.{Statement, out-Statement}
 use Rattle.source_tree.specs.declared.program.Sentence.{Sentence}
-use Rattle.grammar.specs.Parts.{Part, ◌then◌, optional, absent, several, here, word, period, literal, begins_literal}
-use Rattle.grammar.specs.Reading.{begins_word}
+use Rattle.grammar.specs.Parts.{Part, ◌then◌, several, here, period}
+use Rattle.statements.specs.Verbs.{begins_statement}
+use Rattle.statements.specs.Display.{display}
+use Rattle.statements.specs.StopRun.{stop_run}
 
 -- how many statements may stand in one another, the outermost among them (own choice)
 abbrev pub max_nesting : ℕ
 max_nesting = 64
 
--- The verbs. Where one stands, a statement begins.
-abbrev pub begins_statement : List Token → Bool
-begins_statement i = begins_word w.Display i || begins_word w.Stop i
+abbrev pub text_line : Text → Part
+text_line (text.Display operands advancing) = display operands advancing
 
-abbrev pub operand : Operand → Part
-operand (from.Literal one) = literal one
-
-abbrev pub begins_operand : List Token → Bool
-begins_operand = begins_literal
-
--- [WITH] NO ADVANCING
-abbrev pub no_advancing : Part
-no_advancing = optional (word w.With) then word w.No then word w.Advancing
+abbrev pub ending_line : Ending → Part
+ending_line ending.StopRun = stop_run
 
 module _ (statement : Statement → Part) where
   -- Each optional part is left out only where its words do not stand, and each list ends only where no more of it can
   -- begin, so that what stands belongs to the innermost statement that can take it (COBOL-85, Nucleus, "Statements").
+  abbrev pub verb_line : Verb Statement → Part
+  verb_line (verb.Text one) = text_line one
+  verb_line (verb.Ending one inside) = ending_line one
+
+  -- A statement stands where its verb does (own choice).
   abbrev pub line : Statement → Part
-  line (Display place operands advancing) =
-      here place then word w.Display then several operand begins_operand operands then absent no_advancing advancing
-  line (StopRun place) = here place then word w.Stop then word w.Run
+  line one = here (out-Statement one).place then verb_line (out-Statement one).verb
 
   abbrev pub statements : List Statement → Part
   statements = several statement begins_statement

@@ -3,29 +3,22 @@
 ghost use Rattle.std.specs.Prelude.{◌≡◌};
 ghost use Rattle.std.specs.Option.{option_copied};
 ghost use Rattle.grammar.specs.Reading.{Reads};
-ghost use Rattle.statements.specs.Reading as spec;
+ghost use Rattle.statements.specs.Display as spec;
 
 use grammar::{ReadFault, Tokens, after_word, begins_literal, literal, past_word};
-use source_tree::{Operand, Statement};
+use source_tree::{Literal, Statement, Text, Verb};
 use sqlite_items::Items;
 use std::alloc::Global;
 use tokens::{Reserved, Token};
 
-#[tactic(auto, unfolding(crate::specs::Reading::operand))]
-fn operand(alloc: Global, tokens: &mut Tokens<'_>) -> Result<Operand, ReadFault>
-    ensures { Reads (spec.operand tokens.old) result tokens.new }
-{
-    Ok(Operand::Literal(literal(alloc, tokens)?))
-}
-
 /// One or more operands.
-#[tactic(auto, unfolding(crate::specs::Reading::operands))]
-fn operands(alloc: Global, tokens: &mut Tokens<'_>) -> Result<Items<Operand>, ReadFault>
-    ensures { Reads (spec.operands tokens.old) result tokens.new }
+#[tactic(auto, unfolding(crate::specs::Display::operands_reader))]
+fn operands(alloc: Global, tokens: &mut Tokens<'_>) -> Result<Items<Literal>, ReadFault>
+    ensures { Reads (spec.operands_reader tokens.old) result tokens.new }
 {
     let mut found = Items::new(alloc);
     for _turn in 0..tokens.len() {
-        found.push(operand(alloc, tokens)?)?;
+        found.push(literal(alloc, tokens)?)?;
         if !begins_literal(tokens) {
             return Ok(found);
         }
@@ -34,7 +27,7 @@ fn operands(alloc: Global, tokens: &mut Tokens<'_>) -> Result<Items<Operand>, Re
 }
 
 /// The tokens after `[WITH] NO ADVANCING`, where that comes first.
-#[tactic(auto, unfolding(crate::specs::Reading::after_no_advancing))]
+#[tactic(auto, unfolding(crate::specs::Display::after_no_advancing))]
 fn after_no_advancing(tokens: &[Token]) -> Option<&[Token]>
     ensures { option_copied result ≡ spec.after_no_advancing tokens.now }
 {
@@ -42,18 +35,16 @@ fn after_no_advancing(tokens: &[Token]) -> Option<&[Token]>
     after_word(no, Reserved::Advancing)
 }
 
-/// A DISPLAY statement.
-#[tactic(auto, unfolding(crate::specs::Reading::display, grammar::specs::Reading::absent))]
-pub fn display(alloc: Global, tokens: &mut Tokens<'_>) -> Result<Statement, ReadFault>
-    ensures { Reads (spec.display tokens.old) result tokens.new }
+/// From the verb on.
+#[tactic(auto, unfolding(crate::specs::Display::display_reader, grammar::specs::Reading::absent))]
+pub fn display(alloc: Global, tokens: &mut Tokens<'_>) -> Result<Verb<Statement>, ReadFault>
+    ensures { Reads (spec.display_reader tokens.old) result tokens.new }
 {
-    let place = tokens.here()?;
     tokens.expect(Reserved::Display)?;
     let operands = operands(alloc, tokens)?;
     let advancing = tokens.is_absent(after_no_advancing(tokens.rest()));
-    Ok(Statement::Display {
-        place,
+    Ok(Verb::Text(Text::Display {
         operands,
         advancing,
-    })
+    }))
 }

@@ -5,8 +5,8 @@
 mod display;
 mod nesting;
 mod sentences;
-mod stop;
+mod stop_run;
 mod verb;
 
 pub use sentences::sentence;
-pub use verb::begins_statement;
+pub use verb::{VerbWord, begins_statement, verb_at, verb_of};

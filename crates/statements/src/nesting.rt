@@ -7,13 +7,12 @@ ghost use Rattle.statements.specs.Reading as spec;
 ghost use Rattle.statements.specs.Nests.{Nests};
 
 use crate::display::display;
-use crate::stop::stop_run;
-use crate::verb::begins_statement;
+use crate::stop_run::stop_run;
+use crate::verb::{VerbWord, begins_statement, verb_at};
 use grammar::{Halt, ReadFault, Tokens};
-use source_tree::Statement;
+use source_tree::{Statement, Verb};
 use sqlite_items::Items;
 use std::alloc::Global;
-use tokens::Reserved;
 
 #[derive(Clone, Copy)]
 pub struct Nesting<F> {
@@ -48,19 +47,28 @@ impl<F: Fn(Global, &mut Tokens<'_>, usize) -> Result<Statement, ReadFault>> Nest
         Err(tokens.refuse())
     }
 
-    /// A statement, by its verb.
+    /// What a statement does, by its verb.
+    #[tactic(auto, unfolding(crate::specs::Reading::verb))]
+    fn verb(&self, tokens: &mut Tokens<'_>) -> Result<Verb<Statement>, ReadFault>
+        requires { Nests self.now.depth (F.pre self.now.statement) (F.post self.now.statement) }
+        ensures { Reads (spec.verb (spec.statement self.now.depth) tokens.old) result tokens.new }
+    {
+        match verb_at(tokens) {
+            Some(VerbWord::Display) => display(self.alloc, tokens),
+            Some(VerbWord::Stop) => stop_run(tokens),
+            None => Err(tokens.refuse()),
+        }
+    }
+
+    /// A statement with its place.
     #[tactic(auto, unfolding(crate::specs::Reading::line))]
     fn line(&self, tokens: &mut Tokens<'_>) -> Result<Statement, ReadFault>
         requires { Nests self.now.depth (F.pre self.now.statement) (F.post self.now.statement) }
         ensures { Reads (spec.line (spec.statement self.now.depth) tokens.old) result tokens.new }
     {
-        if tokens.at_word(Reserved::Display) {
-            display(self.alloc, tokens)
-        } else if tokens.at_word(Reserved::Stop) {
-            stop_run(tokens)
-        } else {
-            Err(tokens.refuse())
-        }
+        let place = tokens.here()?;
+        let verb = self.verb(tokens)?;
+        Ok(Statement { place, verb })
     }
 }
 

@@ -1,14 +1,45 @@
 //! The verbs that begin statements.
 
 ghost use Rattle.std.specs.Prelude.{◌≡◌};
-ghost use Rattle.statements.specs.Spelling as grammar;
+ghost use Rattle.statements.specs.Verbs as spec;
 
 use grammar::Tokens;
-use tokens::Reserved;
+use tokens::{Kind, Reserved};
 
-/// The next token begins a statement.
-pub fn begins_statement(tokens: &Tokens<'_>) -> bool
-    ensures { result ≡ grammar.begins_statement tokens.now }
+/// A reserved word that is a verb.
+#[derive(Clone, Copy, Debug, PartialEq, Eq)]
+pub enum VerbWord {
+    Display,
+    Stop,
+}
+
+/// The verb that a word is.
+pub fn verb_of(word: Reserved) -> Option<VerbWord>
+    ensures { result ≡ spec.verb_of word }
 {
-    tokens.at_word(Reserved::Display) || tokens.at_word(Reserved::Stop)
+    match word {
+        Reserved::Display => Some(VerbWord::Display),
+        Reserved::Stop => Some(VerbWord::Stop),
+        _ => None,
+    }
+}
+
+/// The verb that comes next.
+pub fn verb_at(tokens: &Tokens<'_>) -> Option<VerbWord>
+    ensures { result ≡ spec.verb_at tokens.now }
+{
+    match tokens.rest() {
+        [next, ..] => match next.kind {
+            Kind::Reserved(word) => verb_of(word),
+            _ => None,
+        },
+        [] => None,
+    }
+}
+
+/// The next token begins a statement: it is a verb.
+pub fn begins_statement(tokens: &Tokens<'_>) -> bool
+    ensures { result ≡ spec.begins_statement tokens.now }
+{
+    verb_at(tokens).is_some()
 }

@@ -79,12 +79,13 @@ tells past old bytes later new (n, shows) = record {
 
 -- what was shown so far is a beginning
 pub told_begins : (old : State) (bytes : List ℕ) (s : State) → Telling old bytes s → Begins s.events (shown old bytes).events
-told_begins old bytes s (n, is) = (
-  map Shown (drop n bytes),
-  ap (λ (t : State). t.events ++ map Shown (drop n bytes)) is
+told_begins old bytes s (n, is) = record {
+  rest = map Shown (drop n bytes);
+  whole_is = sym
+      (ap (λ (t : State). t.events ++ map Shown (drop n bytes)) is
       ∙ append_assoc old.events (map Shown (take n bytes)) (map Shown (drop n bytes))
-      ∙ ap (λ (l : List Event). old.events ++ l) (sym (map-append Shown (take n bytes) (drop n bytes)) ∙ ap (map Shown) (take-append-drop n bytes)),
-)
+      ∙ ap (λ (l : List Event). old.events ++ l) (sym (map-append Shown (take n bytes) (drop n bytes)) ∙ ap (map Shown) (take-append-drop n bytes)));
+}
 
 -- a show that works, or does nothing
 pub shows_or_not : {T E : Type 0} (r : Result T E) (past : List State) (old : State) (bytes : List ℕ) (later : List State) (new : State) → OnOk r (new ≡ shown old bytes) → OnOk r (later ≡ past ++ showing old bytes)
@@ -111,7 +112,7 @@ newest_has : (P : State → Type 0) (s : State) (more : List State) → P s → 
 newest_has P s [] here all = here
 newest_has P s (t ∷ more) here all = newest_has P t more all.0 all.1
 
--- what is so at the entry of a stretch, and at each moment of it, is so of the state that it left
+-- what is so at the entry of calls, and at each moment of it, is so of the state that it left
 pub arrives : (past later : List State) (old new : State) (P : State → Type 0) → EndsIn past old → EndsIn later new → P old → Spans past later P → P new
 arrives past later old new P from to here spans =
     let whole : from.earlier ++ old ∷ spans.during ≡ to.earlier ++ new ∷ [] = sym (append_assoc from.earlier (old ∷ []) spans.during) ∙ ap (λ (l : List State). l ++ spans.during) (sym from.is) ∙ sym spans.adds ∙ to.is in

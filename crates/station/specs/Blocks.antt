@@ -7,8 +7,8 @@ use Rattle.station.specs.History.{EachImage}
 use Rattle.station.specs.declared.blocks.Block.{Block}
 
 -- each block is for a sector that is as Q says
-abbrev pub AreAt : (ℕ → Type 0) → List Block → Type 0
-AreAt Q blocks = All (λ b. Q b.sector) blocks
+abbrev pub SectorsAre : (ℕ → Type 0) → List Block → Type 0
+SectorsAre Q blocks = All (λ b. Q b.sector) blocks
 
 -- after these writes
 abbrev pub wrote_all : State → List Block → State
@@ -30,7 +30,7 @@ pub record Writing (seen : List Event) (base : List Sector) (blocks : List Block
   pub only : OnlyWrote base (IsAt blocks) state.disk
 
 -- all other sectors are the same
-pub record Spares (base : List Sector) (blocks : List Block) (image : List Sector) : Type 0 where
+pub record SameOutside (base : List Sector) (blocks : List Block) (image : List Sector) : Type 0 where
   pub count : length image ≡ length base
   pub each : (i : ℕ) → i < length image → (sector_at image i ≡ sector_at base i) ⊎ Contains (map (λ b. b.sector) blocks) i
 
@@ -40,10 +40,10 @@ WithOrWithout base i bytes image = (image ≡ base) ⊎ (image ≡ slice_set bas
 
 -- the root and all sectors but those of the blocks are the old ones, or all are new
 pub data OldOrNew (base : List Sector) (blocks : List Block) (root : ℕ) (bytes : Sector) (image : List Sector) : Type 0 where
-  Old : Spares base blocks image → OldOrNew base blocks root bytes image
+  Old : SameOutside base blocks image → OldOrNew base blocks root bytes image
   New : image ≡ slice_set (with_all base blocks) root bytes → OldOrNew base blocks root bytes image
 
 -- the events are these, and whatever a crash leaves has P
-pub record Amid (seen : List Event) (P : List Sector → Type 0) (state : State) : Type 0 where
+pub record CrashLeaves (seen : List Event) (P : List Sector → Type 0) (state : State) : Type 0 where
   pub events : state.events ≡ seen
   pub images : EachImage P state

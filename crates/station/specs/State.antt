@@ -56,9 +56,10 @@ pub record SameConsole (old new : State) : Type 0 where
   pub events : new.events ≡ old.events
   pub lines : new.lines ≡ old.lines
 
--- a beginning of these events
-abbrev pub Begins : List Event → List Event → Type 0
-Begins events all = (rest : List Event) × (events ++ rest ≡ all)
+-- what was told first, and something after it or nothing
+pub record Begins (first whole : List Event) : Type 0 where
+  pub rest : List Event
+  pub whole_is : whole ≡ first ++ rest
 
 -- What a write that failed may have done.
 pub data MayHaveWritten (old : State) (i : ℕ) (b : Sector) (new : State) : Type 0 where

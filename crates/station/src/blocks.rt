@@ -1,10 +1,9 @@
 //! Sectors that are to be written.
-ghost use Rattle.std.specs.Prelude.{◌≡◌, ◌<◌, ◌↔◌, OnOk};
+ghost use Rattle.std.specs.Prelude.{◌≡◌, ◌<◌, OnOk, IsErr};
 ghost use Rattle.station.specs.Disk.{IsSettled};
-ghost use Rattle.station.specs.State.{SameConsole};
 ghost use Rattle.station.specs.History.{Through};
-ghost use Rattle.station.specs.Failures.{CountsFailure};
-ghost use Rattle.station.specs.Blocks.{AreAt, Writing, wrote_all};
+ghost use Rattle.station.specs.Calls.{OnlyWrites};
+ghost use Rattle.station.specs.Blocks.{SectorsAre, Writing, wrote_all};
 
 use crate::{Device, DeviceError};
 
@@ -17,12 +16,9 @@ pub struct Block {
 
 /// Writes each block. None of them is durable yet.
 pub fn write_blocks<D: Device>(device: &mut D, blocks: &[Block]) -> Result<(), DeviceError>
-    requires { AreAt (λ s. s < D.sectors device.old) blocks.now }
-    ensures honest { D.is_honest device.old ↔ D.is_honest device.new }
-    ensures sectors { D.sectors device.new ≡ D.sectors device.old }
-    ensures failures { CountsFailure result (D.failures device.old) (D.failures device.new) }
+    requires { SectorsAre (λ s. s < D.sectors device.old) blocks.now }
+    ensures only { OnlyWrites D.Device (IsErr result) device.old device.new }
     ensures wrote { D.is_honest device.old → OnOk result (D.state device.new ≡ wrote_all (D.state device.old) blocks.now) }
-    ensures console { D.is_honest device.old → SameConsole (D.state device.old) (D.state device.new) }
 
     // At each moment all that waits is writes to the blocks' sectors.
     ensures moments { D.is_honest device.old → IsSettled (D.state device.old).disk →

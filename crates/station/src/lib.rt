@@ -1,5 +1,5 @@
 //! Sectors, a console, and the moments at which a run may be stopped.
-//! The traits say what a crash may leave; what `put` writes is there as a whole after it, or the old root is.
+//! The traits say what a crash may leave; what `two_phase_write` writes is there as a whole after it, or the old root is.
 #![tactic(auto)]
 
 mod blocks;
@@ -14,11 +14,11 @@ mod laws;
 mod memory;
 mod note;
 mod plan;
-mod putting;
+mod two_phase;
 
 pub use blocks::{Block, write_blocks};
 pub use device::{Device, DeviceError, Station};
 pub use laws::{crash_laws, moment_laws};
 pub use memory::MemoryStation;
 pub use note::Note;
-pub use putting::{put, put_blocks, save};
+pub use two_phase::{two_phase_write, write_blocks_through, write_through};

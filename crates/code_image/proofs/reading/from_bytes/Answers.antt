@@ -2,7 +2,8 @@ use Rattle.std.proofs.Common.{ap, subst, ◌∙◌, arith}
 use Rattle.code_image.specs.Faults.{fault_of}
 use Rattle.answers.specs.Answer.{Gives}
 use Rattle.code_image.specs.Reading.{code_at}
-use Rattle.code_image.proofs.Images.{is_found, is_spelt, code_again}
+use Rattle.code_image.proofs.Soundness.{is_found, is_spelt}
+use Rattle.code_image.proofs.Completeness.{code_again}
 use Rattle.code_image.proofs.reading.from_bytes.Goals as goal
 
 pub returns-clause-found : goal.returns-clause-found

@@ -2,7 +2,8 @@ use Rattle.std.proofs.Common.{rules, arith}
 use Rattle.std.proofs.lemmas.Grind.{common_steps}
 use Rattle.grammar.specs.Reading.{several, several_from}
 use Rattle.statements.specs.Reading.{sentence}
-use Rattle.statements.specs.Spelling.{max_nesting, begins_statement}
+use Rattle.statements.specs.Spelling.{max_nesting}
+use Rattle.statements.specs.Verbs.{begins_statement}
 use Rattle.divisions.specs.Reading.{sentences}
 use Rattle.grammar.proofs.Turns.{one_more, no_more}
 use Rattle.divisions.proofs.paragraphs.sentences.Goals as goal

@@ -1,7 +1,8 @@
 use Rattle.std.proofs.Common.{◌≡◌, ◌-◌}
 use Rattle.grammar.specs.Reading.{several_from}
 use Rattle.statements.specs.Reading.{sentence}
-use Rattle.statements.specs.Spelling.{max_nesting, begins_statement}
+use Rattle.statements.specs.Spelling.{max_nesting}
+use Rattle.statements.specs.Verbs.{begins_statement}
 use Rattle.divisions.specs.Reading.{sentences}
 use Rattle.divisions.proofs.paragraphs.sentences.Given as goal
 

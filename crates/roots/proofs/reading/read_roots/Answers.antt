@@ -10,5 +10,5 @@ returns-then-count-lt2-clause-roots g c = λ honest.
 
 pub returns-in-Ok-clause-within : goal.returns-in-Ok-clause-within
 returns-in-Ok-clause-within g c =
-    let second = subst (λ (n : ℕ). IfValid c.in_ok-second.second (IsWithin n)) c.in_ok-first.ensures.sectors c.in_ok-second.ensures.within in
+    let second = subst (λ (n : ℕ). IfValid c.in_ok-second.second (IsWithin n)) c.in_ok-first.ensures.only.sectors c.in_ok-second.ensures.within in
     both_each (IsWithin (g.D.Device.sectors c.args.device.now)) c.args.own c.in_ok-first.first c.in_ok-second.second c.in-Ok.roots c.in_ok-first.ensures.within second (sym c.in-Ok.ensures)

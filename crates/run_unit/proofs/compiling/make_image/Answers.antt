@@ -1,4 +1,4 @@
-use Rattle.run_unit.proofs.Loading.{made}
+use Rattle.run_unit.proofs.Images.{made}
 use Rattle.run_unit.proofs.compiling.make_image.Goals as goal
 
 pub returns : goal.returns

@@ -2,7 +2,7 @@ use Rattle.std.proofs.Common.{rules, arith}
 use Rattle.std.proofs.lemmas.Grind.{common_steps}
 use Rattle.grammar.specs.Reading.{several, several_from}
 use Rattle.statements.specs.Reading.{statement, statements}
-use Rattle.statements.specs.Spelling.{begins_statement}
+use Rattle.statements.specs.Verbs.{begins_statement}
 use Rattle.grammar.proofs.Turns.{one_more, no_more}
 use Rattle.statements.proofs.nesting.Nesting.statements.Goals as goal
 

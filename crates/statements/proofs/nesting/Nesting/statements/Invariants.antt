@@ -1,7 +1,7 @@
 use Rattle.std.proofs.Common.{◌≡◌, ◌-◌}
 use Rattle.grammar.specs.Reading.{several_from}
 use Rattle.statements.specs.Reading.{statement, statements}
-use Rattle.statements.specs.Spelling.{begins_statement}
+use Rattle.statements.specs.Verbs.{begins_statement}
 use Rattle.statements.proofs.nesting.Nesting.statements.Given as goal
 
 abbrev pub invariant-loop-turn : goal.invariant-loop-turn

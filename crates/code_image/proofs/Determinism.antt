@@ -1,0 +1,51 @@
+-- A run ends in one way, and what was told stays told.
+use Rattle.std.proofs.Common.{◌≡◌, ℕ, zero, suc, ◌+◌, ◌≤◌, List, Option, Some, None, sym, ◌∙◌, ⊎_elim, arith}
+use Rattle.std.specs.Prelude.{slice_get}
+use Rattle.std.proofs.lemmas.Bool.{cases_lt}
+use Rattle.source_tree.specs.State.{State, showing}
+use Rattle.source_tree.specs.Given.{Given}
+use Rattle.source_tree.specs.Meaning.{Run}
+use Rattle.code_image.specs.declared.code.Code.{Code}
+use Rattle.code_image.specs.declared.instruction.Instruction.{Instruction}
+use Rattle.code_image.specs.declared.instruction.Instruction.TheVariants.{Tick, Show, Stop}
+use Rattle.code_image.specs.Points.{Point, first_point}
+use Rattle.code_image.specs.Table.{Next, onward, tick_from, show_from, act, exec_code, Runs}
+
+-- where f is over, g is over with the same run
+abbrev Extends : Next → Next → Type 0
+Extends f g = (p : Point) (run : Run) → f p ≡ Some run → g p ≡ Some run
+
+module _ (f g : Next) (h : Extends f g) where
+  tick_extends : (left line : ℕ) (p : Point) (s : State) (run : Run) → tick_from left line (onward f p) s ≡ Some run → tick_from left line (onward g p) s ≡ Some run
+  tick_extends zero line p s run e = e
+  tick_extends (suc n) line p s run e = h (record p { address = p.address + 1; state = record s { budget = n; line = line } }) run e
+
+  show_extends : (bytes : Option (List ℕ)) (p : Point) (s : State) (run : Run) → show_from bytes (onward f p) s ≡ Some run → show_from bytes (onward g p) s ≡ Some run
+  show_extends None p s run e = e
+  show_extends (Some bytes) p s run e = h (record p { address = p.address + 1; state = showing bytes s }) run e
+
+  act_extends : (code : Code) (i : Option Instruction) (p : Point) (run : Run) → act code i f p ≡ Some run → act code i g p ≡ Some run
+  act_extends code None p run e = e
+  act_extends code (Some (Tick line)) p run e = tick_extends p.state.budget line p p.state run e
+  act_extends code (Some (Show literal)) p run e = show_extends (slice_get code.literals literal.number) p p.state run e
+  act_extends code (Some Stop) p run e = e
+
+longer : (code : Code) (m n : ℕ) → m ≤ n → Extends (exec_code code m) (exec_code code n)
+longer code zero n le p run e = cc
+longer code (suc m) zero le p run e = absurd (omega arith)
+longer code (suc m) (suc n) le p run e =
+    act_extends (exec_code code m) (exec_code code n) (longer code m n (omega arith)) code (slice_get code.instructions p.address) p run e
+
+some_same : (run other : Run) → Some run ≡ Some other → run ≡ other
+some_same run other e = cc
+
+-- from any point
+pub same_end : (code : Code) (m n : ℕ) (p : Point) (run other : Run) → exec_code code m p ≡ Some run → exec_code code n p ≡ Some other → run ≡ other
+same_end code m n p run other r q =
+    ⊎_elim
+    (λ lt. some_same run other (sym (longer code m n (omega arith) p run r) ∙ q))
+    (λ le. some_same run other (sym r ∙ longer code n m le p other q))
+    (cases_lt m n)
+
+pub one_run : (code : Code) (given : Given) (run other : Run) → Runs code given run → Runs code given other → run ≡ other
+one_run code given run other r q = same_end code r.0 q.0 (first_point given) run other r.1 q.1

@@ -1,0 +1,388 @@
+//! Rows of code, its images and its runs: HELLO at each budget, failing shows, images cut and changed.
+
+use crate::asserted::{same, same_in};
+use code_image::{Code, ImageError, Instruction, LiteralIndex, from_bytes, to_bytes, verify};
+use codegen::generate;
+use machine::{Ended, Machine, Refusal};
+use source_tree::{
+    Ending, Figurative, Literal, LiteralValue, Name, NumericLiteral, Paragraph, Place, Program,
+    Section, Sentence, Sign, Statement, Text, Verb,
+};
+use sqlite_items::Items;
+use station::MemoryStation;
+use std::alloc::{AllocError, Global};
+use std::marker::PhantomData;
+use std::test::Fail;
+
+const DAY: [u8; 6] = *b"000000";
+
+/// No run of these rows needs more.
+const ENOUGH: u64 = 1000;
+
+fn place(line: u32) -> Place {
+    Place { line, column: 12 }
+}
+
+fn list<T: Drop>(alloc: Global, item: T) -> Result<Items<T>, AllocError> {
+    let mut items = Items::new(alloc);
+    items.push(item)?;
+    Ok(items)
+}
+
+fn text(alloc: Global, line: u32, bytes: &[u8]) -> Result<Literal, AllocError> {
+    Ok(Literal {
+        value: LiteralValue::Nonnumeric(Items::from_slice(alloc, bytes)?),
+        place: place(line),
+    })
+}
+
+fn number(alloc: Global, sign: Sign, whole: &[u8], decimals: &[u8]) -> Result<Literal, AllocError> {
+    Ok(Literal {
+        value: LiteralValue::Numeric(NumericLiteral {
+            sign,
+            whole: Items::from_slice(alloc, whole)?,
+            decimals: Items::from_slice(alloc, decimals)?,
+        }),
+        place: place(1),
+    })
+}
+
+fn display(alloc: Global, line: u32, bytes: &[u8]) -> Result<Statement, AllocError> {
+    Ok(Statement {
+        place: place(line),
+        verb: Verb::Text(Text::Display {
+            operands: list(alloc, text(alloc, line, bytes)?)?,
+            advancing: true,
+        }),
+    })
+}
+
+/// DISPLAY with NO ADVANCING.
+fn unended(operands: Items<Literal>) -> Statement {
+    Statement {
+        place: place(5),
+        verb: Verb::Text(Text::Display {
+            operands,
+            advancing: false,
+        }),
+    }
+}
+
+fn stop_run(line: u32) -> Statement {
+    Statement {
+        place: place(line),
+        verb: Verb::Ending(Ending::StopRun, PhantomData),
+    }
+}
+
+/// One paragraph of one sentence.
+fn program(alloc: Global, statements: Items<Statement>) -> Result<Program, AllocError> {
+    let paragraph = Paragraph {
+        name: None,
+        sentences: list(alloc, Sentence { statements })?,
+    };
+    let section = Section {
+        name: None,
+        paragraphs: list(alloc, paragraph)?,
+    };
+    Ok(Program {
+        name: Name {
+            characters: Items::from_slice(alloc, b"HELLO")?,
+            place: place(2),
+        },
+        sections: list(alloc, section)?,
+    })
+}
+
+/// DISPLAY "HELLO". STOP RUN.
+fn hello(alloc: Global) -> Result<Code, AllocError> {
+    let mut statements = list(alloc, display(alloc, 5, b"HELLO")?)?;
+    statements.push(stop_run(6))?;
+    generate(alloc, &program(alloc, statements)?)
+}
+
+/// DISPLAY "A". DISPLAY "BC". DISPLAY "D". STOP RUN.
+fn three_shows(alloc: Global) -> Result<Code, AllocError> {
+    let mut statements = list(alloc, display(alloc, 5, b"A")?)?;
+    statements.push(display(alloc, 6, b"BC")?)?;
+    statements.push(display(alloc, 7, b"D")?)?;
+    statements.push(stop_run(8))?;
+    generate(alloc, &program(alloc, statements)?)
+}
+
+fn new_station(alloc: Global) -> Result<MemoryStation, AllocError> {
+    MemoryStation::new(alloc, Vec::new(alloc), Vec::new(alloc))
+}
+
+/// Runs code on a station, and answers its end and all that the station shows.
+fn run_on(
+    alloc: Global,
+    station: &mut MemoryStation,
+    code: Code,
+    budget: u64,
+) -> Result<(Ended, Vec<u8>), Fail> {
+    let machine = Machine::new(alloc, verify(code)?, DAY)?;
+    let ended = machine.run(station, budget);
+    Ok((ended, station.shown()?))
+}
+
+fn run(alloc: Global, code: Code, budget: u64) -> Result<(Ended, Vec<u8>), Fail> {
+    run_on(alloc, &mut new_station(alloc)?, code, budget)
+}
+
+#[test]
+fn hello_at_each_budget(rt: HostRuntime) -> Result<(), Fail> {
+    let rows: [(u64, Ended, &[u8]); 4] = [
+        (0, Ended::Budget, b""),
+        (1, Ended::Budget, b"HELLO\n"),
+        (2, Ended::Stopped, b"HELLO\n"),
+        (ENOUGH, Ended::Stopped, b"HELLO\n"),
+    ];
+    for (budget, end, bytes) in rows.iter() {
+        let (ended, shown) = run(rt.alloc(), hello(rt.alloc())?, *budget)?;
+        same(&rt, ended, *end);
+        same(&rt, shown.as_slice(), *bytes);
+    }
+    Ok(())
+}
+
+#[test]
+fn the_last_paragraph_ends_without_budget(rt: HostRuntime) -> Result<(), Fail> {
+    let alloc = rt.alloc();
+    let statements = list(alloc, display(alloc, 5, b"HELLO")?)?;
+    let code = generate(alloc, &program(alloc, statements)?)?;
+    let (ended, shown) = run(alloc, code, 1)?;
+    same(&rt, ended, Ended::Stopped);
+    same(&rt, shown.as_slice(), b"HELLO\n".as_slice());
+    Ok(())
+}
+
+#[test]
+fn literals_are_shown_as_written(rt: HostRuntime) -> Result<(), Fail> {
+    let alloc = rt.alloc();
+    let mut operands = list(alloc, text(alloc, 5, b"A")?)?;
+    operands.push(number(alloc, Sign::Unsigned, b"12", b"50")?)?;
+    operands.push(text(alloc, 5, b"it's")?)?;
+    operands.push(number(alloc, Sign::Minus, b"007", b"")?)?;
+    operands.push(number(alloc, Sign::Plus, b"", b"5")?)?;
+    let statement = unended(operands);
+    let code = generate(alloc, &program(alloc, list(alloc, statement)?)?)?;
+    let (ended, shown) = run(alloc, code, 1)?;
+    same(&rt, ended, Ended::Stopped);
+    same(&rt, shown.as_slice(), b"A12.50it's-007+.5".as_slice());
+    Ok(())
+}
+
+/// A figurative constant is shown once (COBOL-85, Nucleus, "The DISPLAY statement").
+#[test]
+fn figurative_constants_are_shown_once(rt: HostRuntime) -> Result<(), Fail> {
+    let alloc = rt.alloc();
+    let rows: [(Figurative, &[u8]); 5] = [
+        (Figurative::Zero, b"0"),
+        (Figurative::Space, b" "),
+        (Figurative::HighValue, b"\xff"),
+        (Figurative::LowValue, b"\x00"),
+        (Figurative::Quote, b"\""),
+    ];
+    for (constant, bytes) in rows.iter() {
+        let operand = Literal {
+            value: LiteralValue::Figurative(*constant),
+            place: place(5),
+        };
+        let statement = unended(list(alloc, operand)?);
+        let code = generate(alloc, &program(alloc, list(alloc, statement)?)?)?;
+        let (_, shown) = run(alloc, code, 1)?;
+        same(&rt, shown.as_slice(), *bytes);
+    }
+    Ok(())
+}
+
+#[test]
+fn a_failing_show_is_refused(rt: HostRuntime) -> Result<(), Fail> {
+    let rows: [(u64, &[u8]); 3] = [(1, b""), (2, b"A\n"), (3, b"A\nBC\n")];
+    for (call, bytes) in rows.iter() {
+        let mut station = new_station(rt.alloc())?;
+        station.fail_at(*call);
+        let (ended, shown) = run_on(rt.alloc(), &mut station, three_shows(rt.alloc())?, ENOUGH)?;
+        same(&rt, ended, Ended::Refused(Refusal::Device));
+        same(&rt, Refusal::Device.number(), 80);
+        same(&rt, shown.as_slice(), *bytes);
+    }
+    // the fourth show never comes
+    let mut station = new_station(rt.alloc())?;
+    station.fail_at(4);
+    let (ended, shown) = run_on(rt.alloc(), &mut station, three_shows(rt.alloc())?, ENOUGH)?;
+    same(&rt, ended, Ended::Stopped);
+    same(&rt, shown.as_slice(), b"A\nBC\nD\n".as_slice());
+    Ok(())
+}
+
+/// HELLO's image, byte by byte from the layout.
+fn hello_image(alloc: Global) -> Result<Vec<u8>, AllocError> {
+    let mut image = b"COBIMG01".to_vec(alloc)?;
+    // no areas, no items, one literal of six bytes
+    for count in [0, 0, 1, 6] {
+        image.extend_from_slice(&[0, 0, 0, 0, 0, 0, 0, count])?;
+    }
+    image.extend_from_slice(b"HELLO\n")?;
+    // no pictures, no files, one code paragraph that starts at 0, five instructions
+    for count in [0, 0, 1, 0, 5] {
+        image.extend_from_slice(&[0, 0, 0, 0, 0, 0, 0, count])?;
+    }
+    image.extend_from_slice(&[1, 0, 0, 0, 5])?;
+    image.extend_from_slice(&[2, 0, 0, 0, 0, 0, 0, 0, 0])?;
+    image.extend_from_slice(&[1, 0, 0, 0, 6])?;
+    image.extend_from_slice(&[3, 3])?;
+    Ok(image)
+}
+
+/// The number of the refusal, 0 where the bytes are an image.
+fn fault(alloc: Global, bytes: &[u8]) -> u8 {
+    match from_bytes(alloc, bytes) {
+        Err(ImageError::Refused(fault)) => fault.number(),
+        Err(ImageError::Memory) => 83,
+        Ok(_) => 0,
+    }
+}
+
+#[test]
+fn the_image_of_hello(rt: HostRuntime) -> Result<(), Fail> {
+    let alloc = rt.alloc();
+    let image = to_bytes(alloc, &hello(alloc)?)?;
+    same(&rt, image.as_slice(), hello_image(alloc)?.as_slice());
+    let (ended, shown) = run(alloc, from_bytes(alloc, &image)?, 2)?;
+    same(&rt, ended, Ended::Stopped);
+    same(&rt, shown.as_slice(), b"HELLO\n".as_slice());
+    Ok(())
+}
+
+#[test]
+fn an_image_cut_short(rt: HostRuntime) -> Result<(), Fail> {
+    let alloc = rt.alloc();
+    let image = hello_image(alloc)?;
+    for cut in 0..image.len() {
+        let expected = if cut < 8 { 70 } else { 71 };
+        same_in(&rt, &cut, fault(alloc, &image[..cut]), expected);
+    }
+    let mut longer = hello_image(alloc)?;
+    longer.push(0)?;
+    same(&rt, fault(alloc, &longer), 71);
+    Ok(())
+}
+
+/// Refused with 70 to 74, or a run that ends within its budget.
+fn is_harmless(alloc: Global, image: &[u8]) -> Result<bool, Fail> {
+    let code = match from_bytes(alloc, image) {
+        Ok(code) => code,
+        Err(ImageError::Refused(fault)) => return Ok((70..=72).contains(&fault.number())),
+        Err(ImageError::Memory) => return Ok(false),
+    };
+    match verify(code) {
+        Err(fault) => Ok(fault.number() == 73 || fault.number() == 74),
+        Ok(verified) => {
+            let mut station = new_station(alloc)?;
+            let ended = Machine::new(alloc, verified, DAY)?.run(&mut station, ENOUGH);
+            Ok(ended == Ended::Stopped)
+        }
+    }
+}
+
+fn with_byte(alloc: Global, image: &[u8], at: usize, byte: u8) -> Result<Vec<u8>, AllocError> {
+    let mut changed = image.to_vec(alloc)?;
+    if let Some(place) = changed.get_mut(at) {
+        *place = byte;
+    }
+    Ok(changed)
+}
+
+#[test]
+fn an_image_with_one_byte_changed(rt: HostRuntime) -> Result<(), Fail> {
+    let alloc = rt.alloc();
+    let image = hello_image(alloc)?;
+    for at in 0..image.len() {
+        for other in 0..=255u8 {
+            let changed = with_byte(alloc, image.as_slice(), at, other)?;
+            same_in(
+                &rt,
+                &(at, other),
+                is_harmless(alloc, changed.as_slice())?,
+                true,
+            );
+            if at < 8 && changed != image {
+                same_in(&rt, &(at, other), fault(alloc, changed.as_slice()), 70);
+            }
+        }
+    }
+    Ok(())
+}
+
+fn code(alloc: Global, instructions: &[Instruction], starts: &[usize]) -> Result<Code, AllocError> {
+    Ok(Code {
+        literals: list(alloc, Items::from_slice(alloc, b"A")?)?,
+        starts: Items::from_slice(alloc, starts)?,
+        instructions: Items::from_slice(alloc, instructions)?,
+    })
+}
+
+fn verdict(code: Code) -> u8 {
+    match verify(code) {
+        Ok(_) => 0,
+        Err(fault) => fault.number(),
+    }
+}
+
+#[test]
+fn code_that_a_machine_refuses(rt: HostRuntime) -> Result<(), Fail> {
+    let alloc = rt.alloc();
+    let tick = Instruction::Tick { line: 1 };
+    let first = Instruction::Show {
+        literal: LiteralIndex { number: 0 },
+    };
+    let second = Instruction::Show {
+        literal: LiteralIndex { number: 1 },
+    };
+    same(
+        &rt,
+        verdict(code(alloc, &[tick, first, Instruction::Stop], &[0, 2])?),
+        0,
+    );
+    same(&rt, verdict(code(alloc, &[Instruction::Stop], &[])?), 0);
+    // the second literal of one
+    same(
+        &rt,
+        verdict(code(alloc, &[tick, second, Instruction::Stop], &[0])?),
+        73,
+    );
+    // a paragraph that starts after the code
+    same(
+        &rt,
+        verdict(code(alloc, &[tick, first, Instruction::Stop], &[3])?),
+        73,
+    );
+    // stop isn't last, or there is no instruction
+    same(
+        &rt,
+        verdict(code(alloc, &[tick, Instruction::Stop, first], &[0])?),
+        74,
+    );
+    same(&rt, verdict(code(alloc, &[], &[])?), 74);
+    Ok(())
+}
+
+#[test]
+fn bytes_that_are_no_image(rt: HostRuntime) -> Result<(), Fail> {
+    let alloc = rt.alloc();
+    same(&rt, fault(alloc, b""), 70);
+    same(&rt, fault(alloc, b"COBIMG02"), 70);
+    same(&rt, fault(alloc, b"COBIMG01"), 71);
+    // an entry in the table of areas
+    same(&rt, fault(alloc, b"COBIMG01\0\0\0\0\0\0\0\x01"), 72);
+    // an instruction of an unknown kind
+    for kind in [0, 4, 255] {
+        let mut image = hello_image(alloc)?;
+        image.pop();
+        image.push(kind)?;
+        same_in(&rt, &kind, fault(alloc, &image), 72);
+    }
+    Ok(())
+}

@@ -1,0 +1,244 @@
+//! Rows of trees: which source texts have a tree and what it is, and where the others are refused.
+
+use crate::asserted::{same, same_in};
+use divisions::{ParseFault, parse};
+use source_lines::logical;
+use source_tree::{Ending, Program, Statement, Text, Verb};
+use std::alloc::{AllocError, Global};
+use std::test::Fail;
+use tokens::scan;
+
+const HEADER: &str =
+    "       IDENTIFICATION DIVISION.\n       PROGRAM-ID. HELLO.\n       PROCEDURE DIVISION.\n";
+
+/// What comes after the three lines of `HEADER`, and its tree as `shape` writes it.
+const TREES: [(&str, &str); 14] = [
+    // HELLO in its six lines, with END PROGRAM, and with another name there
+    (
+        "       MAIN-PARA.\n           DISPLAY \"HELLO\".\n           STOP RUN.\n",
+        "HELLO|MAIN-PARA@4:8.D1+@5:12.S@6:12",
+    ),
+    (
+        "       MAIN-PARA.\n           DISPLAY \"HELLO\".\n           STOP RUN.\n       END PROGRAM HELLO.\n",
+        "HELLO|MAIN-PARA@4:8.D1+@5:12.S@6:12",
+    ),
+    (
+        "       MAIN-PARA.\n           DISPLAY \"HELLO\".\n           STOP RUN.\n       END PROGRAM ANOTHER.\n",
+        "HELLO|MAIN-PARA@4:8.D1+@5:12.S@6:12",
+    ),
+    // sentences alone
+    ("           STOP RUN.\n", "HELLO|.S@4:12"),
+    // a sentence of two statements is not two sentences
+    (
+        "           DISPLAY 1 DISPLAY 2 STOP RUN.\n",
+        "HELLO|.D1+@4:12D1+@4:22S@4:32",
+    ),
+    (
+        "           DISPLAY 1. DISPLAY 2.\n           STOP RUN.\n",
+        "HELLO|.D1+@4:12.D1+@4:23.S@5:12",
+    ),
+    // two paragraphs, and one without sentences
+    (
+        "       A.\n           DISPLAY 1.\n       B.\n           STOP RUN.\n",
+        "HELLO|A@4:8.D1+@5:12|B@6:8.S@7:12",
+    ),
+    (
+        "       A.\n       B.\n           STOP RUN.\n",
+        "HELLO|A@4:8|B@5:8.S@6:12",
+    ),
+    ("       A.\n", "HELLO|A@4:8"),
+    // sentences before the first paragraph
+    (
+        "           DISPLAY 1.\n       A.\n           STOP RUN.\n",
+        "HELLO|.D1+@4:12|A@5:8.S@6:12",
+    ),
+    // the phrase of DISPLAY
+    (
+        "           DISPLAY \"A\" 12.50 'it''s' WITH NO ADVANCING.\n",
+        "HELLO|.D3-@4:12",
+    ),
+    (
+        "           DISPLAY \"A\" 12.50 'it''s' NO ADVANCING.\n",
+        "HELLO|.D3-@4:12",
+    ),
+    (
+        "           DISPLAY \"A\" 12.50 'it''s'.\n",
+        "HELLO|.D3+@4:12",
+    ),
+    (
+        "           display 1 no advancing stop run.\n",
+        "HELLO|.D1-@4:12S@4:35",
+    ),
+];
+
+/// What comes after the three lines of `HEADER`, and the fault's number, line and column.
+const FAULTS: [(&str, u8, u32, u8); 19] = [
+    // nothing after PROCEDURE DIVISION. : at the last token
+    ("", 30, 3, 26),
+    // a missing period at the end
+    ("           STOP RUN\n", 30, 4, 17),
+    // an unknown verb, alone, after a sentence and in one; a verb of a later form of the language
+    ("           SHOW 1.\n", 30, 4, 12),
+    ("           STOP RUN.\n           SHOW 1.\n", 30, 5, 12),
+    ("           STOP RUN\n           SHOW 1.\n", 30, 5, 12),
+    // a paragraph's name without its period
+    ("       A\n           STOP RUN.\n", 30, 4, 8),
+    ("           MOVE 1.\n", 30, 4, 12),
+    // what is no statement
+    ("           RUN.\n", 30, 4, 12),
+    ("           DISPLAY.\n", 30, 4, 19),
+    ("           STOP.\n", 30, 4, 16),
+    ("           DISPLAY 1 WITH.\n", 30, 4, 22),
+    ("           DISPLAY 1 NO.\n", 30, 4, 22),
+    // a period that is missing between sentences and a paragraph, and one too many
+    ("           DISPLAY 1\n       A.\n", 30, 5, 8),
+    ("           DISPLAY 1. .\n", 30, 4, 23),
+    // a section, and a word too many at the end
+    ("       A SECTION.\n", 30, 4, 8),
+    (
+        "           STOP RUN.\n       END PROGRAM HELLO. STOP\n",
+        30,
+        5,
+        27,
+    ),
+    ("           STOP RUN.\n       END PROGRAM.\n", 30, 5, 19),
+    (
+        "           STOP RUN.\n       END PROGRAM HELLO\n",
+        30,
+        5,
+        20,
+    ),
+    ("           STOP RUN.\n       END HELLO.\n", 30, 5, 12),
+];
+
+/// Whole texts, and the fault's number, line and column.
+const TEXTS: [(&str, u8, u32, u8); 5] = [
+    ("", 30, 1, 1),
+    ("      * a comment alone\n", 30, 1, 1),
+    ("       IDENTIFICATION DIVISION.\n", 30, 1, 31),
+    ("       PROGRAM-ID. HELLO.\n", 30, 1, 8),
+    (
+        "       IDENTIFICATION DIVISION.\n       PROGRAM-ID. HELLO.\n       DATA DIVISION.\n",
+        30,
+        3,
+        8,
+    ),
+];
+
+fn tree(alloc: Global, source: &str) -> Result<Result<Program, ParseFault>, Fail> {
+    let tokens = scan(alloc, &logical(alloc, source.as_bytes())?)?;
+    Ok(parse(alloc, tokens.as_slice()))
+}
+
+fn push_text(to: &mut String, bytes: &[u8]) -> Result<(), AllocError> {
+    to.push_str(str::from_utf8(bytes).unwrap_or("?"))
+}
+
+fn push_statement(to: &mut String, alloc: Global, statement: &Statement) -> Result<(), AllocError> {
+    match &statement.verb {
+        Verb::Text(
+            Text::Display {
+                operands,
+                advancing,
+            },
+        ) => {
+            let end = if *advancing { "+" } else { "-" };
+            to.push_str(format!(in alloc; "D{}{end}", operands.len())?.as_str())?;
+        }
+        Verb::Ending(Ending::StopRun, _) => to.push_str("S")?,
+    }
+    let place = statement.place;
+    to.push_str(format!(in alloc; "@{}:{}", place.line, place.column)?.as_str())
+}
+
+/// The program's name; for each paragraph `|`, its name and place; for each sentence `.` and its statements: `D`, the number
+/// of operands and `+`, or `-` for NO ADVANCING; `S` for STOP RUN; each with its place.
+fn shape(alloc: Global, program: &Program) -> Result<String, AllocError> {
+    let mut shape = String::new(alloc);
+    push_text(&mut shape, program.name.characters.as_slice())?;
+    for section in program.sections.as_slice() {
+        for paragraph in section.paragraphs.as_slice() {
+            shape.push_str("|")?;
+            if let Some(name) = &paragraph.name {
+                push_text(&mut shape, name.characters.as_slice())?;
+                shape.push_str(format!(in alloc;
+                    "@{}:{}",
+                    name.place.line, name.place.column
+                )?.as_str())?;
+            }
+            for sentence in paragraph.sentences.as_slice() {
+                shape.push_str(".")?;
+                for statement in sentence.statements.as_slice() {
+                    push_statement(&mut shape, alloc, statement)?;
+                }
+            }
+        }
+    }
+    Ok(shape)
+}
+
+fn fault(alloc: Global, source: &str) -> Result<(u8, u32, u8), Fail> {
+    Ok(match tree(alloc, source)? {
+        Err(ParseFault::Refused(fault)) => (
+            fault.kind.number(),
+            fault.place.line,
+            fault.place.column,
+        ),
+        _ => (0, 0, 0),
+    })
+}
+
+#[test]
+fn trees_of_source_texts(rt: HostRuntime) -> Result<(), Fail> {
+    for (body, expected) in TREES.iter() {
+        let source = format!(in rt.alloc(); "{HEADER}{body}")?;
+        let program = tree(rt.alloc(), source.as_str())??;
+        same_in(&rt, &body, shape(rt.alloc(), &program)?.as_str(), *expected);
+    }
+    Ok(())
+}
+
+#[test]
+fn texts_without_a_tree(rt: HostRuntime) -> Result<(), Fail> {
+    for (body, number, line, column) in FAULTS.iter() {
+        let source = format!(in rt.alloc(); "{HEADER}{body}")?;
+        same_in(
+            &rt,
+            &body,
+            fault(rt.alloc(), source.as_str())?,
+            (*number, *line, *column),
+        );
+    }
+    for (source, number, line, column) in TEXTS.iter() {
+        same_in(
+            &rt,
+            &source,
+            fault(rt.alloc(), source)?,
+            (*number, *line, *column),
+        );
+    }
+    Ok(())
+}
+
+/// The operands of a DISPLAY keep their order.
+#[test]
+fn operands_in_order(rt: HostRuntime) -> Result<(), Fail> {
+    let source = format!(in rt.alloc(); "{HEADER}           DISPLAY \"A\" \"B\" \"C\".\n")?;
+    let program = tree(rt.alloc(), source.as_str())??;
+    let mut columns = Vec::new(rt.alloc());
+    for section in program.sections.as_slice() {
+        for paragraph in section.paragraphs.as_slice() {
+            for sentence in paragraph.sentences.as_slice() {
+                for statement in sentence.statements.as_slice() {
+                    if let Verb::Text(Text::Display { operands, .. }) = &statement.verb {
+                        for operand in operands.as_slice() {
+                            columns.push(operand.place.column)?;
+                        }
+                    }
+                }
+            }
+        }
+    }
+    same(&rt, columns.as_slice(), [20, 24, 28].as_slice());
+    Ok(())
+}

@@ -1,0 +1,34 @@
+-- A source text has at most one tree, and an image at most one code and one run. What the stages promise comes as premises.
+use Rattle.std.proofs.Common.{◌≡◌, ℕ, List, subst}
+use Rattle.tokens.specs.declared.token.Token.{Token}
+use Rattle.source_tree.specs.declared.program.Program.{Program}
+use Rattle.source_tree.specs.Given.{Given}
+use Rattle.source_tree.specs.Meaning.{Run}
+use Rattle.statements.specs.Spelling.{max_nesting}
+use Rattle.divisions.specs.Spelling.{Spells}
+use Rattle.code_image.specs.declared.code.Code.{Code}
+use Rattle.code_image.specs.Table.{Runs}
+use Rattle.run_unit.specs.Trees.{IsTreeOf}
+use Rattle.run_unit.specs.Images.{IsImageOf, HasRun}
+use Rattle.run_unit.proofs.Stages.{value, OneFormat, OneScan, spelled_by}
+use Rattle.run_unit.proofs.Images.{OneSpelling, read_again}
+
+-- what `one_tree` says
+abbrev pub OneTree : Type 0
+OneTree = (depth depth' : ℕ) (tree tree' : Program) (found : List Token) → Spells depth tree found → Spells depth' tree' found → tree ≡ tree'
+
+pub one_tree : OneFormat → OneScan → OneTree → (source : List ℕ) (tree other : Program) → IsTreeOf source tree → IsTreeOf source other → tree ≡ other
+one_tree format scan spelling source tree other a b =
+    spelling max_nesting max_nesting tree other b.tokens
+    (spelled_by format scan source tree a b.characters b.tokens (format source b.characters b.format) (scan b.characters b.tokens b.scanned))
+    b.spelled
+
+-- an image is of one code
+pub one_code : OneSpelling → (image : List ℕ) (code other : Code) → IsImageOf image code → IsImageOf image other → code ≡ other
+one_code spelt image code other a b = value (read_again spelt image code a) (read_again spelt image other b)
+
+-- and has one run with what it is given
+pub one_run : OneSpelling → ((code : Code) (given : Given) (run other : Run) → Runs code given run → Runs code given other → run ≡ other)
+    → (image : List ℕ) (given : Given) (run other : Run) → HasRun image given run → HasRun image given other → run ≡ other
+one_run spelt law image given run other a b =
+    law b.code given run other (subst (λ c. Runs c given run) (one_code spelt image a.code b.code a.is b.is) a.runs) b.runs

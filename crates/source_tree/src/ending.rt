@@ -1,0 +1,6 @@
+//! STOP RUN.
+
+#[derive(Clone, Copy, Debug, PartialEq, Eq)]
+pub enum Ending {
+    StopRun,
+}

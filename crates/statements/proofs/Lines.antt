@@ -1,0 +1,85 @@
+-- A statement by its verb: one line a verb.
+use Rattle.std.proofs.Common.{◌≡◌, ◌<◌, true, List, length, Option, None, Some, refl, sym, ap, ◌∙◌, subst, arith}
+use Rattle.std.specs.Prelude.{Ok, is_some}
+use Rattle.tokens.specs.declared.token.Token.{Token}
+use Rattle.source_tree.specs.declared.text.Text.{Text}
+use Rattle.source_tree.specs.declared.text.Text.TheVariants as text
+use Rattle.source_tree.specs.declared.ending.Ending.{Ending}
+use Rattle.source_tree.specs.declared.ending.Ending.TheVariants as ending
+use Rattle.source_tree.specs.declared.statement.Verb.{Verb}
+use Rattle.source_tree.specs.declared.statement.Verb.TheVariants as verb
+use Rattle.source_tree.specs.declared.statement.Statement.{Statement, out-Statement, roll-Statement, out-roll-Statement, roll-out-Statement}
+use Rattle.grammar.specs.Parts.{Part}
+use Rattle.grammar.specs.Reading as read
+use Rattle.grammar.specs.Reading.{Parser}
+use Rattle.grammar.proofs.Outcomes.{Answers, Reached, step, unstep, value, after, last}
+use Rattle.grammar.proofs.Lists.{Sound, Complete, Shrinks, Starts}
+use Rattle.grammar.proofs.Parts.{here_sound, here_complete}
+use Rattle.statements.specs.declared.verb.VerbWord.{VerbWord}
+use Rattle.statements.specs.declared.verb.VerbWord.TheVariants as v
+use Rattle.statements.specs.Verbs.{verb_at, begins_statement}
+use Rattle.statements.specs.Spelling as g
+use Rattle.statements.specs.Reading as r
+use Rattle.statements.proofs.Verbs.Display.{display_shrinks, display_stands, display_complete, display_sound}
+use Rattle.statements.proofs.Verbs.StopRun.{stop_run_shrinks, stop_run_stands, stop_run_complete, stop_run_sound}
+
+-- ---- each statement takes a token, and begins with its verb
+
+module _ (p : Statement → Part) where
+  verb_shrinks : Shrinks (g.verb_line p)
+  verb_shrinks (verb.Text (text.Display operands advancing)) i rest s = display_shrinks operands advancing i rest s
+  verb_shrinks (verb.Ending ending.StopRun inside) i rest s = stop_run_shrinks i rest s
+
+  pub line_shrinks : Shrinks (g.line p)
+  line_shrinks x i rest (i1, at, s) = let l = ap length at.0 in let a = verb_shrinks (out-Statement x).verb i1 rest s in omega arith
+
+  -- the verb that a line begins with
+  abbrev word_of : Verb Statement → VerbWord
+  word_of (verb.Text (text.Display operands advancing)) = v.Display
+  word_of (verb.Ending ending.StopRun inside) = v.Stop
+
+  verb_stands : (x : Verb Statement) (i rest : List Token) → g.verb_line p x i rest → verb_at i ≡ Some (word_of x)
+  verb_stands (verb.Text (text.Display operands advancing)) i rest s = display_stands operands advancing i rest s
+  verb_stands (verb.Ending ending.StopRun inside) i rest s = stop_run_stands i rest s
+
+  pub line_starts : Starts begins_statement (g.line p)
+  line_starts x i rest (i1, at, s) = ap begins_statement at.0 ∙ ap is_some (verb_stands (out-Statement x).verb i1 rest s)
+
+  -- ---- what is read is spelled
+
+  module _ (nested : Parser Statement) where
+    by_verb_sound : (o : Option VerbWord) (x : Verb Statement) (i rest : List Token) → r.by_verb nested o i ≡ Ok (x, rest) → g.verb_line p x i rest
+    by_verb_sound None x i rest e = cc
+    by_verb_sound (Some v.Display) x i rest e = display_sound p x i rest e
+    by_verb_sound (Some v.Stop) x i rest e = stop_run_sound p x i rest e
+
+    verb_sound : Sound (g.verb_line p) (r.verb nested)
+    unfolding r.verb
+    verb_sound x i rest e = by_verb_sound (verb_at i) x i rest e
+
+    pub line_sound : Sound (g.line p) (r.line nested)
+    unfolding r.line
+    line_sound x i rest e =
+        unstep (read.here i) _ e (λ place i1 is1 e1.
+        unstep (r.verb nested i1) _ e1 (λ one i2 is2 e2.
+        subst (λ y. g.line p y i rest) (value e2)
+        (rw (out-roll-Statement (record { place = place; verb = one })) (i1, here_sound place i i1 is1, verb_sound one i1 rest (last is2 e2)))))
+
+-- ---- what is spelled is read
+
+module _ (Deep : Type 0) (p : Statement → Part) (nested : Parser Statement) where
+  by_verb_complete : (x : Verb Statement) (i rest : List Token) → g.verb_line p x i rest → Answers Deep (r.by_verb nested (Some (word_of p x)) i) x rest
+  by_verb_complete (verb.Text (text.Display operands advancing)) i rest s = display_complete operands advancing i rest s
+  by_verb_complete (verb.Ending ending.StopRun inside) i rest s = stop_run_complete i rest s
+
+  verb_complete : Complete Deep (g.verb_line p) (r.verb nested)
+  unfolding r.verb
+  verb_complete x i rest s =
+      subst (λ o. Answers Deep (r.by_verb nested o i) x rest) (sym (verb_stands p x i rest s)) (by_verb_complete x i rest s)
+
+  pub line_complete : Complete Deep (g.line p) (r.line nested)
+  unfolding r.line
+  line_complete x i rest (i1, at, s) =
+      step (read.here i) _ (here_complete (out-Statement x).place i i1 at)
+      (step (r.verb nested i1) _ (verb_complete (out-Statement x).verb i1 rest s)
+      (Reached (ap (λ y. Ok (y, rest)) (roll-out-Statement x))))

@@ -1,0 +1,28 @@
+-- The verbs that begin statements.
+use Rattle.std.specs.Prelude.{Bool, List, [], ◌∷◌, Option, None, Some, is_some}
+use Rattle.tokens.specs.declared.reserved.Reserved.{Reserved}
+use Rattle.tokens.specs.declared.reserved.Reserved.TheVariants as w
+use Rattle.tokens.specs.declared.token.Kind.{Kind}
+use Rattle.tokens.specs.declared.token.Kind.TheVariants as k
+use Rattle.tokens.specs.declared.token.Token.{Token}
+use Rattle.statements.specs.declared.verb.VerbWord.{VerbWord}
+use Rattle.statements.specs.declared.verb.VerbWord.TheVariants as v
+
+-- the verb that a word is
+abbrev pub verb_of : Reserved → Option VerbWord
+verb_of w.Display = Some v.Display
+verb_of w.Stop = Some v.Stop
+verb_of _ = None
+
+abbrev pub verb_in : Kind → Option VerbWord
+verb_in (k.Reserved one) = verb_of one
+verb_in _ = None
+
+-- the verb that comes first
+abbrev pub verb_at : List Token → Option VerbWord
+verb_at [] = None
+verb_at (first ∷ more) = verb_in first.kind
+
+-- Where a verb stands, a statement begins.
+abbrev pub begins_statement : List Token → Bool
+begins_statement i = is_some (verb_at i)
