@@ -9,6 +9,7 @@ use Rattle.source_tree.specs.declared.ending.Ending.TheVariants as ending
 use Rattle.source_tree.specs.declared.statement.Verb.{Verb}
 use Rattle.source_tree.specs.declared.statement.Verb.TheVariants as verb
 use Rattle.source_tree.specs.declared.statement.Statement.{Statement, out-Statement, roll-Statement, out-roll-Statement, roll-out-Statement}
+use Rattle.grammar.specs.declared.fault.Halt.{Halt}
 use Rattle.grammar.specs.Parts.{Part}
 use Rattle.grammar.specs.Reading as read
 use Rattle.grammar.specs.Reading.{Parser}
@@ -67,17 +68,17 @@ module _ (p : Statement → Part) where
 
 -- ---- what is spelled is read
 
-module _ (Deep : Type 0) (p : Statement → Part) (nested : Parser Statement) where
-  by_verb_complete : (x : Verb Statement) (i rest : List Token) → g.verb_line p x i rest → Answers Deep (r.by_verb nested (Some (word_of p x)) i) x rest
+module _ (Allowed : Halt → Type 0) (p : Statement → Part) (nested : Parser Statement) where
+  by_verb_complete : (x : Verb Statement) (i rest : List Token) → g.verb_line p x i rest → Answers Allowed (r.by_verb nested (Some (word_of p x)) i) x rest
   by_verb_complete (verb.Text (text.Display operands advancing)) i rest s = display_complete operands advancing i rest s
   by_verb_complete (verb.Ending ending.StopRun inside) i rest s = stop_run_complete i rest s
 
-  verb_complete : Complete Deep (g.verb_line p) (r.verb nested)
+  verb_complete : Complete Allowed (g.verb_line p) (r.verb nested)
   unfolding r.verb
   verb_complete x i rest s =
-      subst (λ o. Answers Deep (r.by_verb nested o i) x rest) (sym (verb_stands p x i rest s)) (by_verb_complete x i rest s)
+      subst (λ o. Answers Allowed (r.by_verb nested o i) x rest) (sym (verb_stands p x i rest s)) (by_verb_complete x i rest s)
 
-  pub line_complete : Complete Deep (g.line p) (r.line nested)
+  pub line_complete : Complete Allowed (g.line p) (r.line nested)
   unfolding r.line
   line_complete x i rest (i1, at, s) =
       step (read.here i) _ (here_complete (out-Statement x).place i i1 at)

@@ -8,7 +8,7 @@ use Rattle.source_tree.specs.declared.statement.Verb.{Verb}
 use Rattle.source_tree.specs.declared.statement.Verb.TheVariants as verb
 use Rattle.source_tree.specs.declared.statement.Statement.{Statement, out-Statement}
 use Rattle.source_tree.specs.declared.program.Sentence.{Sentence}
-use Rattle.grammar.specs.Parts.{Part, ◌then◌, several, here, period}
+use Rattle.grammar.specs.Parts.{Part, ◌then◌, several, tested, here, period}
 use Rattle.statements.specs.Verbs.{begins_statement}
 use Rattle.statements.specs.Display.{display}
 use Rattle.statements.specs.StopRun.{stop_run}
@@ -35,7 +35,7 @@ module _ (statement : Statement → Part) where
   line one = here (out-Statement one).place then verb_line (out-Statement one).verb
 
   abbrev pub statements : List Statement → Part
-  statements = several statement begins_statement
+  statements = several statement (tested begins_statement)
 
 -- A statement with at most this many statements in one another, itself among them.
 abbrev pub statement : ℕ → Statement → Part
