@@ -60,6 +60,7 @@ in_order_sound piece f (one ∷ more) before = both before (piece one before) (i
 verb_sound : {S : Type 0} (line : ℕ) (one : Verb S) (before : Code) → IsSound before (verb_piece line one before)
 verb_sound line (verb.Text (text.Display operands advancing)) before = record { literals = (tt, (omega arith, tt)); starts = tt }
 verb_sound line (verb.Ending ending.StopRun inside) before = record { literals = (tt, (tt, tt)); starts = tt }
+verb_sound line (verb.Ending ending.Continue inside) before = record { literals = (tt, tt); starts = tt }
 
 statement_sound : (one : Statement) (before : Code) → IsSound before (statement_piece one before)
 statement_sound one before = verb_sound (out-Statement one).place.line (out-Statement one).verb before

@@ -1,5 +1,5 @@
 -- What reading in steps gives.
-use Rattle.std.proofs.Common.{◌≡◌, ◌∙◌, ◌<◌, ℕ, List, Ok, Err, refl, sym, ap, subst}
+use Rattle.std.proofs.Common.{◌≡◌, ◌∙◌, ◌<◌, ℕ, suc, List, Ok, Err, refl, sym, ap, subst, arith}
 use Rattle.tokens.specs.declared.token.Token.{Token}
 use Rattle.grammar.specs.declared.fault.Halt.{Halt}
 use Rattle.grammar.specs.declared.fault.Halt.TheVariants.{Unexpected, TooDeep}
@@ -14,6 +14,17 @@ pub data Answers (Allowed : Halt → Type 0) {A : Type 0} (reading : Outcome A) 
 abbrev pub Deeper : ℕ → ℕ → Halt → Type 0
 Deeper depth depth' (TooDeep left) = depth < depth'
 Deeper depth depth' (Unexpected left) = ⊥
+
+-- where more is allowed
+pub allow : {Allowed Wider : Halt → Type 0} {A : Type 0} {reading : Outcome A} {a : A} {rest : List Token}
+    → ((halt : Halt) → Allowed halt → Wider halt) → Answers Allowed reading a rest → Answers Wider reading a rest
+allow wider (Reached e) = Reached e
+allow wider (Halts halt allowed e) = Halts halt (wider halt allowed) e
+
+-- one level down on both sides
+pub one_deeper : (depth depth' : ℕ) (halt : Halt) → Deeper depth depth' halt → Deeper (suc depth) (suc depth') halt
+one_deeper depth depth' (TooDeep left) below = omega arith
+one_deeper depth depth' (Unexpected left) none = none
 
 pub step : {Allowed : Halt → Type 0} {A B : Type 0} (first : Outcome A) (f : A → Parser B) {a : A} {middle : List Token} {b : B} {rest : List Token}
     → Answers Allowed first a middle → Answers Allowed (f a middle) b rest → Answers Allowed (and_then first f) b rest

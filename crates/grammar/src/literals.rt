@@ -33,8 +33,8 @@ fn sign(sign: tokens::Sign) -> Sign
     }
 }
 
-/// A copy for the tree.
-fn number(alloc: Global, number: &tokens::NumericLiteral) -> Result<NumericLiteral, AllocError>
+/// A number of the tree, by what was written.
+pub fn number(alloc: Global, number: &tokens::NumericLiteral) -> Result<NumericLiteral, AllocError>
     ensures { IfOk result (λ copy. copy ≡ grammar.number_in number.now) }
 {
     Ok(NumericLiteral {

@@ -10,6 +10,7 @@ use Rattle.source_tree.specs.declared.statement.Statement.{Statement, out-Statem
 use Rattle.source_tree.specs.declared.program.Sentence.{Sentence}
 use Rattle.grammar.specs.Parts.{Part, ◌then◌, several, tested, here, period}
 use Rattle.statements.specs.Verbs.{begins_statement}
+use Rattle.statements.specs.Continuing.{continuing}
 use Rattle.statements.specs.Display.{display}
 use Rattle.statements.specs.StopRun.{stop_run}
 
@@ -22,6 +23,7 @@ text_line (text.Display operands advancing) = display operands advancing
 
 abbrev pub ending_line : Ending → Part
 ending_line ending.StopRun = stop_run
+ending_line ending.Continue = continuing
 
 module _ (statement : Statement → Part) where
   -- Each optional part is left out only where its words do not stand, and each list ends only where no more of it can

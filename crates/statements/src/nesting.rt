@@ -6,6 +6,7 @@ ghost use Rattle.grammar.specs.Reading.{Reads};
 ghost use Rattle.statements.specs.Reading as spec;
 ghost use Rattle.statements.specs.Nests.{Nests};
 
+use crate::continuing::continuing;
 use crate::display::display;
 use crate::stop_run::stop_run;
 use crate::verb::{VerbWord, begins_statement, verb_at};
@@ -61,6 +62,7 @@ impl<F: Fn(Global, &mut Tokens<'_>, usize) -> Result<Statement, ReadFault>> Nest
         ensures { Reads (spec.verb (spec.statement self.now.depth) tokens.old) result tokens.new }
     {
         match verb_at(tokens) {
+            Some(VerbWord::Continue) => continuing(tokens),
             Some(VerbWord::Display) => display(self.alloc, tokens),
             Some(VerbWord::Stop) => stop_run(tokens),
             None => Err(tokens.refuse()),
