@@ -60,6 +60,7 @@ in_order_meets piece f (one ∷ more) before = both before (piece one before) (i
 verb_meets : {S : Type 0} (line : ℕ) (one : Verb S) (before : Code) → Meets before (verb_piece line one before)
 verb_meets line (verb.Text (text.Display operands advancing)) before = record { literals = (tt, (omega arith, tt)); starts = tt }
 verb_meets line (verb.Ending ending.StopRun inside) before = record { literals = (tt, (tt, tt)); starts = tt }
+verb_meets line (verb.Ending ending.Continue inside) before = record { literals = (tt, tt); starts = tt }
 
 statement_meets : (one : Statement) (before : Code) → Meets before (statement_piece one before)
 statement_meets one before = verb_meets (out-Statement one).place.line (out-Statement one).verb before

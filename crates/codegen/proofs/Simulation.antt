@@ -19,7 +19,7 @@ use Rattle.code_image.specs.declared.instruction.Instruction.{Instruction}
 use Rattle.code_image.specs.declared.instruction.Instruction.TheVariants.{Tick, Show, Stop}
 use Rattle.code_image.specs.Points.{at}
 use Rattle.code_image.specs.Table.{onward, over, tick_from, show_from, act, exec_code, Runs}
-use Rattle.codegen.specs.Layout.{Piece, nothing, joined, in_order, display_piece, text_piece, stop_run_piece, ending_piece, verb_piece, statement_piece, sentence_piece, start_piece, paragraph_piece, end_piece, code_of}
+use Rattle.codegen.specs.Layout.{Piece, nothing, joined, in_order, display_piece, text_piece, stop_run_piece, continue_piece, ending_piece, verb_piece, statement_piece, sentence_piece, start_piece, paragraph_piece, end_piece, code_of}
 use Rattle.codegen.proofs.Pieces.{joined_assoc, joined_nothing, flat}
 use Rattle.codegen.proofs.Standing.{Stands, front, back, first_stands, second_stands, literal_stands}
 
@@ -96,6 +96,11 @@ module _ (whole : Code) where
         let part = stop_run_piece line before in
         tick_does line (end_of before) (end_of (joined before part)) s (finish ending.StopRun) (first_stands whole before part (Tick line) (Stop ∷ []) refl st) (λ t.
         stop_does (end_of before + 1) (end_of (joined before part)) t (second_stands whole before part (Tick line) Stop [] refl st))
+    ending_does ending.Continue st =
+        let part = continue_piece line before in
+        let one : length (Tick line ∷ []) ≡ 1 = refl in
+        tick_does line (end_of before) (end_of (joined before part)) s (finish ending.Continue) (first_stands whole before part (Tick line) [] refl st) (λ t.
+        moved (end_of before + 1) (end_of before + 1) (end_of (joined before part)) t (Done t) (omega (arith, length-append before.instructions (Tick line ∷ []))) (record { by = λ k. (k, refl) }))
 
     verb_does : {S : Type 0} (run : S → State → Outcome) (one : Verb S) → Stands whole before (verb_piece line one before)
         → Does whole (end_of before) s (end_of (joined before (verb_piece line one before))) (spend line s (step run one))

@@ -41,11 +41,15 @@ display_piece line bytes before = record {
 abbrev pub stop_run_piece : ℕ → Piece
 stop_run_piece line before = record { literals = []; starts = []; instructions = Tick line ∷ Stop ∷ [] }
 
+abbrev pub continue_piece : ℕ → Piece
+continue_piece line before = record { literals = []; starts = []; instructions = Tick line ∷ [] }
+
 abbrev pub text_piece : ℕ → Text → Piece
 text_piece line (text.Display operands advancing) = display_piece line (shown_display operands advancing)
 
 abbrev pub ending_piece : ℕ → Ending → Piece
 ending_piece line ending.StopRun = stop_run_piece line
+ending_piece line ending.Continue = continue_piece line
 
 -- a statement at this line, by its family
 abbrev pub verb_piece : {S : Type 0} → ℕ → Verb S → Piece

@@ -2,7 +2,7 @@
 
 ghost use Rattle.std.specs.Prelude.{◌≡◌, OnOk};
 ghost use Rattle.source_tree.specs.Display.{shown_display};
-ghost use Rattle.codegen.specs.Layout.{joined, display_piece, text_piece, stop_run_piece, statement_piece, sentence_piece, start_piece, paragraph_piece, section_piece, in_order, end_piece};
+ghost use Rattle.codegen.specs.Layout.{joined, display_piece, text_piece, stop_run_piece, continue_piece, statement_piece, sentence_piece, start_piece, paragraph_piece, section_piece, in_order, end_piece};
 
 use crate::display::display_bytes;
 use code_image::{Code, Instruction, LiteralIndex};
@@ -46,6 +46,13 @@ fn emit_stop_run(code: &mut Code, line: u32) -> Result<(), AllocError>
     Ok(())
 }
 
+fn emit_continue(code: &mut Code, line: u32) -> Result<(), AllocError>
+    ensures { OnOk result (code.new ≡ joined code.old (continue_piece line code.old)) }
+{
+    code.instructions.push(Instruction::Tick { line })?;
+    Ok(())
+}
+
 fn emit_statement(alloc: Global, code: &mut Code, statement: &Statement) -> Result<(), AllocError>
     ensures { OnOk result (code.new ≡ joined code.old (statement_piece statement.now code.old)) }
 {
@@ -53,6 +60,7 @@ fn emit_statement(alloc: Global, code: &mut Code, statement: &Statement) -> Resu
     match &statement.verb {
         Verb::Text(text) => emit_text(alloc, code, line, text),
         Verb::Ending(Ending::StopRun, _) => emit_stop_run(code, line),
+        Verb::Ending(Ending::Continue, _) => emit_continue(code, line),
     }
 }
 

@@ -11,10 +11,11 @@ use Rattle.source_tree.specs.declared.name.Name.{Name}
 use Rattle.source_tree.specs.declared.program.Sentence.{Sentence}
 use Rattle.source_tree.specs.declared.program.Paragraph.{Paragraph}
 use Rattle.grammar.specs.Parts as parts
-use Rattle.grammar.specs.Parts.{any, several}
+use Rattle.grammar.specs.Parts.{any, several, tested}
 use Rattle.grammar.specs.Reading as read
 use Rattle.grammar.specs.Reading.{Outcome, Parser}
-use Rattle.grammar.proofs.Outcomes.{Answers, Reached, step, unstep, value, last}
+use Rattle.grammar.proofs.Looking.{tests_tested}
+use Rattle.grammar.proofs.Outcomes.{Answers, Reached, Deeper, step, unstep, value, last}
 use Rattle.grammar.proofs.Lists
 use Rattle.grammar.proofs.Lists.{Sound, Complete, Shrinks, Starts}
 use Rattle.grammar.proofs.Parts.{name_sound, name_complete, name_shrinks, period_sound, period_complete, period_shrinks}
@@ -27,23 +28,23 @@ use Rattle.divisions.specs.Reading as r
 
 -- ---- sentences
 
-sentences_sound : (depth : ℕ) → Sound (several (sentence depth) begins_statement) (r.sentences depth)
+sentences_sound : (depth : ℕ) → Sound (several (sentence depth) (tested begins_statement)) (r.sentences depth)
 unfolding r.sentences
-sentences_sound depth = Lists.several_sound (sentence depth) (statements.sentence depth) begins_statement (sentence_sound depth)
+sentences_sound depth = Lists.several_sound (sentence depth) (statements.sentence depth) (tested begins_statement) begins_statement (tests_tested begins_statement) (sentence_sound depth)
 
-sentences_complete : (depth depth' : ℕ) → Complete (depth < depth') (several (sentence depth') begins_statement) (r.sentences depth)
+sentences_complete : (depth depth' : ℕ) → Complete (Deeper depth depth') (several (sentence depth') (tested begins_statement)) (r.sentences depth)
 unfolding r.sentences
 sentences_complete depth depth' =
-    Lists.several_complete (sentence depth') (statements.sentence depth) begins_statement (depth < depth') (sentence_complete depth depth') (sentence_shrinks depth') (sentence_starts depth')
+    Lists.several_complete (sentence depth') (statements.sentence depth) (tested begins_statement) begins_statement (tests_tested begins_statement) (Deeper depth depth') (sentence_complete depth depth') (sentence_shrinks depth') (sentence_starts depth')
 
-any_sentences_sound : (depth : ℕ) → Sound (any (sentence depth) begins_statement) (r.any_sentences depth)
+any_sentences_sound : (depth : ℕ) → Sound (any (sentence depth) (tested begins_statement)) (r.any_sentences depth)
 unfolding r.any_sentences
-any_sentences_sound depth = Lists.any_sound (sentence depth) (statements.sentence depth) begins_statement (sentence_sound depth)
+any_sentences_sound depth = Lists.any_sound (sentence depth) (statements.sentence depth) (tested begins_statement) begins_statement (tests_tested begins_statement) (sentence_sound depth)
 
-any_sentences_complete : (depth depth' : ℕ) → Complete (depth < depth') (any (sentence depth') begins_statement) (r.any_sentences depth)
+any_sentences_complete : (depth depth' : ℕ) → Complete (Deeper depth depth') (any (sentence depth') (tested begins_statement)) (r.any_sentences depth)
 unfolding r.any_sentences
 any_sentences_complete depth depth' =
-    Lists.any_complete (sentence depth') (statements.sentence depth) begins_statement (depth < depth') (sentence_complete depth depth') (sentence_shrinks depth') (sentence_starts depth')
+    Lists.any_complete (sentence depth') (statements.sentence depth) (tested begins_statement) begins_statement (tests_tested begins_statement) (Deeper depth depth') (sentence_complete depth depth') (sentence_shrinks depth') (sentence_starts depth')
 
 -- ---- paragraphs
 
@@ -56,12 +57,12 @@ paragraph_sound depth x i rest e =
     subst (λ y. g.paragraph depth y i rest) (value e3)
     (i1, name_sound given i i1 is1, (i2, period_sound u i1 i2 is2, any_sentences_sound depth found i2 rest (last is3 e3))))))
 
-paragraph_complete : (depth depth' : ℕ) → Complete (depth < depth') (g.paragraph depth') (r.paragraph depth)
+paragraph_complete : (depth depth' : ℕ) → Complete (Deeper depth depth') (g.paragraph depth') (r.paragraph depth)
 unfolding r.paragraph
 paragraph_complete depth depth' x i rest s = go x.name x.sentences s
   where
     go : (given : Option Name) (found : List Sentence) → g.paragraph depth' (record { name = given; sentences = found }) i rest
-        → Answers (depth < depth') (r.paragraph depth i) (record { name = given; sentences = found }) rest
+        → Answers (Deeper depth depth') (r.paragraph depth i) (record { name = given; sentences = found }) rest
     go None found s = absurd s.1
     go (Some given) found (i1, name, (i2, period, body)) =
         step (read.name i) _ (name_complete given i i1 name)
@@ -76,7 +77,7 @@ paragraph_shrinks : (depth : ℕ) → Shrinks (g.paragraph depth)
 paragraph_shrinks depth x i rest (i1, name, (i2, period, body)) =
     let a = named_shrinks x.name i i1 name in
     let b = period_shrinks i1 i2 period in
-    let c = Lists.any_shrinks (sentence depth) begins_statement (sentence_shrinks depth) x.sentences i2 rest body in omega arith
+    let c = Lists.any_shrinks (sentence depth) (tested begins_statement) (sentence_shrinks depth) x.sentences i2 rest body in omega arith
 
 paragraph_starts : (depth : ℕ) → Starts g.begins_paragraph (g.paragraph depth)
 paragraph_starts depth x i rest s = go x.name s.0 s.2.0 s.1 s.2.1
@@ -88,23 +89,23 @@ paragraph_starts depth x i rest s = go x.name s.0 s.2.0 s.1 s.2.1
         ∙ ap (λ o. parts.is_told o && read.is_period second.kind) tell
         ∙ ap read.is_period kind
 
-paragraphs_sound : (depth : ℕ) → Sound (several (g.paragraph depth) g.begins_paragraph) (r.paragraphs depth)
+paragraphs_sound : (depth : ℕ) → Sound (several (g.paragraph depth) (tested g.begins_paragraph)) (r.paragraphs depth)
 unfolding r.paragraphs
-paragraphs_sound depth = Lists.several_sound (g.paragraph depth) (r.paragraph depth) g.begins_paragraph (paragraph_sound depth)
+paragraphs_sound depth = Lists.several_sound (g.paragraph depth) (r.paragraph depth) (tested g.begins_paragraph) g.begins_paragraph (tests_tested g.begins_paragraph) (paragraph_sound depth)
 
-paragraphs_complete : (depth depth' : ℕ) → Complete (depth < depth') (several (g.paragraph depth') g.begins_paragraph) (r.paragraphs depth)
+paragraphs_complete : (depth depth' : ℕ) → Complete (Deeper depth depth') (several (g.paragraph depth') (tested g.begins_paragraph)) (r.paragraphs depth)
 unfolding r.paragraphs
 paragraphs_complete depth depth' =
-    Lists.several_complete (g.paragraph depth') (r.paragraph depth) g.begins_paragraph (depth < depth') (paragraph_complete depth depth') (paragraph_shrinks depth') (paragraph_starts depth')
+    Lists.several_complete (g.paragraph depth') (r.paragraph depth) (tested g.begins_paragraph) g.begins_paragraph (tests_tested g.begins_paragraph) (Deeper depth depth') (paragraph_complete depth depth') (paragraph_shrinks depth') (paragraph_starts depth')
 
-any_paragraphs_sound : (depth : ℕ) → Sound (any (g.paragraph depth) g.begins_paragraph) (r.any_paragraphs depth)
+any_paragraphs_sound : (depth : ℕ) → Sound (any (g.paragraph depth) (tested g.begins_paragraph)) (r.any_paragraphs depth)
 unfolding r.any_paragraphs
-any_paragraphs_sound depth = Lists.any_sound (g.paragraph depth) (r.paragraph depth) g.begins_paragraph (paragraph_sound depth)
+any_paragraphs_sound depth = Lists.any_sound (g.paragraph depth) (r.paragraph depth) (tested g.begins_paragraph) g.begins_paragraph (tests_tested g.begins_paragraph) (paragraph_sound depth)
 
-any_paragraphs_complete : (depth depth' : ℕ) → Complete (depth < depth') (any (g.paragraph depth') g.begins_paragraph) (r.any_paragraphs depth)
+any_paragraphs_complete : (depth depth' : ℕ) → Complete (Deeper depth depth') (any (g.paragraph depth') (tested g.begins_paragraph)) (r.any_paragraphs depth)
 unfolding r.any_paragraphs
 any_paragraphs_complete depth depth' =
-    Lists.any_complete (g.paragraph depth') (r.paragraph depth) g.begins_paragraph (depth < depth') (paragraph_complete depth depth') (paragraph_shrinks depth') (paragraph_starts depth')
+    Lists.any_complete (g.paragraph depth') (r.paragraph depth) (tested g.begins_paragraph) g.begins_paragraph (tests_tested g.begins_paragraph) (Deeper depth depth') (paragraph_complete depth depth') (paragraph_shrinks depth') (paragraph_starts depth')
 
 -- ---- bodies
 
@@ -117,12 +118,12 @@ opening_sound depth x i rest e =
     (i1, sentences_sound depth found i i1 is1, any_paragraphs_sound depth more i1 rest (last is2 e2))))
 
 -- paragraphs that are read each have a name
-plain_sound : (depth : ℕ) (x : List Paragraph) (i rest : List Token) → several (g.paragraph depth) g.begins_paragraph x i rest → g.body depth x i rest
+plain_sound : (depth : ℕ) (x : List Paragraph) (i rest : List Token) → several (g.paragraph depth) (tested g.begins_paragraph) x i rest → g.body depth x i rest
 plain_sound depth [] i rest s = absurd s
 plain_sound depth (first ∷ more) i rest s = go first.name first.sentences s
   where
     go : (given : Option Name) (found : List Sentence)
-        → several (g.paragraph depth) g.begins_paragraph (record { name = given; sentences = found } ∷ more) i rest
+        → several (g.paragraph depth) (tested g.begins_paragraph) (record { name = given; sentences = found } ∷ more) i rest
         → g.body depth (record { name = given; sentences = found } ∷ more) i rest
     go None found s = absurd s.1.1
     go (Some given) found s = s
@@ -154,15 +155,15 @@ no_verb (k.Operator operator) place given e = cc
 name_begins_none : (given : Name) (i rest : List Token) → parts.name given i rest → begins_statement i ≡ false
 name_begins_none given i rest (first, is, tell) = ap begins_statement is ∙ ap is_some (no_verb first.kind (parts.place_in first) given tell)
 
-pub body_complete : (depth depth' : ℕ) → Complete (depth < depth') (g.body depth') (r.body depth)
+pub body_complete : (depth depth' : ℕ) → Complete (Deeper depth depth') (g.body depth') (r.body depth)
 unfolding r.body r.opening
 body_complete depth depth' [] i rest s = absurd s
 body_complete depth depth' (first ∷ more) i rest s = go first.name first.sentences s
   where
     go : (given : Option Name) (found : List Sentence) → g.body depth' (record { name = given; sentences = found } ∷ more) i rest
-        → Answers (depth < depth') (r.body depth i) (record { name = given; sentences = found } ∷ more) rest
+        → Answers (Deeper depth depth') (r.body depth i) (record { name = given; sentences = found } ∷ more) rest
     go None found (i1, all, others) =
-        rw (Lists.several_starts (sentence depth') begins_statement (sentence_starts depth') found i i1 all)
+        rw (Lists.several_starts (sentence depth') (tested begins_statement) begins_statement (sentence_starts depth') found i i1 all)
         (step (r.sentences depth i) _ (sentences_complete depth depth' found i i1 all)
         (step (r.any_paragraphs depth i1) _ (any_paragraphs_complete depth depth' more i1 rest others) (Reached refl)))
     go (Some given) found s =

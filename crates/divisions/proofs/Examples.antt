@@ -54,50 +54,25 @@ show_tokens line =
     at line 12 (k.Word (83 ∷ 72 ∷ 79 ∷ 87 ∷ []))
     ∷ at line 17 (k.Numeric (record { sign = written.Unsigned; whole = 49 ∷ []; decimals = [] })) ∷ period line 18 ∷ []
 
+-- every step of reading, so that a program's tree is computed
+unfoldable computing : Unit {0}
+unfolding r.program r.identification r.procedure r.body r.opening r.sentences r.any_sentences r.paragraph r.paragraphs r.any_paragraphs r.ending r.end_program read.same_word read.after_word read.past_word read.expect read.skip read.left_out read.period read.heading read.nothing read.here read.one_token read.name read.literal read.several_from read.several read.any display_rule.after_no_advancing display_rule.display_reader stop_run_rule.stop_run_reader statements.statements statements.verb statements.line statements.statement statements.sentence
+computing = tt
+
 -- the six lines of HELLO
 hello_is_read : parse_of hello_tokens ≡ Ok hello
-unfolding r.program r.identification r.procedure r.body r.opening r.sentences r.any_sentences r.paragraph r.paragraphs r.any_paragraphs r.ending r.end_program read.same_word read.after_word read.past_word read.expect read.skip read.absent read.period read.nothing read.here read.one_token read.name read.literal read.several_from read.several read.any display_rule.operands_reader display_rule.after_no_advancing display_rule.display_reader stop_run_rule.stop_run_reader statements.statements statements.verb statements.line statements.statement statements.sentence
+unfolding computing
 hello_is_read = refl
 
 -- no tokens at all: line 1, column 1
 no_tokens : parse_of [] ≡ Err (record { kind = UnexpectedToken; place = record { line = 1; column = 1 } })
-unfolding r.program r.identification r.procedure r.body r.opening r.sentences r.any_sentences r.paragraph r.paragraphs r.any_paragraphs r.ending r.end_program read.same_word read.after_word read.past_word read.expect read.skip read.absent read.period read.nothing read.here read.one_token read.name read.literal read.several_from read.several read.any display_rule.operands_reader display_rule.after_no_advancing display_rule.display_reader stop_run_rule.stop_run_reader statements.statements statements.verb statements.line statements.statement statements.sentence
+unfolding computing
 no_tokens = refl
 
--- PROCEDURE DIVISION. and nothing after it: at the last token
-no_body : parse_of (identified []) ≡ Err (record { kind = UnexpectedToken; place = record { line = 3; column = 26 } })
-unfolding r.program r.identification r.procedure r.body r.opening r.sentences r.any_sentences r.paragraph r.paragraphs r.any_paragraphs r.ending r.end_program read.same_word read.after_word read.past_word read.expect read.skip read.absent read.period read.nothing read.here read.one_token read.name read.literal read.several_from read.several read.any display_rule.operands_reader display_rule.after_no_advancing display_rule.display_reader stop_run_rule.stop_run_reader statements.statements statements.verb statements.line statements.statement statements.sentence
-no_body = refl
-
--- no period at the end: at the last token
-no_period : parse_of (identified (word 4 12 w.Stop ∷ word 4 17 w.Run ∷ [])) ≡ Err (record { kind = UnexpectedToken; place = record { line = 4; column = 17 } })
-unfolding r.program r.identification r.procedure r.body r.opening r.sentences r.any_sentences r.paragraph r.paragraphs r.any_paragraphs r.ending r.end_program read.same_word read.after_word read.past_word read.expect read.skip read.absent read.period read.nothing read.here read.one_token read.name read.literal read.several_from read.several read.any display_rule.operands_reader display_rule.after_no_advancing display_rule.display_reader stop_run_rule.stop_run_reader statements.statements statements.verb statements.line statements.statement statements.sentence
-no_period = refl
-
--- COMPUTE, a verb that is not in the grammar yet: at its token
-no_verb : parse_of (identified (word 4 12 w.Compute ∷ period 4 19 ∷ [])) ≡ Err (record { kind = UnexpectedToken; place = record { line = 4; column = 12 } })
-unfolding r.program r.identification r.procedure r.body r.opening r.sentences r.any_sentences r.paragraph r.paragraphs r.any_paragraphs r.ending r.end_program read.same_word read.after_word read.past_word read.expect read.skip read.absent read.period read.nothing read.here read.one_token read.name read.literal read.several_from read.several read.any display_rule.operands_reader display_rule.after_no_advancing display_rule.display_reader stop_run_rule.stop_run_reader statements.statements statements.verb statements.line statements.statement statements.sentence
-no_verb = refl
-
--- SHOW 1. where a body begins: at SHOW, which is no paragraph's name, as no period comes right after it
-unknown_verb : parse_of (identified (show_tokens 4)) ≡ Err (record { kind = UnexpectedToken; place = record { line = 4; column = 12 } })
-unfolding r.program r.identification r.procedure r.body r.opening r.sentences r.any_sentences r.paragraph r.paragraphs r.any_paragraphs r.ending r.end_program read.same_word read.after_word read.past_word read.expect read.skip read.absent read.period read.nothing read.here read.one_token read.name read.literal read.several_from read.several read.any display_rule.operands_reader display_rule.after_no_advancing display_rule.display_reader stop_run_rule.stop_run_reader statements.statements statements.verb statements.line statements.statement statements.sentence
-unknown_verb = refl
-
--- the same after a sentence
-unknown_verb_later : parse_of (identified (word 4 12 w.Stop ∷ word 4 17 w.Run ∷ period 4 20 ∷ show_tokens 5)) ≡ Err (record { kind = UnexpectedToken; place = record { line = 5; column = 12 } })
-unfolding r.program r.identification r.procedure r.body r.opening r.sentences r.any_sentences r.paragraph r.paragraphs r.any_paragraphs r.ending r.end_program read.same_word read.after_word read.past_word read.expect read.skip read.absent read.period read.nothing read.here read.one_token read.name read.literal read.several_from read.several read.any display_rule.operands_reader display_rule.after_no_advancing display_rule.display_reader stop_run_rule.stop_run_reader statements.statements statements.verb statements.line statements.statement statements.sentence
-unknown_verb_later = refl
-
--- the same after a statement in its sentence
+-- SHOW 1. after a statement in its sentence: at SHOW, which is no verb
 unknown_verb_in_a_sentence : parse_of (identified (word 4 12 w.Stop ∷ word 4 17 w.Run ∷ show_tokens 5)) ≡ Err (record { kind = UnexpectedToken; place = record { line = 5; column = 12 } })
-unfolding r.program r.identification r.procedure r.body r.opening r.sentences r.any_sentences r.paragraph r.paragraphs r.any_paragraphs r.ending r.end_program read.same_word read.after_word read.past_word read.expect read.skip read.absent read.period read.nothing read.here read.one_token read.name read.literal read.several_from read.several read.any display_rule.operands_reader display_rule.after_no_advancing display_rule.display_reader stop_run_rule.stop_run_reader statements.statements statements.verb statements.line statements.statement statements.sentence
+unfolding computing
 unknown_verb_in_a_sentence = refl
-
--- a word too many at the end: at its token
-one_word_more : parse_of (identified (word 4 12 w.Stop ∷ word 4 17 w.Run ∷ period 4 20 ∷ word 5 8 w.Division ∷ [])) ≡ Err (record { kind = UnexpectedToken; place = record { line = 5; column = 8 } })
-unfolding r.program r.identification r.procedure r.body r.opening r.sentences r.any_sentences r.paragraph r.paragraphs r.any_paragraphs r.ending r.end_program read.same_word read.after_word read.past_word read.expect read.skip read.absent read.period read.nothing read.here read.one_token read.name read.literal read.several_from read.several read.any display_rule.operands_reader display_rule.after_no_advancing display_rule.display_reader stop_run_rule.stop_run_reader statements.statements statements.verb statements.line statements.statement statements.sentence
-one_word_more = refl
 
 -- ---- other bodies
 
@@ -142,47 +117,17 @@ three_operands =
 abbrev displays : Bool → Program
 displays advancing = of (unnamed (record { statements = display (record { line = 4; column = 12 }) three_operands advancing ∷ [] } ∷ []) ∷ [])
 
--- END PROGRAM HELLO.
-end_of_hello : parse_of (hello_tokens ++ end_program hello_bytes) ≡ Ok hello
-unfolding r.program r.identification r.procedure r.body r.opening r.sentences r.any_sentences r.paragraph r.paragraphs r.any_paragraphs r.ending r.end_program read.same_word read.after_word read.past_word read.expect read.skip read.absent read.period read.nothing read.here read.one_token read.name read.literal read.several_from read.several read.any display_rule.operands_reader display_rule.after_no_advancing display_rule.display_reader stop_run_rule.stop_run_reader statements.statements statements.verb statements.line statements.statement statements.sentence
-end_of_hello = refl
-
--- END PROGRAM with another name is the same
+-- END PROGRAM with another name
 end_of_another : parse_of (hello_tokens ++ end_program (80 ∷ [])) ≡ Ok hello
-unfolding r.program r.identification r.procedure r.body r.opening r.sentences r.any_sentences r.paragraph r.paragraphs r.any_paragraphs r.ending r.end_program read.same_word read.after_word read.past_word read.expect read.skip read.absent read.period read.nothing read.here read.one_token read.name read.literal read.several_from read.several read.any display_rule.operands_reader display_rule.after_no_advancing display_rule.display_reader stop_run_rule.stop_run_reader statements.statements statements.verb statements.line statements.statement statements.sentence
+unfolding computing
 end_of_another = refl
 
 -- a sentence before the first paragraph, which has none
 sentence_first : parse_of (identified (stop_tokens 4 ++ p_tokens 5)) ≡ Ok (of (unnamed (stop_sentence 4 ∷ []) ∷ p_with 5 [] ∷ []))
-unfolding r.program r.identification r.procedure r.body r.opening r.sentences r.any_sentences r.paragraph r.paragraphs r.any_paragraphs r.ending r.end_program read.same_word read.after_word read.past_word read.expect read.skip read.absent read.period read.nothing read.here read.one_token read.name read.literal read.several_from read.several read.any display_rule.operands_reader display_rule.after_no_advancing display_rule.display_reader stop_run_rule.stop_run_reader statements.statements statements.verb statements.line statements.statement statements.sentence
+unfolding computing
 sentence_first = refl
-
--- two paragraphs and their sentences
-two_paragraphs : parse_of (identified (p_tokens 4 ++ stop_tokens 5 ++ stop_tokens 6 ++ p_tokens 7 ++ stop_tokens 8)) ≡ Ok (of (p_with 4 (stop_sentence 5 ∷ stop_sentence 6 ∷ []) ∷ p_with 7 (stop_sentence 8 ∷ []) ∷ []))
-unfolding r.program r.identification r.procedure r.body r.opening r.sentences r.any_sentences r.paragraph r.paragraphs r.any_paragraphs r.ending r.end_program read.same_word read.after_word read.past_word read.expect read.skip read.absent read.period read.nothing read.here read.one_token read.name read.literal read.several_from read.several read.any display_rule.operands_reader display_rule.after_no_advancing display_rule.display_reader stop_run_rule.stop_run_reader statements.statements statements.verb statements.line statements.statement statements.sentence
-two_paragraphs = refl
 
 -- DISPLAY "A" 12.50 'it''s' WITH NO ADVANCING.
 with_no_advancing : parse_of (identified (word 4 12 w.Display ∷ three_tokens ++ word 4 38 w.With ∷ word 4 43 w.No ∷ word 4 46 w.Advancing ∷ period 4 55 ∷ [])) ≡ Ok (displays false)
-unfolding r.program r.identification r.procedure r.body r.opening r.sentences r.any_sentences r.paragraph r.paragraphs r.any_paragraphs r.ending r.end_program read.same_word read.after_word read.past_word read.expect read.skip read.absent read.period read.nothing read.here read.one_token read.name read.literal read.several_from read.several read.any display_rule.operands_reader display_rule.after_no_advancing display_rule.display_reader stop_run_rule.stop_run_reader statements.statements statements.verb statements.line statements.statement statements.sentence
+unfolding computing
 with_no_advancing = refl
-
--- the same without WITH
-no_advancing : parse_of (identified (word 4 12 w.Display ∷ three_tokens ++ word 4 38 w.No ∷ word 4 41 w.Advancing ∷ period 4 50 ∷ [])) ≡ Ok (displays false)
-unfolding r.program r.identification r.procedure r.body r.opening r.sentences r.any_sentences r.paragraph r.paragraphs r.any_paragraphs r.ending r.end_program read.same_word read.after_word read.past_word read.expect read.skip read.absent read.period read.nothing read.here read.one_token read.name read.literal read.several_from read.several read.any display_rule.operands_reader display_rule.after_no_advancing display_rule.display_reader stop_run_rule.stop_run_reader statements.statements statements.verb statements.line statements.statement statements.sentence
-no_advancing = refl
-
--- the same without the phrase
-advancing : parse_of (identified (word 4 12 w.Display ∷ three_tokens ++ period 4 37 ∷ [])) ≡ Ok (displays true)
-unfolding r.program r.identification r.procedure r.body r.opening r.sentences r.any_sentences r.paragraph r.paragraphs r.any_paragraphs r.ending r.end_program read.same_word read.after_word read.past_word read.expect read.skip read.absent read.period read.nothing read.here read.one_token read.name read.literal read.several_from read.several read.any display_rule.operands_reader display_rule.after_no_advancing display_rule.display_reader stop_run_rule.stop_run_reader statements.statements statements.verb statements.line statements.statement statements.sentence
-advancing = refl
-
--- WITH and nothing of the phrase after it: at WITH
-with_alone : parse_of (identified (word 4 12 w.Display ∷ three_tokens ++ word 4 38 w.With ∷ period 4 42 ∷ [])) ≡ Err (record { kind = UnexpectedToken; place = record { line = 4; column = 38 } })
-unfolding r.program r.identification r.procedure r.body r.opening r.sentences r.any_sentences r.paragraph r.paragraphs r.any_paragraphs r.ending r.end_program read.same_word read.after_word read.past_word read.expect read.skip read.absent read.period read.nothing read.here read.one_token read.name read.literal read.several_from read.several read.any display_rule.operands_reader display_rule.after_no_advancing display_rule.display_reader stop_run_rule.stop_run_reader statements.statements statements.verb statements.line statements.statement statements.sentence
-with_alone = refl
-
--- END PROGRAM without a name: at what stands in its place
-half_an_end : parse_of (hello_tokens ++ word 7 8 w.End ∷ word 7 12 w.Program ∷ period 7 19 ∷ []) ≡ Err (record { kind = UnexpectedToken; place = record { line = 7; column = 19 } })
-unfolding r.program r.identification r.procedure r.body r.opening r.sentences r.any_sentences r.paragraph r.paragraphs r.any_paragraphs r.ending r.end_program read.same_word read.after_word read.past_word read.expect read.skip read.absent read.period read.nothing read.here read.one_token read.name read.literal read.several_from read.several read.any display_rule.operands_reader display_rule.after_no_advancing display_rule.display_reader stop_run_rule.stop_run_reader statements.statements statements.verb statements.line statements.statement statements.sentence
-half_an_end = refl

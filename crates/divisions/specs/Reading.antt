@@ -5,18 +5,15 @@ use Rattle.source_tree.specs.declared.name.Name.{Name}
 use Rattle.source_tree.specs.declared.program.Sentence.{Sentence}
 use Rattle.source_tree.specs.declared.program.Paragraph.{Paragraph}
 use Rattle.source_tree.specs.declared.program.Program.{Program}
-use Rattle.grammar.specs.Reading.{Parser, ◌>>=◌, ◌>>◌, pure, refuse, begins_word, expect, period, nothing, name, several, any}
+use Rattle.grammar.specs.Reading.{Parser, ◌>>=◌, ◌>>◌, pure, refuse, begins_word, expect, period, heading, nothing, name, several, any}
 use Rattle.statements.specs.Verbs.{begins_statement}
 use Rattle.statements.specs.Reading.{sentence}
 use Rattle.divisions.specs.Spelling.{begins_paragraph}
 
 unfoldable pub identification : Parser Name
 identification = do
-  expect w.Identification
-  expect w.Division
-  period
-  expect w.ProgramId
-  period
+  heading (w.Identification ∷ w.Division ∷ [])
+  heading (w.ProgramId ∷ [])
   given ← name
   period
   pure given
@@ -63,9 +60,7 @@ body depth i = if begins_statement i then opening depth i else if begins_paragra
 
 unfoldable pub procedure : ℕ → Parser (List Paragraph)
 procedure depth = do
-  expect w.Procedure
-  expect w.Division
-  period
+  heading (w.Procedure ∷ w.Division ∷ [])
   body depth
 
 unfoldable pub program : ℕ → Parser Program

@@ -5,33 +5,21 @@ ghost use Rattle.grammar.specs.Reading.{Reads};
 ghost use Rattle.statements.specs.Spelling.{max_nesting};
 ghost use Rattle.divisions.specs.Reading as spec;
 
-use crate::paragraphs::{begins_paragraph, paragraphs, sentences};
-use grammar::{ReadFault, Tokens};
+use crate::paragraphs::{Paragraphs, Sentences, begins_paragraph};
+use grammar::{ReadFault, Tokens, any, several};
 use source_tree::Paragraph;
 use sqlite_items::Items;
 use statements::begins_statement;
 use std::alloc::Global;
 use tokens::Reserved;
 
-/// Paragraphs with names, where any come.
-#[tactic(auto, unfolding(crate::specs::Reading::any_paragraphs, crate::specs::Reading::paragraphs, grammar::specs::Reading::any))]
-fn any_paragraphs(alloc: Global, tokens: &mut Tokens<'_>) -> Result<Items<Paragraph>, ReadFault>
-    ensures { Reads (spec.any_paragraphs max_nesting tokens.old) result tokens.new }
-{
-    if begins_paragraph(tokens) {
-        paragraphs(alloc, tokens)
-    } else {
-        Ok(Items::new(alloc))
-    }
-}
-
 /// Sentences that belong to no paragraph, and the paragraphs after them.
-#[tactic(auto, unfolding(crate::specs::Reading::opening))]
+#[tactic(auto, unfolding(crate::specs::Reading::opening, crate::specs::Reading::sentences, crate::specs::Reading::any_paragraphs))]
 fn opening(alloc: Global, tokens: &mut Tokens<'_>) -> Result<Items<Paragraph>, ReadFault>
     ensures { Reads (spec.opening max_nesting tokens.old) result tokens.new }
 {
-    let sentences = sentences(alloc, tokens)?;
-    let more = any_paragraphs(alloc, tokens)?;
+    let sentences = several(&Sentences, alloc, tokens)?;
+    let more = any(&Paragraphs, alloc, tokens)?;
     let mut found = Items::new(alloc);
     found.push(Paragraph {
         name: None,
@@ -42,14 +30,14 @@ fn opening(alloc: Global, tokens: &mut Tokens<'_>) -> Result<Items<Paragraph>, R
 }
 
 /// The paragraphs of a body without sections, one at least.
-#[tactic(auto, unfolding(crate::specs::Reading::body))]
+#[tactic(auto, unfolding(crate::specs::Reading::body, crate::specs::Reading::paragraphs))]
 fn body(alloc: Global, tokens: &mut Tokens<'_>) -> Result<Items<Paragraph>, ReadFault>
     ensures { Reads (spec.body max_nesting tokens.old) result tokens.new }
 {
     if begins_statement(tokens) {
         opening(alloc, tokens)
     } else if begins_paragraph(tokens) {
-        paragraphs(alloc, tokens)
+        several(&Paragraphs, alloc, tokens)
     } else {
         Err(tokens.refuse())
     }
@@ -60,8 +48,6 @@ fn body(alloc: Global, tokens: &mut Tokens<'_>) -> Result<Items<Paragraph>, Read
 pub fn procedure(alloc: Global, tokens: &mut Tokens<'_>) -> Result<Items<Paragraph>, ReadFault>
     ensures { Reads (spec.procedure max_nesting tokens.old) result tokens.new }
 {
-    tokens.expect(Reserved::Procedure)?;
-    tokens.expect(Reserved::Division)?;
-    tokens.period()?;
+    tokens.heading(&[Reserved::Procedure, Reserved::Division])?;
     body(alloc, tokens)
 }

@@ -14,11 +14,8 @@ use tokens::Reserved;
 pub fn identification(alloc: Global, tokens: &mut Tokens<'_>) -> Result<Name, ReadFault>
     ensures { Reads (spec.identification tokens.old) result tokens.new }
 {
-    tokens.expect(Reserved::Identification)?;
-    tokens.expect(Reserved::Division)?;
-    tokens.period()?;
-    tokens.expect(Reserved::ProgramId)?;
-    tokens.period()?;
+    tokens.heading(&[Reserved::Identification, Reserved::Division])?;
+    tokens.heading(&[Reserved::ProgramId])?;
     let given = name(alloc, tokens)?;
     tokens.period()?;
     Ok(given)

@@ -6,9 +6,8 @@ ghost use Rattle.statements.specs.Spelling.{max_nesting};
 ghost use Rattle.divisions.specs.Reading as spec;
 ghost use Rattle.divisions.specs.Spelling as rule;
 
-use grammar::{ReadFault, Tokens, begins_name, name};
+use grammar::{Part, ReadFault, Tokens, any, begins_name, name};
 use source_tree::{Paragraph, Sentence};
-use sqlite_items::Items;
 use statements::{begins_statement, sentence};
 use std::alloc::Global;
 use tokens::Kind;
@@ -24,58 +23,62 @@ pub fn begins_paragraph(tokens: &Tokens<'_>) -> bool
     }
 }
 
-/// One or more sentences, up to where no more can begin.
-#[tactic(auto, unfolding(crate::specs::Reading::sentences))]
-pub fn sentences(alloc: Global, tokens: &mut Tokens<'_>) -> Result<Items<Sentence>, ReadFault>
-    ensures { Reads (spec.sentences max_nesting tokens.old) result tokens.new }
-{
-    let mut found = Items::new(alloc);
-    for _turn in 0..tokens.len() {
-        found.push(sentence(alloc, tokens)?)?;
-        if !begins_statement(tokens) {
-            return Ok(found);
-        }
-    }
-    Err(tokens.refuse())
-}
+/// Sentences in a list.
+pub struct Sentences;
 
-/// The sentences after a paragraph's name, which may be none.
-#[tactic(auto, unfolding(crate::specs::Reading::any_sentences, crate::specs::Reading::sentences, grammar::specs::Reading::any))]
-fn any_sentences(alloc: Global, tokens: &mut Tokens<'_>) -> Result<Items<Sentence>, ReadFault>
-    ensures { Reads (spec.any_sentences max_nesting tokens.old) result tokens.new }
-{
-    if begins_statement(tokens) {
-        sentences(alloc, tokens)
-    } else {
-        Ok(Items::new(alloc))
+impl Part<Sentence> for Sentences {
+    ghost use Rattle.statements.specs.Spelling.{max_nesting};
+    ghost use Rattle.statements.specs.Verbs.{begins_statement};
+    ghost use Rattle.statements.specs.Reading as statements;
+
+    ghost ready = { λ _. Unit {0} };
+
+    ghost reading = { λ _. statements.sentence max_nesting };
+
+    ghost beginning = { λ _. begins_statement };
+
+    fn read(&self, alloc: Global, tokens: &mut Tokens<'_>) -> Result<Sentence, ReadFault> {
+        sentence(alloc, tokens)
+    }
+
+    fn begins(&self, tokens: &Tokens<'_>) -> bool {
+        begins_statement(tokens)
     }
 }
 
 /// A paragraph by its name.
-#[tactic(auto, unfolding(crate::specs::Reading::paragraph))]
+#[tactic(auto, unfolding(crate::specs::Reading::paragraph, crate::specs::Reading::any_sentences))]
 fn paragraph(alloc: Global, tokens: &mut Tokens<'_>) -> Result<Paragraph, ReadFault>
     ensures { Reads (spec.paragraph max_nesting tokens.old) result tokens.new }
 {
     let given = name(alloc, tokens)?;
     tokens.period()?;
-    let sentences = any_sentences(alloc, tokens)?;
+    let sentences = any(&Sentences, alloc, tokens)?;
     Ok(Paragraph {
         name: Some(given),
         sentences,
     })
 }
 
-/// One or more paragraphs with names.
-#[tactic(auto, unfolding(crate::specs::Reading::paragraphs))]
-pub fn paragraphs(alloc: Global, tokens: &mut Tokens<'_>) -> Result<Items<Paragraph>, ReadFault>
-    ensures { Reads (spec.paragraphs max_nesting tokens.old) result tokens.new }
-{
-    let mut found = Items::new(alloc);
-    for _turn in 0..tokens.len() {
-        found.push(paragraph(alloc, tokens)?)?;
-        if !begins_paragraph(tokens) {
-            return Ok(found);
-        }
+/// Paragraphs with names, in a list.
+pub struct Paragraphs;
+
+impl Part<Paragraph> for Paragraphs {
+    ghost use Rattle.statements.specs.Spelling.{max_nesting};
+    ghost use Rattle.divisions.specs.Reading as spec;
+    ghost use Rattle.divisions.specs.Spelling.{begins_paragraph};
+
+    ghost ready = { λ _. Unit {0} };
+
+    ghost reading = { λ _. spec.paragraph max_nesting };
+
+    ghost beginning = { λ _. begins_paragraph };
+
+    fn read(&self, alloc: Global, tokens: &mut Tokens<'_>) -> Result<Paragraph, ReadFault> {
+        paragraph(alloc, tokens)
     }
-    Err(tokens.refuse())
+
+    fn begins(&self, tokens: &Tokens<'_>) -> bool {
+        begins_paragraph(tokens)
+    }
 }

@@ -1,12 +1,13 @@
 -- The words that open a phrase: where they stand, and that looking finds them.
 use Rattle.std.proofs.Common.{◌≡◌, Bool, true, false, if◌then◌else◌, List, [], ◌∷◌, Option, Some, None, inl, inr, refl, sym, ap, ◌∙◌, rules}
+use Rattle.std.specs.Prelude.{is_some}
 use denote.Enum.Bare.{same_true, true_same}
 use Rattle.tokens.specs.contracts.reserved.Reserved.{the_type}
 use Rattle.tokens.specs.declared.reserved.Reserved.{Reserved}
 use Rattle.tokens.specs.declared.token.Kind.{Kind}
 use Rattle.tokens.specs.declared.token.Kind.TheVariants as k
 use Rattle.tokens.specs.declared.token.Token.{Token}
-use Rattle.grammar.specs.Parts.{Part, ◌then◌, word, optional}
+use Rattle.grammar.specs.Parts.{Part, ◌then◌, word, optional, tested}
 use Rattle.grammar.specs.Reading.{Words, same_word, is_kind, is_word, begins_word, after_word, past_word, otherwise_here, also_after}
 
 pub some_is : {A : Type 0} {a b : A} → Some a ≡ Some b → a ≡ b
@@ -112,4 +113,30 @@ pub finds_past : (one : Reserved) (p : Part) (words : Words) → Finds p words �
 finds_past one p words finds = record {
   found = λ i after e. (past_word one i, past_does one i, finds.found (past_word one i) after e);
   stands = λ i after s. ap words (past_is one i s.0 s.1) ∙ finds.stands s.0 after s.2;
+}
+
+-- ---- tests
+
+-- Tokens pass the test exactly where the part begins.
+pub record Tests (begin : Part) (begins : List Token → Bool) : Type 0 where
+  pub fails : (i : List Token) → begins i ≡ false → (after : List Token) → begin i after → ⊥
+  pub refuses : (i : List Token) → ((after : List Token) → begin i after → ⊥) → begins i ≡ false
+
+pub true_not_false : (b : Bool) → b ≡ false → b ≡ true → ⊥
+true_not_false b e f = cc
+
+pub tests_tested : (begins : List Token → Bool) → Tests (tested begins) begins
+tests_tested begins = record {
+  fails = λ i e after stands. true_not_false (begins i) e stands;
+  refuses = λ i nowhere. go i (begins i) refl nowhere;
+}
+  where
+    go : (i : List Token) (b : Bool) → begins i ≡ b → ((after : List Token) → begins i ≡ true → ⊥) → begins i ≡ false
+    go i true e nowhere = absurd (nowhere i e)
+    go i false e nowhere = e
+
+pub tests_words : {p : Part} {words : Words} → Finds p words → Tests p (λ i. is_some (words i))
+tests_words {p = p} {words = words} finds = record {
+  fails = λ i e after stands. true_not_false (is_some (words i)) e (ap is_some (finds.stands i after stands));
+  refuses = λ i nowhere. ap is_some (is_missing finds i nowhere);
 }

@@ -1,18 +1,35 @@
 -- What reading in steps gives.
-use Rattle.std.proofs.Common.{◌≡◌, ◌∙◌, ℕ, List, Ok, Err, refl, sym, ap, subst}
+use Rattle.std.proofs.Common.{◌≡◌, ◌∙◌, ◌<◌, ℕ, suc, List, Ok, Err, refl, sym, ap, subst, arith}
 use Rattle.tokens.specs.declared.token.Token.{Token}
-use Rattle.grammar.specs.declared.fault.Halt.TheVariants.{TooDeep}
+use Rattle.grammar.specs.declared.fault.Halt.{Halt}
+use Rattle.grammar.specs.declared.fault.Halt.TheVariants.{Unexpected, TooDeep}
 use Rattle.grammar.specs.Reading.{Outcome, Parser, and_then}
 
--- Reading answers this and nothing else, but where Deep holds it may find that statements nest too deep.
-pub data Answers (Deep : Type 0) {A : Type 0} (reading : Outcome A) (a : A) (rest : List Token) : Type 0 where
-  Reached : reading ≡ Ok (a, rest) → Answers Deep reading a rest
-  Sunk : Deep → (left : ℕ) → reading ≡ Err (TooDeep left) → Answers Deep reading a rest
+-- Reading answers this and nothing else, but that it may halt as is allowed.
+pub data Answers (Allowed : Halt → Type 0) {A : Type 0} (reading : Outcome A) (a : A) (rest : List Token) : Type 0 where
+  Reached : reading ≡ Ok (a, rest) → Answers Allowed reading a rest
+  Halts : (halt : Halt) → Allowed halt → reading ≡ Err halt → Answers Allowed reading a rest
 
-pub step : {Deep A B : Type 0} (first : Outcome A) (f : A → Parser B) {a : A} {middle : List Token} {b : B} {rest : List Token}
-    → Answers Deep first a middle → Answers Deep (f a middle) b rest → Answers Deep (and_then first f) b rest
-step {Deep = Deep} first f {b = b} {rest = rest} (Reached e) next = subst (λ o. Answers Deep (and_then o f) b rest) (sym e) next
-step first f (Sunk deep left e) next = Sunk deep left (ap (λ o. and_then o f) e)
+-- what may be answered where statements, parentheses and signs stand in one another to `depth'`, and reading goes to `depth`
+abbrev pub Deeper : ℕ → ℕ → Halt → Type 0
+Deeper depth depth' (TooDeep left) = depth < depth'
+Deeper depth depth' (Unexpected left) = ⊥
+
+-- where more is allowed
+pub allow : {Allowed Wider : Halt → Type 0} {A : Type 0} {reading : Outcome A} {a : A} {rest : List Token}
+    → ((halt : Halt) → Allowed halt → Wider halt) → Answers Allowed reading a rest → Answers Wider reading a rest
+allow wider (Reached e) = Reached e
+allow wider (Halts halt allowed e) = Halts halt (wider halt allowed) e
+
+-- one level down on both sides
+pub one_deeper : (depth depth' : ℕ) (halt : Halt) → Deeper depth depth' halt → Deeper (suc depth) (suc depth') halt
+one_deeper depth depth' (TooDeep left) below = omega arith
+one_deeper depth depth' (Unexpected left) none = none
+
+pub step : {Allowed : Halt → Type 0} {A B : Type 0} (first : Outcome A) (f : A → Parser B) {a : A} {middle : List Token} {b : B} {rest : List Token}
+    → Answers Allowed first a middle → Answers Allowed (f a middle) b rest → Answers Allowed (and_then first f) b rest
+step {Allowed = Allowed} first f {b = b} {rest = rest} (Reached e) next = subst (λ o. Answers Allowed (and_then o f) b rest) (sym e) next
+step first f (Halts halt allowed e) next = Halts halt allowed (ap (λ o. and_then o f) e)
 
 -- the first step of what was read, handed on
 pub unstep : {A B : Type 0} (first : Outcome A) (f : A → Parser B) {b : B} {rest : List Token} {Q : Type 0} → and_then first f ≡ Ok (b, rest)

@@ -5,11 +5,12 @@ use Rattle.tokens.specs.declared.reserved.Reserved.{Reserved}
 use Rattle.tokens.specs.declared.token.Kind.{Kind}
 use Rattle.tokens.specs.declared.token.Kind.TheVariants as k
 use Rattle.tokens.specs.declared.token.Token.{Token}
+use Rattle.grammar.specs.declared.fault.Halt.{Halt}
 use Rattle.grammar.specs.Parts as g
 use Rattle.grammar.specs.Parts.{Part}
 use Rattle.grammar.specs.Reading as r
 use Rattle.grammar.specs.Reading.{Outcome, Parser, Words, after_word, past_word, needed, told}
-use Rattle.grammar.proofs.Outcomes.{Reached, value, after}
+use Rattle.grammar.proofs.Outcomes.{Reached, step, unstep, value, after}
 use Rattle.grammar.proofs.Looking
 use Rattle.grammar.proofs.Looking.{Finds, is_absent, is_missing, past_does, past_is, word_found, word_stands}
 use Rattle.grammar.proofs.Lists.{Sound, Complete, Shrinks, Starts}
@@ -27,7 +28,7 @@ module _ {A : Type 0} (tells : Token → Option A) where
   one_token_sound a [] rest e = cc
   one_token_sound a (first ∷ more) rest e = told_sound (tells first) a first more rest refl e
 
-  pub one_token_complete : {Deep : Type 0} → Complete Deep (g.telling tells) (r.one_token tells)
+  pub one_token_complete : {Allowed : Halt → Type 0} → Complete Allowed (g.telling tells) (r.one_token tells)
   unfolding r.one_token
   one_token_complete a i rest (first, is, tell) = Reached (ap (r.one_token tells) is ∙ ap (λ o. told o rest (first ∷ rest)) tell)
 
@@ -41,9 +42,9 @@ pub name_sound : Sound g.name r.name
 unfolding r.name
 name_sound = one_token_sound g.name_in
 
-pub name_complete : {Deep : Type 0} → Complete Deep g.name r.name
+pub name_complete : {Allowed : Halt → Type 0} → Complete Allowed g.name r.name
 unfolding r.name
-name_complete {Deep = Deep} = one_token_complete g.name_in {Deep = Deep}
+name_complete {Allowed = Allowed} = one_token_complete g.name_in {Allowed = Allowed}
 
 pub name_shrinks : Shrinks g.name
 name_shrinks = telling_shrinks g.name_in
@@ -55,9 +56,9 @@ pub literal_sound : Sound g.literal r.literal
 unfolding r.literal
 literal_sound = one_token_sound g.literal_in
 
-pub literal_complete : {Deep : Type 0} → Complete Deep g.literal r.literal
+pub literal_complete : {Allowed : Halt → Type 0} → Complete Allowed g.literal r.literal
 unfolding r.literal
-literal_complete {Deep = Deep} = one_token_complete g.literal_in {Deep = Deep}
+literal_complete {Allowed = Allowed} = one_token_complete g.literal_in {Allowed = Allowed}
 
 pub literal_shrinks : Shrinks g.literal
 literal_shrinks = telling_shrinks g.literal_in
@@ -72,7 +73,7 @@ unfolding r.here
 here_sound place [] rest e = cc
 here_sound place (first ∷ more) rest e = (after e, ap Some (value e))
 
-pub here_complete : {Deep : Type 0} → Complete Deep g.here r.here
+pub here_complete : {Allowed : Halt → Type 0} → Complete Allowed g.here r.here
 unfolding r.here
 here_complete place [] rest s = absurd (Looking.none_not s.1)
 here_complete place (first ∷ more) rest s = Reached (ap (λ p. Ok (p, first ∷ more)) (Looking.some_is s.1) ∙ ap (λ j. Ok (place, j)) s.0)
@@ -87,7 +88,7 @@ word_sound one u i rest e = go (after_word one i) refl e
     go None is e = cc
     go (Some m) is e = word_found one i rest (is ∙ ap Some (after e))
 
-pub word_complete : {Deep : Type 0} (one : Reserved) → Complete Deep (λ u. g.word one) (r.expect one)
+pub word_complete : {Allowed : Halt → Type 0} (one : Reserved) → Complete Allowed (λ u. g.word one) (r.expect one)
 unfolding r.expect
 word_complete one u i rest s = Reached (ap (λ x. needed x i) (word_stands one i rest s))
 
@@ -102,7 +103,7 @@ pub skip_sound : (one : Reserved) → Sound (λ u. g.optional (g.word one)) (r.s
 unfolding r.skip
 skip_sound one u i rest e = subst (λ j. g.optional (g.word one) i j) (after e) (past_does one i)
 
-pub skip_complete : {Deep : Type 0} (one : Reserved) → Complete Deep (λ u. g.optional (g.word one)) (r.skip one)
+pub skip_complete : {Allowed : Halt → Type 0} (one : Reserved) → Complete Allowed (λ u. g.optional (g.word one)) (r.skip one)
 unfolding r.skip
 skip_complete one u i rest s = Reached (ap (λ j. Ok (u, j)) (past_is one i rest s))
 
@@ -112,22 +113,22 @@ skip_shrinks one i rest (inr s) = let l = ap length s.0 in omega arith
 
 -- ---- phrases without a tree of their own
 
-pub absent_sound : {p : Part} {words : Words} → Finds p words → Sound (g.absent p) (r.absent words)
-unfolding r.absent
-absent_sound {p = p} {words = words} finds out i rest e = go (words i) refl e
+pub left_out_sound : {p : Part} {words : Words} → Finds p words → Sound (g.left_out p) (r.left_out words)
+unfolding r.left_out
+left_out_sound {p = p} {words = words} finds out i rest e = go (words i) refl e
   where
-    go : (found : Option (List Token)) → words i ≡ found → r.absent_at found i ≡ Ok (out, rest) → g.absent p out i rest
-    go None is e = subst (λ b. g.absent p b i rest) (value e) (after e, is_absent finds i is)
-    go (Some m) is e = subst (λ b. g.absent p b i rest) (value e) (finds.found i rest (is ∙ ap Some (after e)))
+    go : (found : Option (List Token)) → words i ≡ found → r.left_out_at found i ≡ Ok (out, rest) → g.left_out p out i rest
+    go None is e = subst (λ b. g.left_out p b i rest) (value e) (after e, is_absent finds i is)
+    go (Some m) is e = subst (λ b. g.left_out p b i rest) (value e) (finds.found i rest (is ∙ ap Some (after e)))
 
-pub absent_complete : {Deep : Type 0} {p : Part} {words : Words} → Finds p words → Complete Deep (g.absent p) (r.absent words)
-unfolding r.absent
-absent_complete finds true i rest s = Reached (ap (λ o. r.absent_at o i) (is_missing finds i s.1) ∙ ap (λ j. Ok (true, j)) s.0)
-absent_complete finds false i rest s = Reached (ap (λ o. r.absent_at o i) (finds.stands i rest s))
+pub left_out_complete : {Allowed : Halt → Type 0} {p : Part} {words : Words} → Finds p words → Complete Allowed (g.left_out p) (r.left_out words)
+unfolding r.left_out
+left_out_complete finds true i rest s = Reached (ap (λ o. r.left_out_at o i) (is_missing finds i s.1) ∙ ap (λ j. Ok (true, j)) s.0)
+left_out_complete finds false i rest s = Reached (ap (λ o. r.left_out_at o i) (finds.stands i rest s))
 
-pub absent_shrinks : {p : Part} → ((i rest : List Token) → p i rest → length rest ≤ length i) → (out : Bool) (i rest : List Token) → g.absent p out i rest → length rest ≤ length i
-absent_shrinks fewer true i rest s = let l = ap length s.0 in omega arith
-absent_shrinks fewer false i rest s = fewer i rest s
+pub left_out_shrinks : {p : Part} → ((i rest : List Token) → p i rest → length rest ≤ length i) → (out : Bool) (i rest : List Token) → g.left_out p out i rest → length rest ≤ length i
+left_out_shrinks fewer true i rest s = let l = ap length s.0 in omega arith
+left_out_shrinks fewer false i rest s = fewer i rest s
 
 -- ---- periods
 
@@ -151,12 +152,30 @@ period_sound u (first ∷ more) rest e = go (r.is_period first.kind) refl e
     go true is e = (first, ap (λ j. first ∷ j) (after e), period_is first.kind is)
     go false is e = cc
 
-pub period_complete : {Deep : Type 0} → Complete Deep (λ u. g.period) r.period
+pub period_complete : {Allowed : Halt → Type 0} → Complete Allowed (λ u. g.period) r.period
 unfolding r.period
 period_complete u i rest (first, is, kind) = Reached (ap r.period is ∙ ap (λ b. if b then Ok (tt, rest) else r.refuse (first ∷ rest)) (ap r.is_period kind))
 
 pub period_shrinks : (i rest : List Token) → g.period i rest → length rest < length i
 period_shrinks i rest (first, is, kind) = let l = ap length is in omega arith
+
+-- ---- headings
+
+pub heading_sound : (words : List Reserved) → Sound (λ u. g.heading words) (r.heading words)
+unfolding r.heading
+heading_sound [] u i rest e = period_sound u i rest e
+heading_sound (one ∷ more) u i rest e =
+    unstep (r.expect one i) _ e (λ v i1 is1 e1. (i1, word_sound one v i i1 is1, heading_sound more u i1 rest e1))
+
+pub heading_complete : {Allowed : Halt → Type 0} (words : List Reserved) → Complete Allowed (λ u. g.heading words) (r.heading words)
+unfolding r.heading
+heading_complete [] u i rest s = period_complete u i rest s
+heading_complete (one ∷ more) u i rest s = step (r.expect one i) _ (word_complete one tt i s.0 s.1) (heading_complete more u s.0 rest s.2)
+
+pub heading_shrinks : (words : List Reserved) (i rest : List Token) → g.heading words i rest → length rest < length i
+heading_shrinks [] i rest s = period_shrinks i rest s
+heading_shrinks (one ∷ more) i rest s =
+    let a = word_shrinks one i s.0 s.1 in let b = heading_shrinks more s.0 rest s.2 in omega arith
 
 -- ---- the end
 

@@ -36,19 +36,26 @@ abbrev pub optional : Part → Part
 optional p = p or without p
 
 -- `[p]`, told by whether it is left out
-abbrev pub absent : Part → Bool → Part
-absent p true = without p
-absent p false = p
+abbrev pub left_out : Part → Bool → Part
+left_out p true = without p
+left_out p false = p
 
--- `p...`: any number, up to where no more can begin.
-abbrev pub any : {A : Type 0} → (A → Part) → (List Token → Bool) → List A → Part
-any p begins [] = λ from rest. (from ≡ rest) × (begins from ≡ false)
-any p begins (one ∷ more) = p one then any p begins more
+abbrev pub nowhere : Part
+nowhere = λ from rest. ⊥
+
+-- What passes a test begins here; how far it goes isn't said.
+abbrev pub tested : (List Token → Bool) → Part
+tested begins = λ from rest. begins from ≡ true
+
+-- `p...`: any number, up to where no more can begin. `begin` is how one begins.
+abbrev pub any : {A : Type 0} → (A → Part) → Part → List A → Part
+any p begin [] = without begin
+any p begin (one ∷ more) = p one then any p begin more
 
 -- `p...`: one or more, up to where no more can begin.
-abbrev pub several : {A : Type 0} → (A → Part) → (List Token → Bool) → List A → Part
-several p begins [] = λ from rest. ⊥
-several p begins (one ∷ more) = p one then any p begins more
+abbrev pub several : {A : Type 0} → (A → Part) → Part → List A → Part
+several p begin [] = nowhere
+several p begin (one ∷ more) = p one then any p begin more
 
 -- ---- parts of one token
 
@@ -61,6 +68,11 @@ word one = token (k.Reserved one)
 
 abbrev pub period : Part
 period = token k.Period
+
+-- Reserved words and a period: the heading of a division, a section or a paragraph of fixed name.
+abbrev pub heading : List Reserved → Part
+heading [] = period
+heading (one ∷ more) = word one then heading more
 
 -- A token that `tells` this.
 abbrev pub telling : {A : Type 0} → (Token → Option A) → A → Part

@@ -13,6 +13,7 @@ use Rattle.grammar.specs.declared.fault.Halt.{Halt}
 use Rattle.grammar.specs.declared.fault.Halt.TheVariants.{Unexpected}
 use Rattle.grammar.specs.declared.fault.ReadFault.{ReadFault}
 use Rattle.grammar.specs.declared.fault.ReadFault.TheVariants as faults
+use Rattle.answers.specs.Answer.{Gives}
 use Rattle.grammar.specs.Parts.{place_in, name_in, literal_in}
 
 -- What was read and the tokens after it, or where reading stopped.
@@ -85,13 +86,13 @@ expect one = λ i. needed (after_word one i) i
 unfoldable pub skip : Reserved → Parser (Unit {0})
 skip one = λ i. Ok (tt, past_word one i)
 
--- whether a phrase is absent, by the tokens after it where it stands
-abbrev pub absent_at : Option (List Token) → Parser Bool
-absent_at None i = Ok (true, i)
-absent_at (Some after) i = Ok (false, after)
+-- whether a phrase is left out, by the tokens after it where it stands
+abbrev pub left_out_at : Option (List Token) → Parser Bool
+left_out_at None i = Ok (true, i)
+left_out_at (Some after) i = Ok (false, after)
 
-unfoldable pub absent : Words → Parser Bool
-absent words = λ i. absent_at (words i) i
+unfoldable pub left_out : Words → Parser Bool
+left_out words = λ i. left_out_at (words i) i
 
 -- the next token, whatever it is
 abbrev pub advance : Parser (Unit {0})
@@ -104,6 +105,10 @@ is_period _ = false
 unfoldable pub period : Parser (Unit {0})
 period [] = refuse []
 period (first ∷ more) = if is_period first.kind then Ok (tt, more) else refuse (first ∷ more)
+
+unfoldable pub heading : List Reserved → Parser (Unit {0})
+heading [] = period
+heading (one ∷ more) = expect one >> heading more
 
 unfoldable pub nothing : Parser (Unit {0})
 nothing [] = Ok (tt, [])
@@ -146,10 +151,10 @@ any item begins = λ i. if begins i then several item begins i else Ok ([], i)
 
 -- ---- what a function that reads ensures: what reading gives, unless memory ran out
 
-abbrev pub Fails : {A : Type 0} → Outcome A → ReadFault → Type 0
-Fails reading faults.Memory = Unit {0}
-Fails reading (faults.Halted halt) = reading ≡ Err halt
+-- where reading halted, or nothing where memory ran out
+abbrev pub halt_of : ReadFault → Option Halt
+halt_of faults.Memory = None
+halt_of (faults.Halted halt) = Some halt
 
 abbrev pub Reads : {A : Type 0} → Outcome A → Result A ReadFault → List Token → Type 0
-Reads reading (Ok a) rest = reading ≡ Ok (a, rest)
-Reads reading (Err e) rest = Fails reading e
+Reads reading result rest = Gives (λ a. (a, rest)) halt_of result reading

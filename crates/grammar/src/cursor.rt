@@ -128,9 +128,20 @@ impl<'a> Tokens<'a> {
         }
     }
 
-    /// Whether a phrase is absent. Where it stands, `after` is what follows it, and reading goes on there.
-    pub fn is_absent(&mut self, after: Option<&'a [Token]>) -> bool
-        ensures { spec.absent_at (option_copied after.entry) self.old ≡ Ok (result, self.new) }
+    /// Passes these words and a period, which have to come next.
+    #[tactic(auto, unfolding(crate::specs::Reading::heading))]
+    pub fn heading(&mut self, words: &[Reserved]) -> Result<(), ReadFault>
+        ensures { Reads (spec.heading words.now self.old) result self.new }
+    {
+        for word in words {
+            self.expect(*word)?;
+        }
+        self.period()
+    }
+
+    /// Whether a phrase is left out. Where it stands, `after` is what follows it, and reading goes on there.
+    pub fn is_left_out(&mut self, after: Option<&'a [Token]>) -> bool
+        ensures { spec.left_out_at (option_copied after.entry) self.old ≡ Ok (result, self.new) }
     {
         match after {
             None => true,

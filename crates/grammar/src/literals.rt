@@ -7,6 +7,7 @@ ghost use Rattle.grammar.specs.Reading.{Reads};
 
 use crate::cursor::Tokens;
 use crate::fault::ReadFault;
+use crate::part::Part;
 use source_tree::{Literal, LiteralValue, NumericLiteral, Sign};
 use sqlite_items::Items;
 use std::alloc::{AllocError, Global};
@@ -32,8 +33,8 @@ fn sign(sign: tokens::Sign) -> Sign
     }
 }
 
-/// A copy for the tree.
-fn number(alloc: Global, number: &tokens::NumericLiteral) -> Result<NumericLiteral, AllocError>
+/// A number of the tree, by what was written.
+pub fn number(alloc: Global, number: &tokens::NumericLiteral) -> Result<NumericLiteral, AllocError>
     ensures { IfOk result (λ copy. copy ≡ grammar.number_in number.now) }
 {
     Ok(NumericLiteral {
@@ -61,4 +62,26 @@ pub fn literal(alloc: Global, tokens: &mut Tokens<'_>) -> Result<Literal, ReadFa
     };
     tokens.go_to(rest);
     Ok(Literal { value, place })
+}
+
+/// Literals in a list.
+pub struct Literals;
+
+impl Part<Literal> for Literals {
+    ghost use Rattle.grammar.specs.Parts as grammar;
+    ghost use Rattle.grammar.specs.Reading as spec;
+
+    ghost ready = { λ _. Unit {0} };
+
+    ghost reading = { λ _. spec.literal };
+
+    ghost beginning = { λ _. grammar.begins_literal };
+
+    fn read(&self, alloc: Global, tokens: &mut Tokens<'_>) -> Result<Literal, ReadFault> {
+        literal(alloc, tokens)
+    }
+
+    fn begins(&self, tokens: &Tokens<'_>) -> bool {
+        begins_literal(tokens)
+    }
 }

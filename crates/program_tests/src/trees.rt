@@ -12,7 +12,7 @@ const HEADER: &str =
     "       IDENTIFICATION DIVISION.\n       PROGRAM-ID. HELLO.\n       PROCEDURE DIVISION.\n";
 
 /// What comes after the three lines of `HEADER`, and its tree as `shape` writes it.
-const TREES: [(&str, &str); 14] = [
+const TREES: [(&str, &str); 15] = [
     // HELLO in its six lines, with END PROGRAM, and with another name there
     (
         "       MAIN-PARA.\n           DISPLAY \"HELLO\".\n           STOP RUN.\n",
@@ -26,6 +26,7 @@ const TREES: [(&str, &str); 14] = [
         "       MAIN-PARA.\n           DISPLAY \"HELLO\".\n           STOP RUN.\n       END PROGRAM ANOTHER.\n",
         "HELLO|MAIN-PARA@4:8.D1+@5:12.S@6:12",
     ),
+    ("           CONTINUE STOP RUN.\n", "HELLO|.C@4:12S@4:21"),
     // sentences alone
     ("           STOP RUN.\n", "HELLO|.S@4:12"),
     // a sentence of two statements is not two sentences
@@ -146,13 +147,14 @@ fn push_statement(to: &mut String, alloc: Global, statement: &Statement) -> Resu
             to.push_str(format!(in alloc; "D{}{end}", operands.len())?.as_str())?;
         }
         Verb::Ending(Ending::StopRun, _) => to.push_str("S")?,
+        Verb::Ending(Ending::Continue, _) => to.push_str("C")?,
     }
     let place = statement.place;
     to.push_str(format!(in alloc; "@{}:{}", place.line, place.column)?.as_str())
 }
 
 /// The program's name; for each paragraph `|`, its name and place; for each sentence `.` and its statements: `D`, the number
-/// of operands and `+`, or `-` for NO ADVANCING; `S` for STOP RUN; each with its place.
+/// of operands and `+`, or `-` for NO ADVANCING; `S` for STOP RUN, `C` for CONTINUE; each with its place.
 fn shape(alloc: Global, program: &Program) -> Result<String, AllocError> {
     let mut shape = String::new(alloc);
     push_text(&mut shape, program.name.characters.as_slice())?;

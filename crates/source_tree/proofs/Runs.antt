@@ -107,6 +107,7 @@ texts_runs (text.Display operands advancing) = show_runs _
 
 finish_runs : (one : Ending) → IsRun (finish one)
 finish_runs ending.StopRun = stop_runs
+finish_runs ending.Continue = done_runs
 
 step_runs : {S : Type 0} (run : S → State → Outcome) → ((one : S) → IsRun (run one)) → (one : Verb S) → IsRun (step run one)
 step_runs run r (verb.Text one) = texts_runs one

@@ -27,6 +27,7 @@ texts (text.Display operands advancing) s = Done (showing (shown_display operand
 
 abbrev pub finish : Ending → State → Outcome
 finish ending.StopRun s = Over Stopped s
+finish ending.Continue s = Done s
 
 -- One statement after it has used one of the budget, by its family. `run` runs the statements that stand in it.
 abbrev pub step : {S : Type 0} → (S → State → Outcome) → Verb S → State → Outcome

@@ -2,19 +2,23 @@
 #![tactic(auto)]
 
 mod ending;
+mod expression;
 mod laws;
 mod literal;
 mod name;
 mod place;
 mod program;
+mod reference;
 mod statement;
 mod text;
 
 pub use ending::Ending;
+pub use expression::{Expression, Operand, Operator};
 pub use laws::{budget_law, depth_law, output_law};
-pub use literal::{Figurative, Literal, LiteralValue, NumericLiteral, Sign};
+pub use literal::{Figurative, Integer, Literal, LiteralValue, NumericLiteral, Sign};
 pub use name::Name;
 pub use place::Place;
 pub use program::{Paragraph, Program, Section, Sentence};
+pub use reference::{Adjustment, QualifiedName, Reference, Subscript};
 pub use statement::{Statement, Verb};
 pub use text::Text;

@@ -2,7 +2,10 @@
 use Rattle.std.proofs.Common.{◌<◌, ℕ, zero, suc, length, refl, subst, arith}
 use Rattle.grammar.specs.Reading as read
 use Rattle.grammar.specs.Reading.{Outcome, Parser}
-use Rattle.grammar.proofs.Outcomes.{Reached, Sunk, step, unstep, value, last}
+use Rattle.grammar.specs.declared.fault.Halt.TheVariants.{TooDeep}
+use Rattle.grammar.specs.Parts.{tested}
+use Rattle.grammar.proofs.Looking.{tests_tested}
+use Rattle.grammar.proofs.Outcomes.{Reached, Halts, Deeper, step, unstep, value, last}
 use Rattle.grammar.proofs.Lists
 use Rattle.grammar.proofs.Lists.{Sound, Complete, Shrinks, Starts}
 use Rattle.grammar.proofs.Parts.{period_sound, period_complete, period_shrinks}
@@ -25,23 +28,23 @@ statement_sound zero x i rest e = cc
 statement_sound (suc depth) x i rest e = line_sound (g.statement depth) (r.statement depth) x i rest e
 
 -- Reading to a depth answers what is spelled to a greater one, or that it nests too deep.
-statement_complete : (depth depth' : ℕ) → Complete (depth < depth') (g.statement depth') (r.statement depth)
+statement_complete : (depth depth' : ℕ) → Complete (Deeper depth depth') (g.statement depth') (r.statement depth)
 unfolding r.statement
 statement_complete depth zero x i rest s = absurd s
-statement_complete zero (suc n) x i rest s = Sunk (omega arith) (length i) refl
-statement_complete (suc depth) (suc n) x i rest s = line_complete (suc depth < suc n) (g.statement n) (r.statement depth) x i rest s
+statement_complete zero (suc n) x i rest s = Halts (TooDeep (length i)) (omega arith) refl
+statement_complete (suc depth) (suc n) x i rest s = line_complete (Deeper (suc depth) (suc n)) (g.statement n) (r.statement depth) x i rest s
 
 statements_sound : (depth : ℕ) → Sound (g.statements (g.statement depth)) (r.statements (r.statement depth))
 unfolding r.statements
-statements_sound depth = Lists.several_sound (g.statement depth) (r.statement depth) begins_statement (statement_sound depth)
+statements_sound depth = Lists.several_sound (g.statement depth) (r.statement depth) (tested begins_statement) begins_statement (tests_tested begins_statement) (statement_sound depth)
 
-statements_complete : (depth depth' : ℕ) → Complete (depth < depth') (g.statements (g.statement depth')) (r.statements (r.statement depth))
+statements_complete : (depth depth' : ℕ) → Complete (Deeper depth depth') (g.statements (g.statement depth')) (r.statements (r.statement depth))
 unfolding r.statements
 statements_complete depth depth' =
-    Lists.several_complete (g.statement depth') (r.statement depth) begins_statement (depth < depth') (statement_complete depth depth') (statement_shrinks depth') (statement_starts depth')
+    Lists.several_complete (g.statement depth') (r.statement depth) (tested begins_statement) begins_statement (tests_tested begins_statement) (Deeper depth depth') (statement_complete depth depth') (statement_shrinks depth') (statement_starts depth')
 
 statements_shrink : (depth : ℕ) → Shrinks (g.statements (g.statement depth))
-statements_shrink depth = Lists.several_shrinks (g.statement depth) begins_statement (statement_shrinks depth)
+statements_shrink depth = Lists.several_shrinks (g.statement depth) (tested begins_statement) (statement_shrinks depth)
 
 -- ---- sentences
 
@@ -52,7 +55,7 @@ sentence_sound depth x i rest e =
     unstep (read.period i1) _ e1 (λ u i2 is2 e2.
     subst (λ y. g.sentence depth y i rest) (value e2) (i1, statements_sound depth found i i1 is1, period_sound u i1 rest (last is2 e2))))
 
-pub sentence_complete : (depth depth' : ℕ) → Complete (depth < depth') (g.sentence depth') (r.sentence depth)
+pub sentence_complete : (depth depth' : ℕ) → Complete (Deeper depth depth') (g.sentence depth') (r.sentence depth)
 unfolding r.sentence
 sentence_complete depth depth' x i rest s =
     step (r.statements (r.statement depth) i) _ (statements_complete depth depth' x.statements i s.0 s.1)
@@ -62,4 +65,4 @@ pub sentence_shrinks : (depth : ℕ) → Shrinks (g.sentence depth)
 sentence_shrinks depth x i rest s = let a = statements_shrink depth x.statements i s.0 s.1 in let b = period_shrinks s.0 rest s.2 in omega arith
 
 pub sentence_starts : (depth : ℕ) → Starts begins_statement (g.sentence depth)
-sentence_starts depth x i rest s = Lists.several_starts (g.statement depth) begins_statement (statement_starts depth) x.statements i s.0 s.1
+sentence_starts depth x i rest s = Lists.several_starts (g.statement depth) (tested begins_statement) begins_statement (statement_starts depth) x.statements i s.0 s.1

@@ -9,6 +9,7 @@ use Rattle.source_tree.specs.declared.ending.Ending.TheVariants as ending
 use Rattle.source_tree.specs.declared.statement.Verb.{Verb}
 use Rattle.source_tree.specs.declared.statement.Verb.TheVariants as verb
 use Rattle.source_tree.specs.declared.statement.Statement.{Statement, out-Statement, roll-Statement, out-roll-Statement, roll-out-Statement}
+use Rattle.grammar.specs.declared.fault.Halt.{Halt}
 use Rattle.grammar.specs.Parts.{Part}
 use Rattle.grammar.specs.Reading as read
 use Rattle.grammar.specs.Reading.{Parser}
@@ -20,6 +21,7 @@ use Rattle.statements.specs.declared.verb.VerbWord.TheVariants as v
 use Rattle.statements.specs.Verbs.{verb_at, begins_statement}
 use Rattle.statements.specs.Spelling as g
 use Rattle.statements.specs.Reading as r
+use Rattle.statements.proofs.Verbs.Continuing.{continuing_shrinks, continuing_stands, continuing_complete, continuing_sound}
 use Rattle.statements.proofs.Verbs.Display.{display_shrinks, display_stands, display_complete, display_sound}
 use Rattle.statements.proofs.Verbs.StopRun.{stop_run_shrinks, stop_run_stands, stop_run_complete, stop_run_sound}
 
@@ -29,6 +31,7 @@ module _ (p : Statement → Part) where
   verb_shrinks : Shrinks (g.verb_line p)
   verb_shrinks (verb.Text (text.Display operands advancing)) i rest s = display_shrinks operands advancing i rest s
   verb_shrinks (verb.Ending ending.StopRun inside) i rest s = stop_run_shrinks i rest s
+  verb_shrinks (verb.Ending ending.Continue inside) i rest s = continuing_shrinks i rest s
 
   pub line_shrinks : Shrinks (g.line p)
   line_shrinks x i rest (i1, at, s) = let l = ap length at.0 in let a = verb_shrinks (out-Statement x).verb i1 rest s in omega arith
@@ -37,10 +40,12 @@ module _ (p : Statement → Part) where
   abbrev word_of : Verb Statement → VerbWord
   word_of (verb.Text (text.Display operands advancing)) = v.Display
   word_of (verb.Ending ending.StopRun inside) = v.Stop
+  word_of (verb.Ending ending.Continue inside) = v.Continue
 
   verb_stands : (x : Verb Statement) (i rest : List Token) → g.verb_line p x i rest → verb_at i ≡ Some (word_of x)
   verb_stands (verb.Text (text.Display operands advancing)) i rest s = display_stands operands advancing i rest s
   verb_stands (verb.Ending ending.StopRun inside) i rest s = stop_run_stands i rest s
+  verb_stands (verb.Ending ending.Continue inside) i rest s = continuing_stands i rest s
 
   pub line_starts : Starts begins_statement (g.line p)
   line_starts x i rest (i1, at, s) = ap begins_statement at.0 ∙ ap is_some (verb_stands (out-Statement x).verb i1 rest s)
@@ -50,6 +55,7 @@ module _ (p : Statement → Part) where
   module _ (nested : Parser Statement) where
     by_verb_sound : (o : Option VerbWord) (x : Verb Statement) (i rest : List Token) → r.by_verb nested o i ≡ Ok (x, rest) → g.verb_line p x i rest
     by_verb_sound None x i rest e = cc
+    by_verb_sound (Some v.Continue) x i rest e = continuing_sound p x i rest e
     by_verb_sound (Some v.Display) x i rest e = display_sound p x i rest e
     by_verb_sound (Some v.Stop) x i rest e = stop_run_sound p x i rest e
 
@@ -67,17 +73,18 @@ module _ (p : Statement → Part) where
 
 -- ---- what is spelled is read
 
-module _ (Deep : Type 0) (p : Statement → Part) (nested : Parser Statement) where
-  by_verb_complete : (x : Verb Statement) (i rest : List Token) → g.verb_line p x i rest → Answers Deep (r.by_verb nested (Some (word_of p x)) i) x rest
+module _ (Allowed : Halt → Type 0) (p : Statement → Part) (nested : Parser Statement) where
+  by_verb_complete : (x : Verb Statement) (i rest : List Token) → g.verb_line p x i rest → Answers Allowed (r.by_verb nested (Some (word_of p x)) i) x rest
   by_verb_complete (verb.Text (text.Display operands advancing)) i rest s = display_complete operands advancing i rest s
   by_verb_complete (verb.Ending ending.StopRun inside) i rest s = stop_run_complete i rest s
+  by_verb_complete (verb.Ending ending.Continue inside) i rest s = continuing_complete i rest s
 
-  verb_complete : Complete Deep (g.verb_line p) (r.verb nested)
+  verb_complete : Complete Allowed (g.verb_line p) (r.verb nested)
   unfolding r.verb
   verb_complete x i rest s =
-      subst (λ o. Answers Deep (r.by_verb nested o i) x rest) (sym (verb_stands p x i rest s)) (by_verb_complete x i rest s)
+      subst (λ o. Answers Allowed (r.by_verb nested o i) x rest) (sym (verb_stands p x i rest s)) (by_verb_complete x i rest s)
 
-  pub line_complete : Complete Deep (g.line p) (r.line nested)
+  pub line_complete : Complete Allowed (g.line p) (r.line nested)
   unfolding r.line
   line_complete x i rest (i1, at, s) =
       step (read.here i) _ (here_complete (out-Statement x).place i i1 at)

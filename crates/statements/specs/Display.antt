@@ -7,7 +7,7 @@ use Rattle.source_tree.specs.declared.statement.Verb.{Verb}
 use Rattle.source_tree.specs.declared.statement.Verb.TheVariants as verb
 use Rattle.source_tree.specs.declared.statement.Statement.{Statement}
 use Rattle.grammar.specs.Parts as g
-use Rattle.grammar.specs.Parts.{Part, ◌then◌, optional, absent, word, begins_literal}
+use Rattle.grammar.specs.Parts.{Part, ◌then◌, optional, left_out, tested, word, begins_literal}
 use Rattle.grammar.specs.Reading as r
 use Rattle.grammar.specs.Reading.{Parser, ◌>>=◌, ◌>>◌, pure, Words, after_word, past_word, also_after, expect}
 
@@ -17,10 +17,7 @@ no_advancing = optional (word w.With) then word w.No then word w.Advancing
 
 -- DISPLAY x... [[WITH] NO ADVANCING] (COBOL-85, Nucleus, "The DISPLAY statement")
 abbrev pub display : List Literal → Bool → Part
-display operands advancing = word w.Display then g.several g.literal begins_literal operands then absent no_advancing advancing
-
-unfoldable pub operands_reader : Parser (List Literal)
-operands_reader = r.several r.literal begins_literal
+display operands advancing = word w.Display then g.several g.literal (tested begins_literal) operands then left_out no_advancing advancing
 
 unfoldable pub after_no_advancing : Words
 after_no_advancing i = also_after w.Advancing (after_word w.No (past_word w.With i))
@@ -28,6 +25,6 @@ after_no_advancing i = also_after w.Advancing (after_word w.No (past_word w.With
 unfoldable pub display_reader : Parser (Verb Statement)
 display_reader = do
   expect w.Display
-  shown ← operands_reader
-  advancing ← r.absent after_no_advancing
+  shown ← r.several r.literal begins_literal
+  advancing ← r.left_out after_no_advancing
   pure (verb.Text (text.Display shown advancing))

@@ -1,4 +1,5 @@
 pub mod Verbs
+pub mod Continuing
 pub mod Display
 pub mod StopRun
 pub mod Spelling

@@ -8,6 +8,7 @@ use Rattle.grammar.specs.Reading.{Parser, ◌>>=◌, ◌>>◌, pure, refuse, her
 use Rattle.statements.specs.declared.verb.VerbWord.{VerbWord}
 use Rattle.statements.specs.declared.verb.VerbWord.TheVariants as v
 use Rattle.statements.specs.Verbs.{verb_at, begins_statement}
+use Rattle.statements.specs.Continuing.{continuing_reader}
 use Rattle.statements.specs.Display.{display_reader}
 use Rattle.statements.specs.StopRun.{stop_run_reader}
 
@@ -17,6 +18,7 @@ module _ (statement : Parser Statement) where
 
   abbrev pub by_verb : Option VerbWord → Parser (Verb Statement)
   by_verb None = refuse
+  by_verb (Some v.Continue) = continuing_reader
   by_verb (Some v.Display) = display_reader
   by_verb (Some v.Stop) = stop_run_reader
 

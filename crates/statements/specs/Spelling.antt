@@ -8,8 +8,9 @@ use Rattle.source_tree.specs.declared.statement.Verb.{Verb}
 use Rattle.source_tree.specs.declared.statement.Verb.TheVariants as verb
 use Rattle.source_tree.specs.declared.statement.Statement.{Statement, out-Statement}
 use Rattle.source_tree.specs.declared.program.Sentence.{Sentence}
-use Rattle.grammar.specs.Parts.{Part, ◌then◌, several, here, period}
+use Rattle.grammar.specs.Parts.{Part, ◌then◌, several, tested, here, period}
 use Rattle.statements.specs.Verbs.{begins_statement}
+use Rattle.statements.specs.Continuing.{continuing}
 use Rattle.statements.specs.Display.{display}
 use Rattle.statements.specs.StopRun.{stop_run}
 
@@ -22,6 +23,7 @@ text_line (text.Display operands advancing) = display operands advancing
 
 abbrev pub ending_line : Ending → Part
 ending_line ending.StopRun = stop_run
+ending_line ending.Continue = continuing
 
 module _ (statement : Statement → Part) where
   -- Each optional part is left out only where its words do not stand, and each list ends only where no more of it can
@@ -35,7 +37,7 @@ module _ (statement : Statement → Part) where
   line one = here (out-Statement one).place then verb_line (out-Statement one).verb
 
   abbrev pub statements : List Statement → Part
-  statements = several statement begins_statement
+  statements = several statement (tested begins_statement)
 
 -- A statement with at most this many statements in one another, itself among them.
 abbrev pub statement : ℕ → Statement → Part

@@ -2,6 +2,7 @@
 //! the tokens.
 #![tactic(auto)]
 
+mod continuing;
 mod display;
 mod nesting;
 mod sentences;

@@ -6,10 +6,11 @@ ghost use Rattle.grammar.specs.Reading.{Reads};
 ghost use Rattle.statements.specs.Reading as spec;
 ghost use Rattle.statements.specs.Nests.{Nests};
 
+use crate::continuing::continuing;
 use crate::display::display;
 use crate::stop_run::stop_run;
 use crate::verb::{VerbWord, begins_statement, verb_at};
-use grammar::{Halt, ReadFault, Tokens};
+use grammar::{Halt, Part, ReadFault, Tokens, several};
 use source_tree::{Statement, Verb};
 use sqlite_items::Items;
 use std::alloc::Global;
@@ -23,28 +24,35 @@ pub struct Nesting<F> {
     pub statement: F,
 }
 
-impl<F: Fn(Global, &mut Tokens<'_>, usize) -> Result<Statement, ReadFault>> Nesting<F> {
-    fn statement(&self, tokens: &mut Tokens<'_>) -> Result<Statement, ReadFault>
-        requires { Nests self.now.depth (F.pre self.now.statement) (F.post self.now.statement) }
-        ensures { Reads (spec.statement self.now.depth tokens.old) result tokens.new }
-    {
-        (self.statement)(self.alloc, tokens, self.depth)
+impl<F: Fn(Global, &mut Tokens<'_>, usize) -> Result<Statement, ReadFault>> Part<Statement>
+    for Nesting<F> {
+    ghost use Rattle.statements.specs.Reading as spec;
+    ghost use Rattle.statements.specs.Verbs.{begins_statement};
+    ghost use Rattle.statements.specs.Nests.{Nests};
+
+    ghost ready = { λ n. Nests n.depth (F.pre n.statement) (F.post n.statement) };
+
+    ghost reading = { λ n. spec.statement n.depth };
+
+    ghost beginning = { λ _. begins_statement };
+
+    fn read(&self, alloc: Global, tokens: &mut Tokens<'_>) -> Result<Statement, ReadFault> {
+        (self.statement)(alloc, tokens, self.depth)
     }
 
+    fn begins(&self, tokens: &Tokens<'_>) -> bool {
+        begins_statement(tokens)
+    }
+}
+
+impl<F: Fn(Global, &mut Tokens<'_>, usize) -> Result<Statement, ReadFault>> Nesting<F> {
     /// One or more statements, up to where no more can begin.
     #[tactic(auto, unfolding(crate::specs::Reading::statements))]
     pub fn statements(&self, tokens: &mut Tokens<'_>) -> Result<Items<Statement>, ReadFault>
         requires { Nests self.now.depth (F.pre self.now.statement) (F.post self.now.statement) }
         ensures { Reads (spec.statements (spec.statement self.now.depth) tokens.old) result tokens.new }
     {
-        let mut found = Items::new(self.alloc);
-        for _turn in 0..tokens.len() {
-            found.push(self.statement(tokens)?)?;
-            if !begins_statement(tokens) {
-                return Ok(found);
-            }
-        }
-        Err(tokens.refuse())
+        several(self, self.alloc, tokens)
     }
 
     /// What a statement does, by its verb.
@@ -54,6 +62,7 @@ impl<F: Fn(Global, &mut Tokens<'_>, usize) -> Result<Statement, ReadFault>> Nest
         ensures { Reads (spec.verb (spec.statement self.now.depth) tokens.old) result tokens.new }
     {
         match verb_at(tokens) {
+            Some(VerbWord::Continue) => continuing(tokens),
             Some(VerbWord::Display) => display(self.alloc, tokens),
             Some(VerbWord::Stop) => stop_run(tokens),
             None => Err(tokens.refuse()),

@@ -9,6 +9,7 @@ use tokens::{Kind, Reserved};
 /// A reserved word that is a verb.
 #[derive(Clone, Copy, Debug, PartialEq, Eq)]
 pub enum VerbWord {
+    Continue,
     Display,
     Stop,
 }
@@ -18,6 +19,7 @@ pub fn verb_of(word: Reserved) -> Option<VerbWord>
     ensures { result ≡ spec.verb_of word }
 {
     match word {
+        Reserved::Continue => Some(VerbWord::Continue),
         Reserved::Display => Some(VerbWord::Display),
         Reserved::Stop => Some(VerbWord::Stop),
         _ => None,

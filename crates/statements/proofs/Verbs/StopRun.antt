@@ -5,6 +5,7 @@ use Rattle.tokens.specs.declared.token.Token.{Token}
 use Rattle.source_tree.specs.declared.ending.Ending.TheVariants as ending
 use Rattle.source_tree.specs.declared.statement.Verb.TheVariants as verb
 use Rattle.source_tree.specs.declared.statement.Statement.{Statement}
+use Rattle.grammar.specs.declared.fault.Halt.{Halt}
 use Rattle.grammar.specs.Parts.{Part}
 use Rattle.grammar.specs.Reading as read
 use Rattle.grammar.proofs.Outcomes.{Answers, Reached, step, unstep, value, last}
@@ -24,7 +25,7 @@ stop_run_shrinks i rest (i1, verb, run) =
 pub stop_run_stands : (i rest : List Token) → stop_run i rest → verb_at i ≡ Some v.Stop
 stop_run_stands i rest s = stands w.Stop i s.0 s.1
 
-pub stop_run_complete : {Deep : Type 0} (i rest : List Token) → stop_run i rest → Answers Deep (stop_run_reader i) (verb.Ending ending.StopRun (record {})) rest
+pub stop_run_complete : {Allowed : Halt → Type 0} (i rest : List Token) → stop_run i rest → Answers Allowed (stop_run_reader i) (verb.Ending ending.StopRun (record {})) rest
 unfolding stop_run_reader
 stop_run_complete i rest (i1, verb, run) =
     step (read.expect w.Stop i) _ (word_complete w.Stop tt i i1 verb)

@@ -1,6 +1,6 @@
-use Rattle.std.proofs.Common.{Ok, Err, ap, ◌∙◌, subst}
+use Rattle.std.proofs.Common.{Ok, Err, [], ap, ◌∙◌, subst}
 use Rattle.grammar.specs.declared.fault.ReadFault.TheVariants.{Halted}
-use Rattle.grammar.specs.Reading.{Fails}
+use Rattle.grammar.specs.Reading.{Reads}
 use Rattle.statements.specs.Spelling.{max_nesting}
 use Rattle.divisions.specs.Reading.{program}
 use Rattle.divisions.proofs.Programs.{answer_spelled, answer_only}
@@ -14,5 +14,5 @@ returns-in-Ok-clause-only c = answer_only c.args.tokens.now (Ok c.in-Ok.tree) c.
 
 pub returns-in-Err-Halted-clause-only : goal.returns-in-Err-Halted-clause-only
 returns-in-Err-Halted-clause-only c = λ depth tree spelled.
-    let a = answer_only c.args.tokens.now (Err (Halted c.in-Err-Halted.halt)) (subst (Fails (program max_nesting c.args.tokens.now)) c.in-Err-Halted.field-0-is c.in-Err-Halted.ensures) depth tree spelled in
+    let a = answer_only c.args.tokens.now (Err (Halted c.in-Err-Halted.halt)) (subst (λ error. Reads (program max_nesting c.args.tokens.now) (Err error) []) c.in-Err-Halted.field-0-is c.in-Err-Halted.ensures) depth tree spelled in
     (ap (λ f. f.kind) c.refusal.ensures ∙ a.0, a.1)

@@ -1,0 +1,19 @@
+//! CONTINUE.
+
+ghost use Rattle.std.specs.Prelude.{◌≡◌};
+ghost use Rattle.grammar.specs.Reading.{Reads};
+ghost use Rattle.statements.specs.Continuing as spec;
+
+use grammar::{ReadFault, Tokens};
+use source_tree::{Ending, Statement, Verb};
+use std::marker::PhantomData;
+use tokens::Reserved;
+
+/// From the verb on.
+#[tactic(auto, unfolding(crate::specs::Continuing::continuing_reader))]
+pub fn continuing(tokens: &mut Tokens<'_>) -> Result<Verb<Statement>, ReadFault>
+    ensures { Reads (spec.continuing_reader tokens.old) result tokens.new }
+{
+    tokens.expect(Reserved::Continue)?;
+    Ok(Verb::Ending(Ending::Continue, PhantomData))
+}
