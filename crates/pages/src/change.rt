@@ -1,9 +1,10 @@
 //! The pages that were changed since the last commit.
-ghost use Rattle.std.specs.Prelude.{◌≡◌, ◌≢◌, ◌<◌, ◌≤◌, ℕ, List, ◌++◌, ◌∷◌, [], length, slice_set, Option, OnOk, OnErr, IfSome, IfNone, slice_index_or, None, false, true, ◌^◌};
+ghost use Rattle.std.specs.Prelude.{◌≡◌, ◌≢◌, ◌<◌, ◌≤◌, ℕ, List, ◌+◌, ◌++◌, ◌∷◌, is_some, if◌then◌else◌, [], length, slice_set, Option, OnOk, OnErr, IfSome, IfNone, slice_index_or, None, false, true, ◌^◌};
 ghost use Rattle.std.specs.List.{All, HoldsAt};
 ghost use Rattle.station.specs.Disk.{Sector};
 ghost use Rattle.pages.specs.Image.{NamesOnce};
 ghost use Rattle.pages.specs.Changes.{changed, touched, kept, Touches, ArePlaced};
+ghost use Rattle.pages.specs.Needed.{filled, Fills};
 
 use std::alloc::AllocError;
 use std::collections::HashMap;
@@ -60,6 +61,8 @@ pub(crate) fn set_change(
     ensures changed { NamesOnce (touched changes.old.items) → OnOk result ((pages : List (Option Sector)) → changed pages changes.new.items ≡ slice_set (changed pages changes.old.items) page bytes) }
     ensures once { NamesOnce (touched changes.old.items) → OnOk result (NamesOnce (touched changes.new.items)) }
     ensures touches { OnOk result (Touches (touched changes.old.items) page (touched changes.new.items)) }
+    ensures filled { NamesOnce (touched changes.old.items) → filled changes.new.items ≤ filled changes.old.items + (if is_some bytes then 1 else 0) }
+    ensures fills { NamesOnce (touched changes.old.items) → OnOk result (IfSome bytes (λ _. Fills changes.old.items page changes.new.items)) }
     ensures bounds { (n : ℕ) → page < n → All (λ c. (0 < c.page) × (c.page < n)) changes.old.items → OnOk result (All (λ c. (0 < c.page) × (c.page < n)) changes.new.items) }
     ensures err { OnErr result (changes.new.items ≡ changes.old.items) }
 {
@@ -74,7 +77,12 @@ pub(crate) fn set_change(
 }
 
 /// Whether a page is in the map of this table and these changes.
-fn has_page(table: &[u32], changes: &[Change], places: &HashMap<u32, usize>, page: u32) -> bool
+pub(crate) fn is_kept(
+    table: &[u32],
+    changes: &[Change],
+    places: &HashMap<u32, usize>,
+    page: u32,
+) -> bool
     requires some { 0 < page }
     requires page { page < length table.now }
     requires once { NamesOnce (touched changes.now) }
@@ -105,7 +113,7 @@ fn unused_between(
 {
     for page in start..end {
         let number = page as u32;
-        if !has_page(table, changes, places, number) {
+        if !is_kept(table, changes, places, number) {
             return Some(number);
         }
     }

@@ -24,5 +24,5 @@ mod volume;
 
 pub use empty::format;
 pub use error::PagesError;
-pub use laws::{few_free, few_needed, map_is_own, one_map};
+pub use laws::{few_free, few_needed, map_bounds, map_is_own, needed_by, one_map};
 pub use page_map::PageMap;

@@ -1,5 +1,5 @@
 //! The pages of a volume, as their user sees them: a finite map from page numbers to pages, beside the page of the catalog's root.
-ghost use Rattle.std.specs.Prelude.{◌≡◌, ◌⊎◌, ◌<◌, ◌≤◌, ◌↔◌, Err, Some, None, true, false, replicate, List, [], length, slice_set, map, IsOk, IfOk, IfErr, OnOk, OnErr};
+ghost use Rattle.std.specs.Prelude.{◌≡◌, ◌⊎◌, ◌+◌, ◌^◌, is_some, IfSome, if◌then◌else◌, ◌<◌, ◌≤◌, ◌↔◌, Err, Some, None, true, false, replicate, List, [], length, slice_set, map, IsOk, IfOk, IfErr, OnOk, OnErr};
 ghost use Rattle.station.specs.Disk.{Sector};
 ghost use Rattle.station.specs.State.{synced, SameConsole};
 ghost use Rattle.station.specs.History.{Through};
@@ -15,7 +15,7 @@ ghost use Rattle.pages.specs.Use.{free_count};
 
 use crate::cache::{forget_page, new_cache, recall_page};
 use crate::cached_page::CachedPage;
-use crate::change::{Change, find_change, set_change, unused_page};
+use crate::change::{Change, find_change, is_kept, set_change, unused_page};
 use crate::commit::commit_volume;
 use crate::error::PagesError;
 use crate::open::open_volume;
@@ -42,7 +42,7 @@ pub struct PageMap {
 }
 
 impl PageMap {
-    ghost use Rattle.pages.specs.Pages.{committed_of, map_now, page_of, touched_of, catalog_of, is_spent, sectors_of, page_count, IsPage, HasEachPage, IsFull, Agrees, IsOpen, advanced, SamePages, SameCommitted, cache_of};
+    ghost use Rattle.pages.specs.Pages.{committed_of, map_now, page_of, touched_of, filled_of, FillsPage, HasChanges, catalog_of, is_spent, sectors_of, page_count, IsPage, HasEachPage, IsFull, Agrees, IsOpen, advanced, SamePages, SameCommitted, cache_of};
     ghost use Rattle.std.specs.Map.{lookup};
     ghost use Rattle.std.specs.Prelude.{Ok, nat_eq, Contains, IsSome};
     ghost use Rattle.pages.specs.Cache.{Recalls, forgotten};
@@ -69,6 +69,7 @@ impl PageMap {
         ensures agrees { D.is_honest device.old → IfOk result (λ pages. Agrees pages (D.state device.new).disk) }
         ensures map { IfOk result (λ pages. (image : List Sector) → map_now pages image ≡ map_of image (committed_of pages)) }
         ensures ready { IfOk result (λ pages. IsOpen pages × (is_spent pages ≡ false) × (sectors_of pages ≤ D.sectors device.old) × (touched_of pages ≡ [])) }
+        ensures filled { IfOk result (λ pages. filled_of pages ≡ 0) }
         ensures cache { IfOk result (λ pages. (cache_of pages).cap ≡ capacity) }
 
         // Where neither the device nor memory fails, it opens exactly what holds a map, and answers `ForeignMark` exactly where the
@@ -106,6 +107,7 @@ impl PageMap {
         ensures catalog { catalog_of self.new ≡ page }
         ensures pages { (image : List Sector) → (map_now self.new image).pages ≡ (map_now self.old image).pages }
         ensures touched { touched_of self.new ≡ touched_of self.old }
+        ensures filled { filled_of self.new ≡ filled_of self.old }
         ensures committed { SameCommitted self.old self.new }
         ensures agrees { (disk : Disk) → Agrees self.old disk → Agrees self.new disk }
         ensures cache { cache_of self.new ≡ cache_of self.old }
@@ -119,6 +121,36 @@ impl PageMap {
         ensures { result ≡ length (touched_of self.now) }
     {
         self.changes.len()
+    }
+
+    /// The generation of the last commit. Each commit that writes raises it by one.
+    pub fn generation(&self) -> u64
+        ensures is { (image : List Sector) → (map_now self.now image).generation ≡ result }
+        ensures few { IsOpen self.now → is_spent self.now ≡ false → result < 2 ^ 63 }
+    {
+        self.volume.generation
+    }
+
+    /// Whether a commit was refused before, so that each call that may be refused answers `Spent`.
+    pub fn is_spent(&self) -> bool
+        ensures { result ≡ is_spent self.now }
+    {
+        self.spent
+    }
+
+    /// Whether a page is in the map, whatever its number.
+    pub fn has_page(&self, page: u32) -> bool
+        requires open { IsOpen self.now }
+        requires unspent { is_spent self.now ≡ false }
+        ensures { (image : List Sector) → result ≡ is_some (page_of (map_now self.now image) page) }
+    {
+        if page == 0 {
+            return false;
+        }
+        if page as usize >= self.volume.table.len() {
+            return false;
+        }
+        is_kept(&self.volume.table, &self.changes, &self.places, page)
     }
 
     /// How many page numbers the volume has, 0 among them.
@@ -171,6 +203,7 @@ impl PageMap {
         // The map stays, and what is known of it. A refusal changes nothing.
         ensures map { (image : List Sector) → map_now self.new image ≡ map_now self.old image }
         ensures touched { touched_of self.new ≡ touched_of self.old }
+        ensures filled { filled_of self.new ≡ filled_of self.old }
         ensures committed { SameCommitted self.old self.new }
         ensures agrees { D.is_honest device.old → Agrees self.old (D.state device.old).disk → Agrees self.new (D.state device.new).disk }
         ensures open { IsOpen self.new }
@@ -210,6 +243,9 @@ impl PageMap {
         ensures catalog { catalog_of self.new ≡ catalog_of self.old }
         ensures touches { OnOk result (Touches (touched_of self.old) page (touched_of self.new)) }
         ensures untouched { OnErr result (touched_of self.new ≡ touched_of self.old) }
+        ensures filled { filled_of self.new ≤ filled_of self.old + 1 }
+        ensures fills { OnOk result (FillsPage self.old page self.new) }
+        ensures unfilled { OnErr result (filled_of self.new ≡ filled_of self.old) }
         ensures err { OnErr result ((image : List Sector) → map_now self.new image ≡ map_now self.old image) }
         ensures committed { SameCommitted self.old self.new }
         ensures agrees { (disk : Disk) → Agrees self.old disk → Agrees self.new disk }
@@ -232,6 +268,9 @@ impl PageMap {
         ensures catalog { catalog_of self.new ≡ catalog_of self.old }
         ensures touches { IfOk result (λ page. Touches (touched_of self.old) page (touched_of self.new)) }
         ensures untouched { OnErr result (touched_of self.new ≡ touched_of self.old) }
+        ensures filled { filled_of self.new ≤ filled_of self.old + 1 }
+        ensures fills { IfOk result (λ page. FillsPage self.old page self.new) }
+        ensures unfilled { OnErr result (filled_of self.new ≡ filled_of self.old) }
         ensures err { OnErr result ((image : List Sector) → map_now self.new image ≡ map_now self.old image) }
         ensures committed { SameCommitted self.old self.new }
         ensures agrees { (disk : Disk) → Agrees self.old disk → Agrees self.new disk }
@@ -269,6 +308,8 @@ impl PageMap {
         ensures catalog { catalog_of self.new ≡ catalog_of self.old }
         ensures touches { OnOk result (Touches (touched_of self.old) page (touched_of self.new)) }
         ensures untouched { OnErr result (touched_of self.new ≡ touched_of self.old) }
+        ensures filled { filled_of self.new ≤ filled_of self.old }
+        ensures unfilled { OnErr result (filled_of self.new ≡ filled_of self.old) }
         ensures err { OnErr result ((image : List Sector) → map_now self.new image ≡ map_now self.old image) }
         ensures committed { SameCommitted self.old self.new }
         ensures agrees { (disk : Disk) → Agrees self.old disk → Agrees self.new disk }
@@ -294,6 +335,9 @@ impl PageMap {
         ensures catalog { catalog_of self.new ≡ catalog_of self.old }
         ensures touches { OnOk result (Touches (touched_of self.old) page (touched_of self.new)) }
         ensures untouched { OnErr result (touched_of self.new ≡ touched_of self.old) }
+        ensures filled { filled_of self.new ≤ filled_of self.old + (if is_some bytes then 1 else 0) }
+        ensures fills { OnOk result (IfSome bytes (λ _. FillsPage self.old page self.new)) }
+        ensures unfilled { OnErr result (filled_of self.new ≡ filled_of self.old) }
         ensures err { OnErr result ((image : List Sector) → map_now self.new image ≡ map_now self.old image) }
         ensures committed { SameCommitted self.old self.new }
         ensures agrees { (disk : Disk) → Agrees self.old disk → Agrees self.new disk }
@@ -330,7 +374,13 @@ impl PageMap {
         // After `Ok` the disk holds this one.
         ensures agrees { D.is_honest device.old → Agrees self.old (D.state device.old).disk → OnOk result (Agrees self.new (D.state device.new).disk) }
         ensures map { D.is_honest device.old → Agrees self.old (D.state device.old).disk → OnOk result (SamePages (map_now self.old (D.state device.old).disk.present) (map_now self.new (D.state device.new).disk.present)) }
+        ensures committed { OnOk result ((image : List Sector) → map_now self.new image ≡ map_of image (committed_of self.new)) }
         ensures touched { OnOk result (touched_of self.new ≡ []) }
+        ensures filled { OnOk result (filled_of self.new ≡ 0) }
+
+        // Where something was changed, it is the map of the next generation, and else nothing is other than before.
+        ensures advances { D.is_honest device.old → Agrees self.old (D.state device.old).disk → HasChanges self.old → OnOk result (map_now self.new (D.state device.new).disk.present ≡ advanced (map_now self.old (D.state device.old).disk.present)) }
+        ensures rests { (HasChanges self.old → ⊥) → is_spent self.old ≡ false → self.new ≡ self.old }
 
         // With nothing changed nothing is done.
         ensures nothing { touched_of self.old ≡ [] → catalog_of self.old ≡ (committed_of self.old).root.catalog → D.is_honest device.old → (D.state device.new ≡ D.state device.old) × (D.history device.new ≡ D.history device.old) }
@@ -341,7 +391,7 @@ impl PageMap {
         ensures told { is_spent self.old ≡ false → IsFull self.old → (result ≡ Err PagesError.Full) ⊎ (result ≡ Err PagesError.Memory) }
         ensures untouched { result ≡ Err PagesError.Full → D.is_honest device.old → (D.state device.new ≡ D.state device.old) × (D.history device.new ≡ D.history device.old) }
         ensures open { IsOpen self.new }
-        ensures same_sectors { OnOk result (sectors_of self.new ≡ sectors_of self.old) }
+        ensures same_sectors { sectors_of self.new ≡ sectors_of self.old }
         ensures cache { cache_of self.new ≡ cache_of self.old }
         ensures refused { OnErr result (is_spent self.new ≡ true) }
         ensures cause { IsCommitRefusal result }

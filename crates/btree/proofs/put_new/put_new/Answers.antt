@@ -28,3 +28,6 @@ pub returns-in_err-page-clause-full : goal.returns-in_err-page-clause-full
 returns-in_err-page-clause-full c = λ is.
     let told = rw is at c.from_residual.ensures.1 in
     each_used c.args.pages.now c.allocate.new.self c.allocate.result (cc told) c.allocate.ensures.full c.allocate.ensures.same c.allocate.ensures.spent
+
+pub returns-clause-filled : goal.returns-clause-filled
+returns-clause-filled c = omega (arith, c.allocate.ensures.filled, c.in_ok-edit.ensures.fills.again c.in_ok-page.ensures.fills.here)

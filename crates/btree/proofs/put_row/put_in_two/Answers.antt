@@ -44,3 +44,6 @@ pub returns-in_err-new-clause-full : goal.returns-in_err-new-clause-full
 returns-in_err-new-clause-full c = λ is.
     let told = rw is at c.from_residual.ensures.1 in
     each_used c.args.pages.now c.allocate.new.self c.allocate.result (cc told) c.allocate.ensures.full c.allocate.ensures.same c.allocate.ensures.spent
+
+pub returns-clause-filled : goal.returns-clause-filled
+returns-clause-filled c = omega (arith, c.allocate.ensures.filled, c.edit.ensures.filled, c.in_ok-edit-2.ensures.fills.again (c.in_ok-edit.ensures.fills.others c.in_ok-new.new c.in_ok-new.ensures.fills.here))
