@@ -1,19 +1,45 @@
 //! The pages that were changed since the last commit.
-ghost use Rattle.std.specs.Prelude.{◌≡◌, ◌≢◌, ◌<◌, ◌≤◌, ℕ, List, ◌+◌, ◌++◌, ◌∷◌, is_some, if◌then◌else◌, [], length, slice_set, Option, OnOk, OnErr, IfSome, IfNone, slice_index_or, None, false, true, ◌^◌};
+ghost use Rattle.std.specs.Prelude.{◌≡◌, ◌≢◌, ◌<◌, ◌≤◌, ℕ, List, ◌+◌, ◌++◌, ◌∷◌, is_some, if◌then◌else◌, [], length, slice_set, Option, IfOk, OnOk, OnErr, IfSome, IfNone, slice_index_or, None, false, true, ◌^◌};
 ghost use Rattle.std.specs.List.{All, HoldsAt};
 ghost use Rattle.station.specs.Disk.{Sector};
 ghost use Rattle.pages.specs.Image.{NamesOnce};
 ghost use Rattle.pages.specs.Changes.{changed, touched, kept, Touches, ArePlaced};
 ghost use Rattle.pages.specs.Needed.{filled, Fills};
 
-use std::alloc::AllocError;
+use crate::page_bytes::PageBytes;
+use std::alloc::{AllocError, Global};
 use std::collections::HashMap;
 
 /// A page's new bytes, or none where it was released.
 #[derive(Drop)]
 pub(crate) struct Change {
     pub page: u32,
-    pub bytes: Option<[u8; 4096]>,
+    pub bytes: Option<PageBytes>,
+}
+
+impl Change {
+    /// The page's new bytes, or none.
+    pub(crate) fn bytes(&self) -> Option<[u8; 4096]>
+        ensures { result ≡ self.now.bytes }
+    {
+        match &self.bytes {
+            Some(kept) => Some(kept.bytes()),
+            None => None,
+        }
+    }
+}
+
+/// The bytes of a page, on the heap.
+pub(crate) fn keep_bytes(
+    alloc: Global,
+    bytes: Option<[u8; 4096]>,
+) -> Result<Option<PageBytes>, AllocError>
+    ensures { IfOk result (λ kept. kept ≡ bytes) }
+{
+    match bytes {
+        Some(bytes) => Ok(Some(PageBytes::new(alloc, bytes)?)),
+        None => Ok(None),
+    }
 }
 
 /// The place of a page's change.
@@ -53,7 +79,7 @@ pub(crate) fn set_change(
     changes: &mut Vec<Change>,
     places: &mut HashMap<u32, usize>,
     page: u32,
-    bytes: Option<[u8; 4096]>,
+    bytes: Option<PageBytes>,
 ) -> Result<(), AllocError>
     requires some { 0 < page }
     requires placed { ArePlaced changes.old.items places.old }

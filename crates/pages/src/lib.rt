@@ -4,7 +4,6 @@
 #![tactic(auto)]
 
 mod cache;
-mod cached_page;
 mod change;
 mod commit;
 mod draft;
@@ -14,6 +13,7 @@ mod laws;
 mod marks;
 mod numbers;
 mod open;
+mod page_bytes;
 mod page_map;
 mod payload;
 mod plan;

@@ -14,11 +14,11 @@ ghost use Rattle.pages.specs.Errors.{IsEditRefusal, IsAllocateRefusal, IsCommitR
 ghost use Rattle.pages.specs.Use.{free_count};
 
 use crate::cache::{forget_page, new_cache, recall_page};
-use crate::cached_page::CachedPage;
-use crate::change::{Change, find_change, is_kept, set_change, unused_page};
+use crate::change::{Change, find_change, is_kept, keep_bytes, set_change, unused_page};
 use crate::commit::commit_volume;
 use crate::error::PagesError;
 use crate::open::open_volume;
+use crate::page_bytes::PageBytes;
 use crate::volume::VolumeMap;
 use lru::LruCache;
 use station::Device;
@@ -32,7 +32,7 @@ pub struct PageMap {
     volume: VolumeMap,
     changes: Vec<Change>,
     /// Pages as committed. A page that was changed since isn't there.
-    cache: LruCache<u32, CachedPage>,
+    cache: LruCache<u32, PageBytes>,
     /// The place of each page's change.
     places: HashMap<u32, usize>,
     /// Where the search for an unused page number begins.
@@ -224,7 +224,7 @@ impl PageMap {
             return Err(PagesError::Spent);
         }
         match find_change(&self.changes, &self.places, page) {
-            Some(i) => Ok(self.changes[i].bytes),
+            Some(i) => Ok(self.changes[i].bytes()),
             None => recall_page(
                 self.alloc,
                 &mut self.cache,
@@ -351,7 +351,8 @@ impl PageMap {
         if self.spent {
             return Err(PagesError::Spent);
         }
-        set_change(&mut self.changes, &mut self.places, page, bytes)?;
+        let kept = keep_bytes(self.alloc, bytes)?;
+        set_change(&mut self.changes, &mut self.places, page, kept)?;
         forget_page(&mut self.cache, page);
         Ok(())
     }
@@ -411,8 +412,9 @@ impl PageMap {
             &self.changes,
             self.catalog,
         )?;
-        self.changes.clear();
-        self.places.clear();
+        // What a large commit took of memory is given back.
+        self.changes = Vec::new(self.alloc);
+        self.places = HashMap::new(self.alloc);
         self.spent = false;
         Ok(())
     }

@@ -36,7 +36,7 @@ pub(crate) fn stage_change(
     let page = change.page as usize;
     match &change.bytes {
         Some(bytes) => {
-            let sector = place_block(&volume.used, draft, bytes)?;
+            let sector = place_block(&volume.used, draft, bytes.view())?;
             set_page(volume, draft, page, sector)
         }
         None => release_page(volume, draft, page),
