@@ -15,7 +15,7 @@ returns-clause-pages c = λ image lengths enough.
     write_new node.form node.kind old (pages_of_map c.edit.new.self image) c.in_ok-page.page (replicate 4096 0) c.bytes-spelled.result node.rows
     (c.in_ok-edit.ensures.map image ∙ ap (λ (l : List (Option Sector)). set l c.in_ok-page.page (Some c.bytes-spelled.result)) (c.in_ok-page.ensures.map image))
     (omega (arith, c.in_ok-page.ensures.page.1, c.page_count-page_count.ensures.pages image)) c.in_ok-page.ensures.page.0 (c.in_ok-page.ensures.unused image)
-    (spells_node node node c.bytes-spelled.result (record { form = refl; kind = refl }) c.bytes-spelled.ensures lengths enough)
+    (spells_node node node c.bytes-spelled.result (record { form = refl; kind = refl }) c.bytes-spelled.ensures.reads lengths enough)
 
 pub returns-clause-touched : goal.returns-clause-touched
 returns-clause-touched c =

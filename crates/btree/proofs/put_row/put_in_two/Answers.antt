@@ -28,8 +28,8 @@ returns-clause-pages c = λ image can.
       there = can.is_in;
       none = c.in_ok-new.ensures.unused image;
     })
-    (spells_left old c.args.page node c.divide-right.new.node c.divide-right.result c.args.place c.args.key.now c.args.rest.now c.bytes-lower.result can c.divide-right.ensures.rows c.requires.key c.requires.rest c.divide-right.ensures.left c.divide-right.ensures.left_enough c.bytes-lower.ensures)
-    (spells_right old c.args.page node c.divide-right.new.node c.divide-right.result c.args.place c.args.key.now c.args.rest.now c.bytes-upper.result can c.divide-right.ensures.rows c.requires.key c.requires.rest c.divide-right.ensures.right c.divide-right.ensures.right_enough c.bytes-upper.ensures)
+    (spells_left old c.args.page node c.divide-right.new.node c.divide-right.result c.args.place c.args.key.now c.args.rest.now c.bytes-lower.result can c.divide-right.ensures.rows c.requires.key c.requires.rest c.divide-right.ensures.left c.divide-right.ensures.left_enough c.bytes-lower.ensures.reads)
+    (spells_right old c.args.page node c.divide-right.new.node c.divide-right.result c.args.place c.args.key.now c.args.rest.now c.bytes-upper.result can c.divide-right.ensures.rows c.requires.key c.requires.rest c.divide-right.ensures.right c.divide-right.ensures.right_enough c.bytes-upper.ensures.reads)
 
 pub returns-clause-touched : goal.returns-clause-touched
 returns-clause-touched c =
