@@ -1,5 +1,5 @@
 -- How many sectors a commit needs.
-use Rattle.std.specs.Prelude.{◌≡◌, ◌⊎◌, ◌<◌, ◌≤◌, ◌+◌, ◌*◌, ◌/◌, ◌^◌, ◌==◌, ◌&&◌, ◌||◌, not, if◌then◌else◌, Bool, ℕ, zero, suc, List, take, drop, length, slice_index, is_some, count_by, Some, Contains}
+use Rattle.std.specs.Prelude.{◌⊎◌, ◌<◌, ◌≤◌, ◌+◌, ◌*◌, ◌/◌, ◌^◌, ◌==◌, ◌&&◌, ◌||◌, not, if◌then◌else◌, Bool, ℕ, zero, suc, List, take, drop, length, slice_index, is_some, count_by, Some, Contains}
 use Rattle.station.specs.Disk.{Sector}
 use Rattle.std.specs.List.{list_any}
 use Rattle.pages.specs.Image.{Volume}

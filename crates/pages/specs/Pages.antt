@@ -3,7 +3,7 @@ use Rattle.std.specs.Prelude.{◌≡◌, ◌≢◌, ◌⊎◌, ◌<◌, ◌≤�
 use Rattle.std.specs.List.{All}
 use Rattle.station.specs.Disk.{Disk, Sector}
 use Rattle.pages.specs.Layout.{map_count}
-use Rattle.pages.specs.Image.{Volume, Map, Holds, NamesOnce, pages_in, map_of, IsCommitted}
+use Rattle.pages.specs.Image.{Volume, Map, Holds, NamesOnce, pages_in, IsCommitted}
 use Rattle.pages.specs.Changes.{changed, touched, ArePlaced}
 use Rattle.pages.specs.Use.{free_count}
 use Rattle.pages.specs.Needed.{needed, filled, Fills}

@@ -7,6 +7,7 @@ ghost use Rattle.pages.specs.Changes.{changed, touched, kept, Touches, ArePlaced
 ghost use Rattle.pages.specs.Needed.{filled, Fills};
 
 use crate::page_bytes::PageBytes;
+use crate::volume::MAP_ENTRIES;
 use std::alloc::{AllocError, Global};
 use std::collections::HashMap;
 
@@ -146,12 +147,61 @@ fn unused_between(
     None
 }
 
-/// A page number that isn't used: the first from `from` on, or else the first.
+/// A page number of a run that isn't used, from `from` on, unless the run is noted as one without any.
+fn unused_in_run(
+    table: &[u32],
+    changes: &[Change],
+    places: &HashMap<u32, usize>,
+    from: usize,
+    passed: &[bool],
+    run: usize,
+) -> Option<u32>
+    requires few { length table.now < 2 ^ 32 }
+    requires once { NamesOnce (touched changes.now) }
+    requires placed { ArePlaced changes.now places.now }
+    requires run { run < length passed.now }
+    ensures { IfSome result (λ page. (0 < page) × (page < length table.now) × (slice_index_or (kept table.now changes.now) page false ≡ false)) }
+{
+    if passed[run] {
+        return None;
+    }
+    let first = run.saturating_mul(MAP_ENTRIES);
+    let start = from.max(first).max(1);
+    let end = table.len().min(first.saturating_add(MAP_ENTRIES));
+    match unused_between(table, changes, places, start, end) {
+        Some(page) => Some(page),
+        None => None,
+    }
+}
+
+/// A page number that isn't used, from `from` on, in a run that isn't noted as one without any.
+fn unused_from(
+    table: &[u32],
+    changes: &[Change],
+    places: &HashMap<u32, usize>,
+    from: usize,
+    passed: &[bool],
+) -> Option<u32>
+    requires few { length table.now < 2 ^ 32 }
+    requires once { NamesOnce (touched changes.now) }
+    requires placed { ArePlaced changes.now places.now }
+    ensures { IfSome result (λ page. (0 < page) × (page < length table.now) × (slice_index_or (kept table.now changes.now) page false ≡ false)) }
+{
+    for run in from / MAP_ENTRIES..passed.len() {
+        if let Some(page) = unused_in_run(table, changes, places, from, passed, run) {
+            return Some(page);
+        }
+    }
+    None
+}
+
+/// A page number that isn't used: the first from `from` on that the notes don't pass over, or else the first.
 pub(crate) fn unused_page(
     table: &[u32],
     changes: &[Change],
     places: &HashMap<u32, usize>,
     from: usize,
+    passed: &[bool],
 ) -> Option<u32>
     requires few { length table.now < 2 ^ 32 }
     requires once { NamesOnce (touched changes.now) }
@@ -159,10 +209,32 @@ pub(crate) fn unused_page(
     ensures found { IfSome result (λ page. (0 < page) × (page < length table.now) × (slice_index_or (kept table.now changes.now) page false ≡ false)) }
     ensures full { IfNone result ((n : ℕ) → 0 < n → n < length table.now → slice_index_or (kept table.now changes.now) n false ≡ true) }
 {
-    let end = table.len();
-    let start = if from == 0 { 1 } else { from };
-    match unused_between(table, changes, places, start, end) {
+    if let Some(page) = unused_from(table, changes, places, from, passed) {
+        return Some(page);
+    }
+    match unused_between(table, changes, places, 1, table.len()) {
         Some(page) => Some(page),
-        None => unused_between(table, changes, places, 1, start.min(end)),
+        None => None,
+    }
+}
+
+/// Notes the runs from a page number on, up to that of another, as runs without unused ones.
+pub(crate) fn pass_runs(passed: &mut Vec<bool>, from: u32, page: u32)
+    ensures { length passed.new.items ≡ length passed.old.items }
+{
+    let start = from as usize / MAP_ENTRIES;
+    let end = passed.len().min(page as usize / MAP_ENTRIES);
+    for run in start..end {
+        passed[run] = true;
+    }
+}
+
+/// The run of a page that is released has an unused number.
+pub(crate) fn forget_run(passed: &mut Vec<bool>, page: u32)
+    ensures { length passed.new.items ≡ length passed.old.items }
+{
+    let run = page as usize / MAP_ENTRIES;
+    if run < passed.len() {
+        passed[run] = false;
     }
 }

@@ -14,7 +14,9 @@ ghost use Rattle.pages.specs.Errors.{IsEditRefusal, IsAllocateRefusal, IsCommitR
 ghost use Rattle.pages.specs.Use.{free_count};
 
 use crate::cache::{forget_page, new_cache, recall_page};
-use crate::change::{Change, find_change, is_kept, keep_bytes, set_change, unused_page};
+use crate::change::{
+    Change, find_change, forget_run, is_kept, keep_bytes, pass_runs, set_change, unused_page,
+};
 use crate::commit::commit_volume;
 use crate::error::PagesError;
 use crate::open::open_volume;
@@ -37,6 +39,9 @@ pub struct PageMap {
     places: HashMap<u32, usize>,
     /// Where the search for an unused page number begins.
     next_page: u32,
+    /// The runs of page numbers, one a map sector, that had no unused one when they were looked through. They are looked through
+    /// again where no other has one.
+    passed: Vec<bool>,
     catalog: u32,
     spent: bool,
 }
@@ -83,6 +88,7 @@ impl PageMap {
         let volume = open_volume(alloc, device)?;
         let catalog = volume.catalog;
         let cache = new_cache(alloc, capacity)?;
+        let passed = vec![in alloc; false; volume.maps.len()]?;
         Ok(PageMap {
             alloc,
             volume,
@@ -90,6 +96,7 @@ impl PageMap {
             cache,
             places: HashMap::new(alloc),
             next_page: 1,
+            passed,
             catalog,
             spent: false,
         })
@@ -291,11 +298,13 @@ impl PageMap {
             &self.changes,
             &self.places,
             self.next_page as usize,
+            &self.passed,
         ) {
             Some(page) => page,
             None => return Err(PagesError::Full),
         };
         self.change(page, Some([0; 4096]))?;
+        pass_runs(&mut self.passed, self.next_page, page);
         self.next_page = page + 1;
         Ok(page)
     }
@@ -321,6 +330,7 @@ impl PageMap {
         ensures spent { (result ≡ Err PagesError.Spent) ↔ (is_spent self.old ≡ true) }
     {
         self.change(page, None)?;
+        forget_run(&mut self.passed, page);
         if page < self.next_page {
             self.next_page = page;
         }

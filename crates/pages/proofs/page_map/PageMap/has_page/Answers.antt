@@ -1,5 +1,5 @@
-use Rattle.std.proofs.Common.{◌≡◌, ◌<◌, ◌==◌, ℕ, List, not, length, map, get_or, sym, ◌∙◌, ap, subst, arith}
-use Rattle.std.specs.Prelude.{None, is_some, false, slice_index_or}
+use Rattle.std.proofs.Common.{◌≡◌, ◌==◌, ℕ, List, not, map, get_or, sym, ◌∙◌, ap, arith}
+use Rattle.std.specs.Prelude.{None, is_some, false}
 use Rattle.std.specs.Prelude.{Option}
 use Rattle.std.proofs.lemmas.List.{length-map, get_or_past}
 use Rattle.station.specs.Disk.{Sector}
