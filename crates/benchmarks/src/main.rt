@@ -19,12 +19,13 @@ fn main(rt: HostRuntime) -> io::Result<()> {
             "memory" => sources::measure_memory(&rt)?,
             "decimals" => decimals::measure(&rt)?,
             "volumes" => volumes::measure(&rt)?,
+            "releases" => volumes::measure_releases(&rt)?,
             "trees" => trees::measure(&rt)?,
             other => println!(rt; "there is no measurement {other}")?,
         }
     }
     if !named {
-        println!(rt; "measurements: sources, memory, decimals, volumes, trees")?;
+        println!(rt; "measurements: sources, memory, decimals, volumes, releases, trees")?;
     }
     Ok(())
 }

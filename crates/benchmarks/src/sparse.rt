@@ -1,4 +1,4 @@
-//! A device in memory that holds the sectors that were written; the others are zeros.
+//! A device in memory that holds the sectors that were written with other bytes than zeros; the others are zeros.
 
 ghost use Rattle.std.specs.Prelude.{◌≡◌, [], IsErr};
 ghost use Rattle.station.specs.Failures.{CountsFailure};
@@ -95,6 +95,9 @@ impl Device for SparseDevice {
             if place < self.written.len() {
                 self.written[place] = *bytes;
             }
+            return Ok(());
+        }
+        if bytes.iter().all(|byte| *byte == 0) {
             return Ok(());
         }
         match self.add(sector, bytes) {

@@ -16,8 +16,14 @@ const CALLS: u32 = 1_000_000;
 
 const READS: u32 = 100_000;
 
-/// Pages that a large volume is filled with, and how many a commit.
-const FILLED: u32 = 100_000;
+const REUSED: u32 = 100;
+
+/// Pages that large volumes are filled with, and how many a commit.
+const SOME_PAGES: u32 = 1_000;
+
+const MANY_PAGES: u32 = 100_000;
+
+const MOST_PAGES: u32 = 900_000;
 
 const FILLED_AT_ONCE: u32 = 1_000;
 
@@ -72,16 +78,49 @@ fn commit_pages(
 }
 
 /// The first page numbers come into use, some at a commit.
-fn fill_pages(map: &mut PageMap, device: &mut SparseDevice) -> Result<(), PagesError>
+fn fill_pages(map: &mut PageMap, device: &mut SparseDevice, count: u32) -> Result<(), PagesError>
     requires open { IsOpen map.old }
     requires sectors { sectors_of map.old ≤ device.old.sectors }
     ensures open { IsOpen map.new }
     ensures sectors { OnOk result (sectors_of map.new ≤ device.new.sectors) }
 {
-    for n in 0..FILLED {
+    for n in 0..count {
         map.allocate()?;
         if n % FILLED_AT_ONCE == FILLED_AT_ONCE - 1 {
             map.commit(device)?;
+        }
+    }
+    Ok(())
+}
+
+/// The first page numbers leave the map, in one commit.
+fn release_pages(map: &mut PageMap, device: &mut SparseDevice, count: u32) -> Result<(), PagesError>
+    requires open { IsOpen map.old }
+    requires sectors { sectors_of map.old ≤ device.old.sectors }
+    ensures open { IsOpen map.new }
+    ensures sectors { OnOk result (sectors_of map.new ≤ device.new.sectors) }
+{
+    for n in 0..count {
+        let page = n.saturating_add(1);
+        if (page as usize) < map.page_count() {
+            map.release(page)?;
+        }
+    }
+    map.commit(device)
+}
+
+/// A page of the front is released, and two page numbers are taken, time after time.
+fn reuse_pages(map: &mut PageMap, count: u32) -> Result<(), PagesError>
+    requires { IsOpen map.old }
+    ensures open { IsOpen map.new }
+    ensures sectors { sectors_of map.new ≡ sectors_of map.old }
+{
+    for n in 0..count {
+        let page = n.saturating_add(1);
+        if (page as usize) < map.page_count() {
+            map.release(page)?;
+            map.allocate()?;
+            map.allocate()?;
         }
     }
     Ok(())
@@ -118,25 +157,28 @@ struct Case {
     sectors: u32,
     count: u32,
     apart: u32,
-    filled: bool,
+    filled: u32,
 }
 
 /// Small and large volumes, pages side by side and in map sectors of their own, and a large one with used sectors at its front.
-fn cases() -> [Case; 9] {
+fn cases() -> [Case; 12] {
     [
-        commits_of(1_024, 1, 1, false),
-        commits_of(1_024, 10, 1, false),
-        commits_of(1_024, 100, 1, false),
-        commits_of(921_600, 1, 1, false),
-        commits_of(921_600, 10, 1, false),
-        commits_of(921_600, 100, 1, false),
-        commits_of(921_600, 100, 1_024, false),
-        commits_of(921_600, 1, 1, true),
-        commits_of(921_600, 100, 1, true),
+        commits_of(1_024, 1, 1, 0),
+        commits_of(1_024, 10, 1, 0),
+        commits_of(1_024, 100, 1, 0),
+        commits_of(921_600, 1, 1, 0),
+        commits_of(921_600, 10, 1, 0),
+        commits_of(921_600, 100, 1, 0),
+        commits_of(921_600, 100, 1_024, 0),
+        commits_of(921_600, 1, 1, SOME_PAGES),
+        commits_of(921_600, 1, 1, MANY_PAGES),
+        commits_of(921_600, 1, 1, MOST_PAGES),
+        commits_of(921_600, 1, 800, MOST_PAGES),
+        commits_of(921_600, 100, 1, MANY_PAGES),
     ]
 }
 
-fn commits_of(sectors: u32, count: u32, apart: u32, filled: bool) -> Case {
+fn commits_of(sectors: u32, count: u32, apart: u32, filled: u32) -> Case {
     Case {
         sectors,
         count,
@@ -151,24 +193,24 @@ fn measure_case(rt: &HostRuntime, case: Case) -> io::Result<()> {
         Ok(map) => map,
         Err(error) => return println!(rt; "{error}"),
     };
-    if case.filled {
-        if let Err(error) = fill_pages(&mut map, &mut device) {
+    if case.filled > 0 {
+        if let Err(error) = fill_pages(&mut map, &mut device, case.filled) {
             return println!(rt; "{error}");
         }
     }
     let before = device.writes;
     let start = Instant::now(rt)?;
     let done = commit_pages(&mut map, &mut device, case.count, case.apart);
-    let microseconds = start.elapsed(rt)?.as_micros() / ROUNDS as u128;
+    let nanoseconds = start.elapsed(rt)?.as_nanos() / ROUNDS as u128;
     let writes = device.writes.saturating_sub(before) / ROUNDS as u64;
     let sectors = case.sectors;
     let count = case.count;
     let apart = case.apart;
-    let filled = if case.filled { FILLED } else { 0 };
+    let filled = case.filled;
     match done {
         Ok(()) => {
             println!(rt;
-                "{sectors} sectors, {filled} pages before, {count} pages {apart} apart: {microseconds} us and {writes} writes a commit"
+                "{sectors} sectors, {filled} pages before, {count} pages {apart} apart: {nanoseconds} ns and {writes} writes a commit"
             )
         }
         Err(error) => println!(rt; "{error}"),
@@ -196,6 +238,56 @@ fn measure_calls(rt: &HostRuntime) -> io::Result<()> {
         Ok(sum) => println!(rt; "read: {milliseconds} ms for {READS} (checksum {sum})"),
         Err(error) => println!(rt; "{error}"),
     }
+}
+
+/// The time of commits of one page, in nanoseconds.
+fn measure_commits(rt: &HostRuntime, map: &mut PageMap, device: &mut SparseDevice) -> io::Result<()>
+    requires open { IsOpen map.old }
+    requires sectors { sectors_of map.old ≤ device.old.sectors }
+{
+    let start = Instant::now(rt)?;
+    let done = commit_pages(map, device, 1, 1);
+    let nanoseconds = start.elapsed(rt)?.as_nanos() / ROUNDS as u128;
+    match done {
+        Ok(()) => println!(rt; "commits of one page: {nanoseconds} ns"),
+        Err(error) => println!(rt; "{error}"),
+    }
+}
+
+/// Page numbers that are used again, in a volume with many pages, and then all its pages released in one commit.
+fn measure_filled(rt: &HostRuntime, count: u32) -> io::Result<()> {
+    let mut device = SparseDevice::new(rt.alloc(), 921_600);
+    let mut map = match fresh_volume(rt.alloc(), &mut device) {
+        Ok(map) => map,
+        Err(error) => return println!(rt; "{error}"),
+    };
+    if let Err(error) = fill_pages(&mut map, &mut device, count) {
+        return println!(rt; "{error}");
+    }
+    let start = Instant::now(rt)?;
+    if let Err(error) = reuse_pages(&mut map, REUSED) {
+        return println!(rt; "{error}");
+    }
+    let nanoseconds = start.elapsed(rt)?.as_nanos() / REUSED as u128;
+    println!(rt; "{count} pages: {nanoseconds} ns for a release and two allocations")?;
+    let start = Instant::now(rt)?;
+    if let Err(error) = release_pages(&mut map, &mut device, count) {
+        return println!(rt; "{error}");
+    }
+    let milliseconds = start.elapsed(rt)?.as_millis();
+    println!(rt; "{count} pages released and committed: {milliseconds} ms")?;
+    measure_commits(rt, &mut map, &mut device)
+}
+
+/// Volumes with as many pages as there may be, after a new one. The memory that it takes at most is read from the system.
+pub fn measure_releases(rt: &HostRuntime) -> io::Result<()> {
+    let mut device = SparseDevice::new(rt.alloc(), 921_600);
+    match fresh_volume(rt.alloc(), &mut device) {
+        Ok(mut map) => measure_commits(rt, &mut map, &mut device)?,
+        Err(error) => return println!(rt; "{error}"),
+    }
+    measure_filled(rt, MANY_PAGES)?;
+    measure_filled(rt, MOST_PAGES)
 }
 
 /// Commits, and then single calls.

@@ -13,12 +13,13 @@ use Rattle.btree.specs.Tree.{Part, IsTree, Holds, pages_of}
 use Rattle.btree.specs.Reading.{Untouched}
 
 pub untouched_still : (p : PageMap) → Untouched p p
-untouched_still p = record { map = λ image. refl; touched = refl; committed = record { volume = refl; spent = refl } }
+untouched_still p = record { map = λ image. refl; touched = refl; filled = refl; committed = record { volume = refl; spent = refl } }
 
 pub untouched_on : (one two three : PageMap) → Untouched one two → Untouched two three → Untouched one three
 untouched_on one two three first second = record {
   map = λ image. second.map image ∙ first.map image;
   touched = second.touched ∙ first.touched;
+  filled = second.filled ∙ first.filled;
   committed = record { volume = second.committed.volume ∙ first.committed.volume; spent = second.committed.spent ∙ first.committed.spent };
 }
 

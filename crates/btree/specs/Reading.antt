@@ -1,7 +1,7 @@
 -- What a call that only reads leaves as it was, and why it is refused.
 use Rattle.std.specs.Prelude.{◌≡◌, ◌<◌, List, ⊤}
 use Rattle.station.specs.Disk.{Sector}
-use Rattle.pages.specs.Pages.{map_now, touched_of, SameCommitted}
+use Rattle.pages.specs.Pages.{map_now, touched_of, filled_of, SameCommitted}
 use Rattle.pages.specs.declared.page_map.PageMap.{PageMap}
 use Rattle.pages.specs.declared.error.PagesError.{PagesError}
 use Rattle.pages.specs.declared.error.PagesError.TheVariants.{Device, Full, Damaged, Memory, Spent, ForeignMark}
@@ -11,6 +11,7 @@ use Rattle.tree_pages.specs.declared.form.TreeForm.{TreeForm}
 pub record Untouched (old new : PageMap) : Type 0 where
   pub map : (image : List Sector) → map_now new image ≡ map_now old image
   pub touched : touched_of new ≡ touched_of old
+  pub filled : filled_of new ≡ filled_of old
   pub committed : SameCommitted old new
 
 -- a page is refused by the device, by a spent map, or as damaged

@@ -3,7 +3,7 @@ ghost use Rattle.std.specs.Prelude.{◌≡◌, ◌≢◌, ◌≤◌, ◌<◌, �
 ghost use Rattle.std.specs.List.{All};
 ghost use Rattle.station.specs.Disk.{Sector};
 ghost use Rattle.station.specs.Failures.{Blames};
-ghost use Rattle.pages.specs.Pages.{is_spent, sectors_of, catalog_of, page_count, Agrees, IsOpen, SameCommitted};
+ghost use Rattle.pages.specs.Pages.{is_spent, sectors_of, catalog_of, page_count, filled_of, Agrees, IsOpen, SameCommitted};
 ghost use Rattle.tree_pages.specs.Form.{IsForm};
 ghost use Rattle.tree_pages.specs.Keys.{child_of};
 ghost use Rattle.btree.specs.Tree.{Part, rows_of, pages_of, Stands, Holds};
@@ -28,6 +28,7 @@ fn release_pages(pages: &mut PageMap, numbers: &[u32]) -> Result<(), PagesError>
     ensures released { OnOk result ((image : List Sector) → Moves (pages_of_map pages.old image) numbers.now (pages_of_map pages.new image) []) }
     ensures damaged { result ≡ Err PagesError.Damaged → (image : List Sector) →
         All (λ page. (0 < page) × (page < length (pages_of_map pages.old image))) numbers.now → ⊥ }
+    ensures filled { filled_of pages.new ≤ filled_of pages.old }
     ensures keeps { Keeps pages.old pages.new }
     ensures open { IsOpen pages.new }
     ensures spent { result ≡ Err PagesError.Spent → is_spent pages.old ≡ true }
@@ -163,6 +164,7 @@ fn clear_levels<D: Device>(
     ensures damaged { D.is_honest device.old → Agrees pages.old (D.state device.old).disk → result ≡ Err PagesError.Damaged → (levels : List (List Part)) →
         IsSmall (pages_of_map pages.old (D.state device.old).disk.present) → IsDown form (pages_of_map pages.old (D.state device.old).disk.present) numbers.items levels →
         length levels ≤ depth → ⊥ }
+    ensures filled { filled_of pages.new ≤ filled_of pages.old }
     ensures committed { SameCommitted pages.old pages.new }
     ensures catalog { catalog_of pages.new ≡ catalog_of pages.old }
     ensures agrees { D.is_honest device.old → Agrees pages.old (D.state device.old).disk → Agrees pages.new (D.state device.new).disk }
@@ -209,6 +211,7 @@ impl Tree {
         ensures form { self.new.form ≡ self.old.form }
         ensures root { OnOk result (self.new.root ≡ 0) }
         ensures same { OnErr result (self.new ≡ self.old) }
+        ensures filled { filled_of pages.new ≤ filled_of pages.old }
         ensures committed { SameCommitted pages.old pages.new }
         ensures catalog { catalog_of pages.new ≡ catalog_of pages.old }
         ensures agrees { D.is_honest device.old → Agrees pages.old (D.state device.old).disk → Agrees pages.new (D.state device.new).disk }

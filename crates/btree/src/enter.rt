@@ -2,7 +2,7 @@
 ghost use Rattle.std.specs.Prelude.{true, ◌≡◌, ◌≤◌, ◌<◌, ◌+◌, ◌*◌, ◌↔◌, Err, Some, List, length, IfOk, IfErr, IfSome};
 ghost use Rattle.station.specs.Disk.{Sector};
 ghost use Rattle.station.specs.Failures.{Blames};
-ghost use Rattle.pages.specs.Pages.{IsOpen, Agrees, SameCommitted, HasEachPage, is_spent, catalog_of, sectors_of, touched_of};
+ghost use Rattle.pages.specs.Pages.{IsOpen, Agrees, SameCommitted, HasEachPage, is_spent, catalog_of, sectors_of, touched_of, filled_of};
 ghost use Rattle.tree_pages.specs.Form.{IsForm};
 ghost use Rattle.btree.specs.Tree.{Part, IsTree};
 ghost use Rattle.btree.specs.Path.{EndsAt};
@@ -32,6 +32,7 @@ pub(crate) fn settle(
     ensures settles { IfOk result (λ new. (image : List Sector) → Settles form root told (pages_of_map pages.old image) (pages_of_map pages.new image) new) }
     ensures some { 0 < root → IfOk result (λ new. 0 < new) }
     ensures touched { length (touched_of pages.new) ≤ length (touched_of pages.old) + 1 }
+    ensures filled { filled_of pages.new ≤ filled_of pages.old + 1 }
     ensures keeps { Keeps pages.old pages.new }
     ensures open { IsOpen pages.new }
     ensures cause { IfErr result IsWriteRefusal }
@@ -82,6 +83,7 @@ pub(crate) fn enter<D: Device>(
         EndsAt form key.now levels descent.path.items descent.page descent.leaf.rows descent.right → ⊥ }
     ensures some { 0 < root → IfOk result (λ new. 0 < new) }
     ensures touched { length (touched_of pages.new) ≤ length (touched_of pages.old) + 2 * length descent.path.items + 3 }
+    ensures filled { filled_of pages.new ≤ filled_of pages.old + 2 * length descent.path.items + 3 }
     ensures committed { SameCommitted pages.old pages.new }
     ensures catalog { catalog_of pages.new ≡ catalog_of pages.old }
     ensures agrees { D.is_honest device.old → Agrees pages.old (D.state device.old).disk → Agrees pages.new (D.state device.new).disk }

@@ -1,7 +1,7 @@
 //! A new entry.
 ghost use Rattle.std.specs.Prelude.{◌≡◌, ◌≤◌, ◌<◌, ◌+◌, ◌↔◌, Err, Ok, Some, None, List, length, true, false, IsSome, IfOk, IfErr, OnErr};
 ghost use Rattle.station.specs.Failures.{Blames};
-ghost use Rattle.pages.specs.Pages.{IsOpen, Agrees, SameCommitted, HasEachPage, is_spent, committed_of, catalog_of, sectors_of, touched_of};
+ghost use Rattle.pages.specs.Pages.{IsOpen, Agrees, SameCommitted, HasEachPage, is_spent, committed_of, catalog_of, sectors_of, touched_of, filled_of};
 ghost use Rattle.pages.specs.Use.{free_count};
 ghost use Rattle.tree_pages.specs.Form.{IsForm};
 ghost use Rattle.btree.specs.Tree.{Part, Holds};
@@ -48,6 +48,8 @@ fn insert_entry<D: Device>(
     ensures there { result ≡ Ok None → Untouched pages.old pages.new }
     ensures touched { D.is_honest device.old → Agrees pages.old (D.state device.old).disk → (levels : List (List Part)) →
         Holds form (pages_of_map pages.old (D.state device.old).disk.present) root levels → length (touched_of pages.new) ≤ length (touched_of pages.old) + 42 }
+    ensures filled { D.is_honest device.old → Agrees pages.old (D.state device.old).disk → (levels : List (List Part)) →
+        Holds form (pages_of_map pages.old (D.state device.old).disk.present) root levels → filled_of pages.new ≤ filled_of pages.old + 42 }
     ensures committed { SameCommitted pages.old pages.new }
     ensures catalog { catalog_of pages.new ≡ catalog_of pages.old }
     ensures agrees { D.is_honest device.old → Agrees pages.old (D.state device.old).disk → Agrees pages.new (D.state device.new).disk }
@@ -116,6 +118,8 @@ impl Tree {
         // At most so many pages are changed, whatever the answer.
         ensures touched { D.is_honest device.old → Agrees pages.old (D.state device.old).disk → (levels : List (List Part)) →
             Holds self.old.form (pages_of_map pages.old (D.state device.old).disk.present) self.old.root levels → length (touched_of pages.new) ≤ length (touched_of pages.old) + 42 }
+        ensures filled { D.is_honest device.old → Agrees pages.old (D.state device.old).disk → (levels : List (List Part)) →
+            Holds self.old.form (pages_of_map pages.old (D.state device.old).disk.present) self.old.root levels → filled_of pages.new ≤ filled_of pages.old + 42 }
         ensures committed { SameCommitted pages.old pages.new }
         ensures catalog { catalog_of pages.new ≡ catalog_of pages.old }
         ensures agrees { D.is_honest device.old → Agrees pages.old (D.state device.old).disk → Agrees pages.new (D.state device.new).disk }

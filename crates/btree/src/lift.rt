@@ -3,7 +3,7 @@ ghost use Rattle.std.specs.Prelude.{true, ◌≡◌, ◌≤◌, ◌<◌, ◌+◌
 ghost use Rattle.std.specs.List.{insert};
 ghost use Rattle.byteorder.specs.Endian.{big_bytes};
 ghost use Rattle.station.specs.Disk.{Sector};
-ghost use Rattle.pages.specs.Pages.{IsOpen, IsPage, HasEachPage, is_spent, touched_of};
+ghost use Rattle.pages.specs.Pages.{IsOpen, IsPage, HasEachPage, is_spent, touched_of, filled_of};
 ghost use Rattle.tree_pages.specs.Keys.{rest_of};
 ghost use Rattle.btree.specs.Tree.{row_of, rows_of};
 ghost use Rattle.btree.specs.Moves.{Replaced};
@@ -36,6 +36,7 @@ pub(crate) fn put_back(pages: &mut PageMap, page: u32, node: TreePage) -> Result
     ensures pages { IfOk result (λ grown. (image : List Sector) → CanStand (pages_of_map pages.old image) page node →
         Replaced node.form node.kind (pages_of_map pages.old image) (part_of page node.rows ∷ []) (pages_of_map pages.new image) (run_of grown)) }
     ensures touched { length (touched_of pages.new) ≤ length (touched_of pages.old) + 1 }
+    ensures filled { filled_of pages.new ≤ filled_of pages.old + 1 }
     ensures keeps { Keeps pages.old pages.new }
     ensures open { IsOpen pages.new }
     ensures cause { IfErr result IsPutRefusal }
@@ -69,6 +70,7 @@ fn put_beside(
         Replaced node.form node.kind (pages_of_map pages.old image) (part_of page node.rows ∷ []) (pages_of_map pages.new image) (run_of grown)) }
     ensures grown { IfOk result (λ grown. IsGrown page node grown) }
     ensures touched { length (touched_of pages.new) ≤ length (touched_of pages.old) + 2 }
+    ensures filled { filled_of pages.new ≤ filled_of pages.old + 2 }
     ensures keeps { Keeps pages.old pages.new }
     ensures open { IsOpen pages.new }
     ensures cause { IfErr result IsWriteRefusal }
@@ -101,6 +103,7 @@ pub(crate) fn lift(
         Lifts node.form (pages_of_map pages.old image) (pages_of_map pages.new image) page node.rows place (run_of grown.now) up) }
     ensures keys { IfOk result (λ up. IfSome up (HasKeys node.form)) }
     ensures touched { length (touched_of pages.new) ≤ length (touched_of pages.old) + 2 }
+    ensures filled { filled_of pages.new ≤ filled_of pages.old + 2 }
     ensures keeps { Keeps pages.old pages.new }
     ensures open { IsOpen pages.new }
     ensures cause { IfErr result IsWriteRefusal }

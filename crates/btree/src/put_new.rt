@@ -2,7 +2,7 @@
 ghost use Rattle.std.specs.Prelude.{true, ◌≡◌, ◌≤◌, ◌<◌, ◌+◌, ◌++◌, ◌↔◌, Err, List, [], ◌∷◌, length, IfOk, IfErr};
 ghost use Rattle.std.specs.List.{All};
 ghost use Rattle.station.specs.Disk.{Sector};
-ghost use Rattle.pages.specs.Pages.{IsOpen, HasEachPage, is_spent, touched_of};
+ghost use Rattle.pages.specs.Pages.{IsOpen, HasEachPage, is_spent, touched_of, filled_of};
 ghost use Rattle.tree_pages.specs.Form.{IsForm, rest_length, row_length};
 ghost use Rattle.btree.specs.Tree.{fewest, row_of};
 ghost use Rattle.btree.specs.Moves.{Replaced};
@@ -21,6 +21,7 @@ fn put_new(pages: &mut PageMap, node: TreePage) -> Result<u32, PagesError>
     ensures pages { IfOk result (λ page. (image : List Sector) → All (λ row. length row ≡ row_length node.form node.kind) node.rows → fewest node.kind ≤ length node.rows →
         Replaced node.form node.kind (pages_of_map pages.old image) [] (pages_of_map pages.new image) (part_of page node.rows ∷ [])) }
     ensures touched { length (touched_of pages.new) ≤ length (touched_of pages.old) + 1 }
+    ensures filled { filled_of pages.new ≤ filled_of pages.old + 1 }
     ensures keeps { Keeps pages.old pages.new }
     ensures open { IsOpen pages.new }
     ensures cause { IfErr result IsWriteRefusal }
@@ -51,6 +52,7 @@ pub(crate) fn plant(
     ensures pages { IfOk result (λ page. (image : List Sector) →
         Replaced form Kind.Leaf (pages_of_map pages.old image) [] (pages_of_map pages.new image) (part_of page ((key.now ++ value.now) ∷ []) ∷ [])) }
     ensures touched { length (touched_of pages.new) ≤ length (touched_of pages.old) + 1 }
+    ensures filled { filled_of pages.new ≤ filled_of pages.old + 1 }
     ensures keeps { Keeps pages.old pages.new }
     ensures open { IsOpen pages.new }
     ensures cause { IfErr result IsWriteRefusal }
@@ -82,6 +84,7 @@ pub(crate) fn crown(
         Replaced form Kind.Inner (pages_of_map pages.old image) [] (pages_of_map pages.new image)
         (part_of page (row_of form (part_of grown.now.page grown.now.left.rows) ∷ row_of form (part_of right.now.page right.now.node.rows) ∷ []) ∷ [])) }
     ensures touched { length (touched_of pages.new) ≤ length (touched_of pages.old) + 1 }
+    ensures filled { filled_of pages.new ≤ filled_of pages.old + 1 }
     ensures keeps { Keeps pages.old pages.new }
     ensures open { IsOpen pages.new }
     ensures cause { IfErr result IsWriteRefusal }

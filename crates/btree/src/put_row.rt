@@ -2,7 +2,7 @@
 ghost use Rattle.std.specs.Prelude.{true, ◌≡◌, ◌≤◌, ◌<◌, ◌+◌, ◌++◌, ◌↔◌, Err, List, [], ◌∷◌, length, IfOk, IfErr};
 ghost use Rattle.std.specs.List.{insert};
 ghost use Rattle.station.specs.Disk.{Sector};
-ghost use Rattle.pages.specs.Pages.{IsOpen, IsPage, HasEachPage, is_spent, touched_of};
+ghost use Rattle.pages.specs.Pages.{IsOpen, IsPage, HasEachPage, is_spent, touched_of, filled_of};
 ghost use Rattle.tree_pages.specs.Form.{rest_length, capacity};
 ghost use Rattle.btree.specs.Tree.{rows_of};
 ghost use Rattle.btree.specs.Moves.{Replaced};
@@ -34,6 +34,7 @@ pub(crate) fn put_row(
         Replaced node.form node.kind (pages_of_map pages.old image) (part_of page node.rows ∷ []) (pages_of_map pages.new image) (run_of grown)) }
     ensures grown { IfOk result (λ grown. IsGrown page node grown) }
     ensures touched { length (touched_of pages.new) ≤ length (touched_of pages.old) + 2 }
+    ensures filled { filled_of pages.new ≤ filled_of pages.old + 2 }
     ensures keeps { Keeps pages.old pages.new }
     ensures open { IsOpen pages.new }
     ensures cause { IfErr result IsWriteRefusal }
@@ -67,6 +68,7 @@ fn put_in_one(
         Replaced node.form node.kind (pages_of_map pages.old image) (part_of page node.rows ∷ []) (pages_of_map pages.new image) (run_of grown)) }
     ensures grown { IfOk result (λ grown. IsGrown page node grown) }
     ensures touched { length (touched_of pages.new) ≤ length (touched_of pages.old) + 1 }
+    ensures filled { filled_of pages.new ≤ filled_of pages.old + 1 }
     ensures keeps { Keeps pages.old pages.new }
     ensures open { IsOpen pages.new }
     ensures cause { IfErr result IsPutRefusal }
@@ -102,6 +104,7 @@ fn put_in_two(
         Replaced node.form node.kind (pages_of_map pages.old image) (part_of page node.rows ∷ []) (pages_of_map pages.new image) (run_of grown)) }
     ensures grown { IfOk result (λ grown. IsGrown page node grown) }
     ensures touched { length (touched_of pages.new) ≤ length (touched_of pages.old) + 2 }
+    ensures filled { filled_of pages.new ≤ filled_of pages.old + 2 }
     ensures keeps { Keeps pages.old pages.new }
     ensures open { IsOpen pages.new }
     ensures cause { IfErr result IsWriteRefusal }

@@ -3,7 +3,7 @@ ghost use Rattle.std.specs.Prelude.{true, ◌≡◌, ◌≢◌, ◌≤◌, ◌<�
 ghost use Rattle.byteorder.specs.Endian.{big_bytes};
 ghost use Rattle.station.specs.Disk.{Sector};
 ghost use Rattle.station.specs.Failures.{Blames};
-ghost use Rattle.pages.specs.Pages.{map_now, is_spent, IsOpen, IsPage, Agrees, SameCommitted, catalog_of, sectors_of, touched_of};
+ghost use Rattle.pages.specs.Pages.{map_now, is_spent, IsOpen, IsPage, Agrees, SameCommitted, catalog_of, sectors_of, touched_of, filled_of};
 ghost use Rattle.tree_pages.specs.Form.{IsForm, capacity};
 ghost use Rattle.tree_pages.specs.Keys.{rest_of};
 ghost use Rattle.btree.specs.Tree.{Part, node_at, row_of, rows_of, Stands};
@@ -58,6 +58,7 @@ fn rebalance(pages: &mut PageMap, left: Child, right: Child) -> Result<Grown, Pa
         Replaced left.node.form Kind.Inner (pages_of_map pages.old image) (part_of left.page one ∷ part_of right.page two ∷ []) (pages_of_map pages.new image) (run_of joined)) }
     ensures joined { IfOk result (IsJoined left.node.form left.page right.page) }
     ensures touched { OnOk result (length (touched_of pages.new) ≤ length (touched_of pages.old) + 2) }
+    ensures filled { OnOk result (filled_of pages.new ≤ filled_of pages.old + 2) }
     ensures keeps { Keeps pages.old pages.new }
     ensures open { IsOpen pages.new }
     ensures damaged { result ≡ Err PagesError.Damaged → (image : List Sector) → 0 < left.page → 0 < right.page → AreTwo (pages_of_map pages.old image) left.page right.page → ⊥ }
@@ -92,6 +93,7 @@ fn merge(pages: &mut PageMap, left: Child, right: Child) -> Result<Grown, PagesE
         Replaced left.node.form Kind.Inner (pages_of_map pages.old image) (part_of left.page one ∷ part_of right.page two ∷ []) (pages_of_map pages.new image) (run_of joined)) }
     ensures joined { IfOk result (IsJoined left.node.form left.page right.page) }
     ensures touched { OnOk result (length (touched_of pages.new) ≤ length (touched_of pages.old) + 2) }
+    ensures filled { OnOk result (filled_of pages.new ≤ filled_of pages.old + 2) }
     ensures keeps { Keeps pages.old pages.new }
     ensures open { IsOpen pages.new }
     ensures spent { result ≡ Err PagesError.Spent → is_spent pages.old ≡ true }
@@ -124,6 +126,7 @@ fn redistribute(pages: &mut PageMap, left: Child, right: Child) -> Result<Grown,
         Replaced left.node.form Kind.Inner (pages_of_map pages.old image) (part_of left.page one ∷ part_of right.page two ∷ []) (pages_of_map pages.new image) (run_of joined)) }
     ensures joined { IfOk result (IsJoined left.node.form left.page right.page) }
     ensures touched { OnOk result (length (touched_of pages.new) ≤ length (touched_of pages.old) + 2) }
+    ensures filled { OnOk result (filled_of pages.new ≤ filled_of pages.old + 2) }
     ensures keeps { Keeps pages.old pages.new }
     ensures open { IsOpen pages.new }
     ensures spent { result ≡ Err PagesError.Spent → is_spent pages.old ≡ true }
@@ -191,6 +194,7 @@ fn rebalance_pair(
         Joins node.form (pages_of_map pages.old image) (pages_of_map pages.new image) page node.rows place (left.node.rows ++ right.node.rows) one two fate) }
     ensures fits { IfOk result (Fits node.form) }
     ensures touched { IfOk result (λ fate. length (touched_of pages.new) + spare fate ≤ length (touched_of pages.old) + 3) }
+    ensures filled { IfOk result (λ fate. filled_of pages.new + spare fate ≤ filled_of pages.old + 3) }
     ensures keeps { Keeps pages.old pages.new }
     ensures open { IsOpen pages.new }
     ensures damaged { result ≡ Err PagesError.Damaged → (image : List Sector) → 0 < left.page → 0 < right.page → AreTwo (pages_of_map pages.old image) left.page right.page → ⊥ }
@@ -268,6 +272,7 @@ pub(crate) fn rebalance_at<D: Device>(
         IsPair form (pages_of_map pages.old (D.state device.old).disk.present) turn.page node.rows turn.place lone.page left right → ⊥ }
     ensures fits { IfOk result (Fits form) }
     ensures touched { IfOk result (λ fate. length (touched_of pages.new) + spare fate ≤ length (touched_of pages.old) + 3) }
+    ensures filled { IfOk result (λ fate. filled_of pages.new + spare fate ≤ filled_of pages.old + 3) }
     ensures committed { SameCommitted pages.old pages.new }
     ensures catalog { catalog_of pages.new ≡ catalog_of pages.old }
     ensures agrees { D.is_honest device.old → Agrees pages.old (D.state device.old).disk → Agrees pages.new (D.state device.new).disk }

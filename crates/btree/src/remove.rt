@@ -2,7 +2,7 @@
 ghost use Rattle.std.specs.Prelude.{◌≡◌, ◌≢◌, ◌≤◌, ◌<◌, ◌+◌, ◌↔◌, Err, Ok, Some, None, true, false, List, length, IfOk, IfErr, OnOk, OnErr};
 ghost use Rattle.station.specs.Disk.{Sector};
 ghost use Rattle.station.specs.Failures.{Blames};
-ghost use Rattle.pages.specs.Pages.{IsOpen, Agrees, SameCommitted, is_spent, catalog_of, sectors_of, touched_of};
+ghost use Rattle.pages.specs.Pages.{IsOpen, Agrees, SameCommitted, is_spent, catalog_of, sectors_of, touched_of, filled_of};
 ghost use Rattle.tree_pages.specs.Form.{IsForm};
 ghost use Rattle.btree.specs.Tree.{Part, Holds};
 ghost use Rattle.btree.specs.Entries.{entries_of, entry_with};
@@ -29,6 +29,7 @@ fn collapse_root(pages: &mut PageMap, lone: Child) -> Result<u32, PagesError>
     requires lone { (lone.node.kind ≡ Kind.Inner) × (length lone.node.rows ≡ 1) }
     ensures gives { IfOk result (λ new. (image : List Sector) → Collapsed (pages_of_map pages.old image) (pages_of_map pages.new image) lone new) }
     ensures touched { OnOk result (length (touched_of pages.new) ≤ length (touched_of pages.old) + 1) }
+    ensures filled { OnOk result (filled_of pages.new ≤ filled_of pages.old + 1) }
     ensures keeps { Keeps pages.old pages.new }
     ensures open { IsOpen pages.new }
     ensures damaged { result ≡ Err PagesError.Damaged → (image : List Sector) → 0 < lone.page → IsIn (pages_of_map pages.old image) lone.page → ⊥ }
@@ -48,6 +49,7 @@ fn settle_shrunk(pages: &mut PageMap, root: u32, fate: Fate) -> Result<u32, Page
     requires one { Collapses fate }
     ensures settles { IfOk result (λ new. (image : List Sector) (form : TreeForm) → SettlesShrunk form root fate (pages_of_map pages.old image) (pages_of_map pages.new image) new) }
     ensures touched { OnOk result (length (touched_of pages.new) ≤ length (touched_of pages.old) + spare fate) }
+    ensures filled { OnOk result (filled_of pages.new ≤ filled_of pages.old + spare fate) }
     ensures keeps { Keeps pages.old pages.new }
     ensures open { IsOpen pages.new }
     ensures damaged { result ≡ Err PagesError.Damaged → (image : List Sector) (form : TreeForm) → NeverSettles form root fate (pages_of_map pages.old image) }
@@ -88,6 +90,8 @@ fn remove_entry<D: Device>(
     ensures missing { result ≡ Ok None → Untouched pages.old pages.new }
     ensures touched { D.is_honest device.old → Agrees pages.old (D.state device.old).disk → (levels : List (List Part)) →
         Holds form (pages_of_map pages.old (D.state device.old).disk.present) root levels → OnOk result (length (touched_of pages.new) ≤ length (touched_of pages.old) + 42) }
+    ensures filled { D.is_honest device.old → Agrees pages.old (D.state device.old).disk → (levels : List (List Part)) →
+        Holds form (pages_of_map pages.old (D.state device.old).disk.present) root levels → OnOk result (filled_of pages.new ≤ filled_of pages.old + 42) }
     ensures committed { SameCommitted pages.old pages.new }
     ensures catalog { catalog_of pages.new ≡ catalog_of pages.old }
     ensures agrees { D.is_honest device.old → Agrees pages.old (D.state device.old).disk → Agrees pages.new (D.state device.new).disk }
@@ -146,6 +150,8 @@ impl Tree {
         // At most so many pages are changed.
         ensures touched { D.is_honest device.old → Agrees pages.old (D.state device.old).disk → (levels : List (List Part)) →
             Holds self.old.form (pages_of_map pages.old (D.state device.old).disk.present) self.old.root levels → OnOk result (length (touched_of pages.new) ≤ length (touched_of pages.old) + 42) }
+        ensures filled { D.is_honest device.old → Agrees pages.old (D.state device.old).disk → (levels : List (List Part)) →
+            Holds self.old.form (pages_of_map pages.old (D.state device.old).disk.present) self.old.root levels → OnOk result (filled_of pages.new ≤ filled_of pages.old + 42) }
         ensures committed { SameCommitted pages.old pages.new }
         ensures catalog { catalog_of pages.new ≡ catalog_of pages.old }
         ensures agrees { D.is_honest device.old → Agrees pages.old (D.state device.old).disk → Agrees pages.new (D.state device.new).disk }

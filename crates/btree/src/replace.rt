@@ -2,7 +2,7 @@
 ghost use Rattle.std.specs.Prelude.{◌≡◌, ◌≢◌, ◌≤◌, ◌<◌, ◌+◌, ◌++◌, ◌↔◌, Err, Ok, true, false, None, List, [], ◌∷◌, length, slice_index_or, slice_set, IsSome, IfErr, OnOk};
 ghost use Rattle.station.specs.Disk.{Sector};
 ghost use Rattle.station.specs.Failures.{Blames};
-ghost use Rattle.pages.specs.Pages.{IsOpen, Agrees, SameCommitted, is_spent, catalog_of, sectors_of, touched_of};
+ghost use Rattle.pages.specs.Pages.{IsOpen, Agrees, SameCommitted, is_spent, catalog_of, sectors_of, touched_of, filled_of};
 ghost use Rattle.tree_pages.specs.Form.{rest_length};
 ghost use Rattle.tree_pages.specs.Keys.{key_of};
 ghost use Rattle.btree.specs.Tree.{Part, Holds};
@@ -35,6 +35,7 @@ fn put_rest(
         Replaced node.form node.kind (pages_of_map pages.old image) (part_of page node.rows ∷ []) (pages_of_map pages.new image)
         (part_of page (slice_set node.rows place (key_of node.form (slice_index_or node.rows place []) ++ rest.now)) ∷ [])) }
     ensures touched { length (touched_of pages.new) ≤ length (touched_of pages.old) + 1 }
+    ensures filled { filled_of pages.new ≤ filled_of pages.old + 1 }
     ensures keeps { Keeps pages.old pages.new }
     ensures open { IsOpen pages.new }
     ensures damaged { result ≡ Err PagesError.Damaged → (image : List Sector) → 0 < page → IsIn (pages_of_map pages.old image) page → ⊥ }
@@ -84,6 +85,7 @@ impl Tree {
             (levels : List (List Part)) → Holds self.old.form (pages_of_map pages.old (D.state device.old).disk.present) self.old.root levels → ⊥ }
         ensures tree { self.new ≡ self.old }
         ensures touched { length (touched_of pages.new) ≤ length (touched_of pages.old) + 1 }
+        ensures filled { filled_of pages.new ≤ filled_of pages.old + 1 }
         ensures committed { SameCommitted pages.old pages.new }
         ensures catalog { catalog_of pages.new ≡ catalog_of pages.old }
         ensures agrees { D.is_honest device.old → Agrees pages.old (D.state device.old).disk → Agrees pages.new (D.state device.new).disk }

@@ -3,7 +3,7 @@ ghost use Rattle.std.specs.Prelude.{true, ◌≡◌, ◌≤◌, ◌<◌, ◌+◌
 ghost use Rattle.byteorder.specs.Endian.{big_bytes};
 ghost use Rattle.station.specs.Disk.{Sector};
 ghost use Rattle.station.specs.Failures.{Blames};
-ghost use Rattle.pages.specs.Pages.{IsOpen, Agrees, SameCommitted, HasEachPage, is_spent, catalog_of, sectors_of, touched_of};
+ghost use Rattle.pages.specs.Pages.{IsOpen, Agrees, SameCommitted, HasEachPage, is_spent, catalog_of, sectors_of, touched_of, filled_of};
 ghost use Rattle.tree_pages.specs.Form.{IsForm};
 ghost use Rattle.tree_pages.specs.Keys.{rest_of};
 ghost use Rattle.btree.specs.Rises.{run_of};
@@ -32,6 +32,7 @@ fn lift_at(
         Lifts node.form (pages_of_map pages.old image) (pages_of_map pages.new image) turn.page node.rows turn.place (run_of grown.now) up) }
     ensures keys { IfOk result (λ up. IfSome up (HasKeys node.form)) }
     ensures touched { length (touched_of pages.new) ≤ length (touched_of pages.old) + 2 }
+    ensures filled { filled_of pages.new ≤ filled_of pages.old + 2 }
     ensures keeps { Keeps pages.old pages.new }
     ensures open { IsOpen pages.new }
     ensures damaged { result ≡ Err PagesError.Damaged → (image : List Sector) → node.kind ≡ Kind.Inner → turn.place < length node.rows → 0 < turn.page →
@@ -80,6 +81,7 @@ pub(crate) fn rise<D: Device>(
         NeverRises form path.now (pages_of_map pages.old (D.state device.old).disk.present) (Some grown) }
     ensures keys { IfOk result (λ up. IfSome up (HasKeys form)) }
     ensures touched { length (touched_of pages.new) ≤ length (touched_of pages.old) + 2 * length path.now }
+    ensures filled { filled_of pages.new ≤ filled_of pages.old + 2 * length path.now }
     ensures committed { SameCommitted pages.old pages.new }
     ensures catalog { catalog_of pages.new ≡ catalog_of pages.old }
     ensures agrees { D.is_honest device.old → Agrees pages.old (D.state device.old).disk → Agrees pages.new (D.state device.new).disk }

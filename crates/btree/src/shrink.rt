@@ -1,7 +1,7 @@
 //! A removal goes up from a leaf, along the way that led down to it.
 ghost use Rattle.std.specs.Prelude.{true, ◌≡◌, ◌≤◌, ◌+◌, ◌*◌, ◌↔◌, Err, length, IfOk, IfErr};
 ghost use Rattle.station.specs.Failures.{Blames};
-ghost use Rattle.pages.specs.Pages.{IsOpen, Agrees, SameCommitted, is_spent, catalog_of, sectors_of, touched_of};
+ghost use Rattle.pages.specs.Pages.{IsOpen, Agrees, SameCommitted, is_spent, catalog_of, sectors_of, touched_of, filled_of};
 ghost use Rattle.tree_pages.specs.Form.{IsForm};
 ghost use Rattle.btree.specs.Changes.{pages_of_map};
 ghost use Rattle.btree.specs.Fates.{Fits, spare};
@@ -41,6 +41,7 @@ pub(crate) fn shrink<D: Device>(
         NeverShrinks form path.now (pages_of_map pages.old (D.state device.old).disk.present) fate }
     ensures fits { IfOk result (Fits form) }
     ensures touched { IfOk result (λ up. length (touched_of pages.new) + spare up ≤ length (touched_of pages.old) + spare fate + 2 * length path.now) }
+    ensures filled { IfOk result (λ up. filled_of pages.new + spare up ≤ filled_of pages.old + spare fate + 2 * length path.now) }
     ensures committed { SameCommitted pages.old pages.new }
     ensures catalog { catalog_of pages.new ≡ catalog_of pages.old }
     ensures agrees { D.is_honest device.old → Agrees pages.old (D.state device.old).disk → Agrees pages.new (D.state device.new).disk }
@@ -81,6 +82,7 @@ fn shrink_at<D: Device>(
         NeverShrinksOn form turn (pages_of_map pages.old (D.state device.old).disk.present) below }
     ensures fits { IfOk result (Fits form) }
     ensures touched { IfOk result (λ up. length (touched_of pages.new) + spare up ≤ length (touched_of pages.old) + spare below + 2) }
+    ensures filled { IfOk result (λ up. filled_of pages.new + spare up ≤ filled_of pages.old + spare below + 2) }
     ensures committed { SameCommitted pages.old pages.new }
     ensures catalog { catalog_of pages.new ≡ catalog_of pages.old }
     ensures agrees { D.is_honest device.old → Agrees pages.old (D.state device.old).disk → Agrees pages.new (D.state device.new).disk }

@@ -2,7 +2,7 @@
 ghost use Rattle.std.specs.Prelude.{◌≡◌, ◌≤◌, ◌<◌, ◌+◌, ◌++◌, ◌↔◌, Err, true, ℕ, List, [], ◌∷◌, length, take, drop, slice_index_or, IfOk, IfErr, IsTrue, false};
 ghost use Rattle.byteorder.specs.Endian.{big_bytes};
 ghost use Rattle.station.specs.Disk.{Sector};
-ghost use Rattle.pages.specs.Pages.{IsOpen, IsPage, is_spent, page_count, touched_of};
+ghost use Rattle.pages.specs.Pages.{IsOpen, IsPage, is_spent, page_count, touched_of, filled_of};
 ghost use Rattle.tree_pages.specs.Keys.{rest_of};
 ghost use Rattle.btree.specs.Tree.{least, row_of};
 ghost use Rattle.btree.specs.Rises.{part_of};
@@ -29,6 +29,7 @@ pub(crate) fn write_back(
         Fares node.form node.kind (pages_of_map pages.old image) (pages_of_map pages.new image) page old node.rows fate) }
     ensures fits { IfOk result (Fits node.form) }
     ensures touched { IfOk result (λ fate. length (touched_of pages.new) + spare fate ≤ length (touched_of pages.old) + 1) }
+    ensures filled { IfOk result (λ fate. filled_of pages.new + spare fate ≤ filled_of pages.old + 1) }
     ensures keeps { Keeps pages.old pages.new }
     ensures open { IsOpen pages.new }
     ensures spent { result ≡ Err PagesError.Spent → is_spent pages.old ≡ true }
@@ -65,6 +66,7 @@ pub(crate) fn take_out(
         Fares leaf.form Kind.Leaf (pages_of_map pages.old image) (pages_of_map pages.new image) page leaf.rows (take place leaf.rows ++ drop (place + 1) leaf.rows) fate) }
     ensures fits { IfOk result (Fits leaf.form) }
     ensures touched { IfOk result (λ fate. length (touched_of pages.new) + spare fate ≤ length (touched_of pages.old) + 1) }
+    ensures filled { IfOk result (λ fate. filled_of pages.new + spare fate ≤ filled_of pages.old + 1) }
     ensures keeps { Keeps pages.old pages.new }
     ensures open { IsOpen pages.new }
     ensures spent { result ≡ Err PagesError.Spent → is_spent pages.old ≡ true }
@@ -86,6 +88,7 @@ pub(crate) fn lose_at(
         Fares node.form Kind.Inner (pages_of_map pages.old image) (pages_of_map pages.new image) turn.page node.rows (take turn.place node.rows ++ drop (turn.place + 1) node.rows) fate) }
     ensures fits { IfOk result (Fits node.form) }
     ensures touched { IfOk result (λ fate. length (touched_of pages.new) + spare fate ≤ length (touched_of pages.old) + 1) }
+    ensures filled { IfOk result (λ fate. filled_of pages.new + spare fate ≤ filled_of pages.old + 1) }
     ensures keeps { Keeps pages.old pages.new }
     ensures open { IsOpen pages.new }
     ensures damaged { result ≡ Err PagesError.Damaged → (image : List Sector) → node.kind ≡ Kind.Inner → turn.place < length node.rows → 0 < turn.page →
@@ -117,6 +120,7 @@ pub(crate) fn rename_at(
         (take turn.place node.rows ++ (row_of node.form (part_of child.now.page child.now.node.rows) ∷ drop (turn.place + 1) node.rows)) fate) }
     ensures fits { IfOk result (Fits node.form) }
     ensures touched { IfOk result (λ fate. length (touched_of pages.new) + spare fate ≤ length (touched_of pages.old) + 1) }
+    ensures filled { IfOk result (λ fate. filled_of pages.new + spare fate ≤ filled_of pages.old + 1) }
     ensures keeps { Keeps pages.old pages.new }
     ensures open { IsOpen pages.new }
     ensures damaged { result ≡ Err PagesError.Damaged → (image : List Sector) → node.kind ≡ Kind.Inner → turn.place < length node.rows → 0 < turn.page →

@@ -19,3 +19,5 @@ pub mod Taking
 pub mod One
 pub mod Refused
 pub mod Crowded
+pub mod Filling
+pub mod Bounds

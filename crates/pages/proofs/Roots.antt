@@ -16,7 +16,7 @@ use Rattle.roots.proofs.Next.{newest_within, next_is_newest}
 use Rattle.pages.specs.Layout.{VolumeRoot, words, map_count, root_spelled, volume_root, beside, root_of, newest, marks}
 use Rattle.pages.specs.Image.{Volume, Reads}
 
-abbrev IsThat : {T : Type 0} → Option T → T → Type 0
+abbrev pub IsThat : {T : Type 0} → Option T → T → Type 0
 IsThat None r = ⊥
 IsThat (Some a) r = a ≡ r
 

@@ -24,7 +24,7 @@ use Rattle.pages.proofs.Staging.{applied_more}
 abbrev pub names_sector : ℕ → Bool
 names_sector s = not (s == 0)
 
-named_at : (table : List ℕ) (page : ℕ) → get_or (map names_sector table) page false ≡ names_sector (get_or table page 0)
+pub named_at : (table : List ℕ) (page : ℕ) → get_or (map names_sector table) page false ≡ names_sector (get_or table page 0)
 named_at [] page = refl
 named_at (s ∷ table) zero = refl
 named_at (s ∷ table) (suc page) = named_at table page

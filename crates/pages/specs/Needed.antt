@@ -1,5 +1,6 @@
 -- How many sectors a commit needs.
-use Rattle.std.specs.Prelude.{◌⊎◌, ◌<◌, ◌≤◌, ◌+◌, ◌*◌, ◌/◌, ◌^◌, ◌==◌, ◌&&◌, ◌||◌, not, if◌then◌else◌, Bool, ℕ, zero, suc, List, take, drop, length, slice_index, is_some, count_by}
+use Rattle.std.specs.Prelude.{◌⊎◌, ◌<◌, ◌≤◌, ◌+◌, ◌*◌, ◌/◌, ◌^◌, ◌==◌, ◌&&◌, ◌||◌, not, if◌then◌else◌, Bool, ℕ, zero, suc, List, take, drop, length, slice_index, is_some, count_by, Some, Contains}
+use Rattle.station.specs.Disk.{Sector}
 use Rattle.std.specs.List.{list_any}
 use Rattle.pages.specs.Image.{Volume}
 use Rattle.pages.specs.Use.{free_count}
@@ -9,6 +10,16 @@ use Rattle.pages.specs.declared.change.Change.{Change}
 -- how many pages get bytes
 abbrev pub filled : List Change → ℕ
 filled changes = count_by (λ c. is_some c.bytes) changes
+
+-- a page has bytes among these changes
+abbrev pub HasBytes : List Change → ℕ → Type 0
+HasBytes changes page = (bytes : Sector) × Contains changes (record { page = page; bytes = Some bytes })
+
+-- A page got bytes. Where it had some, no more pages have bytes than before, and each page that had some has some.
+pub record Fills (old : List Change) (page : ℕ) (new : List Change) : Type 0 where
+  pub again : HasBytes old page → filled new ≤ filled old
+  pub here : HasBytes new page
+  pub others : (other : ℕ) → HasBytes old other → HasBytes new other
 
 -- the entry of a page in the map sector of that number changes: the page gets bytes, or loses its sector
 abbrev pub alters : Volume → ℕ → Change → Bool

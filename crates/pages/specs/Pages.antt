@@ -2,10 +2,11 @@
 use Rattle.std.specs.Prelude.{◌≡◌, ◌≢◌, ◌⊎◌, ◌<◌, ◌≤◌, ◌+◌, ◌*◌, ◌^◌, Bool, false, ℕ, List, [], length, Option, None, slice_index_or}
 use Rattle.std.specs.List.{All}
 use Rattle.station.specs.Disk.{Disk, Sector}
-use Rattle.pages.specs.Image.{Volume, Map, NamesOnce, pages_in, IsCommitted}
+use Rattle.pages.specs.Layout.{map_count}
+use Rattle.pages.specs.Image.{Volume, Map, Holds, NamesOnce, pages_in, IsCommitted}
 use Rattle.pages.specs.Changes.{changed, touched, ArePlaced}
 use Rattle.pages.specs.Use.{free_count}
-use Rattle.pages.specs.Needed.{needed}
+use Rattle.pages.specs.Needed.{needed, filled, Fills}
 use Rattle.pages.specs.Volumes.{volume_of, IsSound}
 use Rattle.pages.specs.Cache.{IsCacheOf}
 use Rattle.lru.specs.LruCache.{LruCache}
@@ -28,11 +29,23 @@ page_of m page = slice_index_or m.pages page None
 abbrev pub touched_of : PageMap → List ℕ
 touched_of p = touched p.changes.items
 
+-- how many of them have bytes: those that weren't released
+abbrev pub filled_of : PageMap → ℕ
+filled_of p = filled p.changes.items
+
+-- A page got bytes. Where it had been given some since the last commit, no more pages have some than before.
+abbrev pub FillsPage : PageMap → ℕ → PageMap → Type 0
+FillsPage old page new = Fills old.changes.items page new.changes.items
+
 abbrev pub catalog_of : PageMap → ℕ
 catalog_of p = p.catalog
 
 abbrev pub is_spent : PageMap → Bool
 is_spent p = p.spent
+
+-- the generation of the last commit
+abbrev pub generation_of : PageMap → ℕ
+generation_of p = p.volume.generation
 
 -- how many sectors the volume has, and how many page numbers
 abbrev pub sectors_of : PageMap → ℕ
@@ -68,7 +81,7 @@ HasChanges p = (touched_of p ≡ []) × (p.catalog ≡ p.volume.catalog) → ⊥
 
 -- the next commit writes, and too few sectors are free for it, or no generation is left
 abbrev pub IsFull : PageMap → Type 0
-IsFull p = HasChanges p × ((free_count (committed_of p) < needed_of p) ⊎ (2 ^ 63 ≤ p.volume.generation + 1))
+IsFull p = HasChanges p × ((free_count (committed_of p) < needed_of p) ⊎ (2 ^ 63 ≤ generation_of p + 1))
 
 pub record IsReady (p : PageMap) : Type 0 where
   pub sound : IsSound p.volume
@@ -97,6 +110,22 @@ pub record SameCommitted (old new : PageMap) : Type 0 where
 -- a commit needs at most two sectors for each page that was changed
 abbrev pub FewNeeded : Type 0
 FewNeeded = (p : PageMap) → needed_of p ≤ 2 * length (touched_of p)
+
+-- it needs at most one for each page that has bytes, and the map's sectors; no more pages have bytes than were changed
+abbrev pub NeededBy : Type 0
+NeededBy = (p : PageMap) → IsOpen p → is_spent p ≡ false → (needed_of p ≤ filled_of p + map_count (sectors_of p)) × (filled_of p ≤ length (touched_of p))
+
+-- so too few sectors are free only where fewer than that are
+abbrev pub ShortBy : Type 0
+ShortBy = (p : PageMap) → IsOpen p → is_spent p ≡ false → IsFull p → (free_count (committed_of p) < filled_of p + map_count (sectors_of p)) ⊎ (2 ^ 63 ≤ generation_of p + 1)
+
+-- a map that an image holds is within the bounds of a volume
+abbrev pub MapBounds : Type 0
+MapBounds = (image : List Sector) (m : Map) → Holds image m → (m.generation < 2 ^ 63) × (length m.pages ≤ 921600)
+
+-- and so is that of an opened volume
+abbrev pub OpenBounds : Type 0
+OpenBounds = (p : PageMap) (image : List Sector) → IsOpen p → is_spent p ≡ false → ((map_now p image).generation < 2 ^ 63) × (length (map_now p image).pages ≤ 921600)
 
 -- where each page number is used, fewer sectors are free than pages were changed
 abbrev pub FewFree : Type 0

@@ -7,8 +7,8 @@ ghost use Rattle.lru.specs.LruCache.{lru_cache, promoted, put_entries, IsValid};
 ghost use Rattle.pages.specs.Image.{pages_in};
 ghost use Rattle.pages.specs.Cache.{IsCacheOf, Recalls, forgotten};
 
-use crate::cached_page::CachedPage;
 use crate::error::PagesError;
+use crate::page_bytes::PageBytes;
 use crate::reading::read_page;
 use lru::LruCache;
 use station::Device;
@@ -19,7 +19,7 @@ use std::num::NonZeroUsize;
 pub(crate) fn new_cache(
     alloc: Global,
     capacity: usize,
-) -> Result<LruCache<u32, CachedPage>, AllocError>
+) -> Result<LruCache<u32, PageBytes>, AllocError>
     requires { 0 < capacity }
     ensures { IfOk result (λ cache. cache ≡ lru_cache [] capacity) }
 {
@@ -28,7 +28,7 @@ pub(crate) fn new_cache(
 }
 
 /// The page of a number, if the cache has it. It becomes the most recently used one.
-fn cached_page(cache: &mut LruCache<u32, CachedPage>, page: u32) -> Option<[u8; 4096]>
+fn cached_page(cache: &mut LruCache<u32, PageBytes>, page: u32) -> Option<[u8; 4096]>
     ensures value { result ≡ lookup (nat_eq page) cache.old.entries }
     ensures entries { cache.new ≡ lru_cache (promoted (nat_eq page) cache.old.entries) cache.old.cap }
     ensures none { IfNone result (cache.new ≡ cache.old) }
@@ -43,7 +43,7 @@ fn cached_page(cache: &mut LruCache<u32, CachedPage>, page: u32) -> Option<[u8; 
 /// Where memory has no place for it, it stays out of the cache.
 pub(crate) fn recall_page<D: Device>(
     alloc: Global,
-    cache: &mut LruCache<u32, CachedPage>,
+    cache: &mut LruCache<u32, PageBytes>,
     table: &[u32],
     device: &mut D,
     page: u32,
@@ -82,10 +82,10 @@ pub(crate) fn recall_page<D: Device>(
 /// A page comes into the cache, so far as memory allows.
 #[cold]
 #[inline(never)]
-fn keep_page(alloc: Global, cache: &mut LruCache<u32, CachedPage>, page: u32, bytes: [u8; 4096])
+fn keep_page(alloc: Global, cache: &mut LruCache<u32, PageBytes>, page: u32, bytes: [u8; 4096])
     ensures { (cache.new ≡ cache.old) ⊎ (cache.new ≡ lru_cache (put_entries nat_eq cache.old page bytes) cache.old.cap) }
 {
-    let kept = match CachedPage::new(alloc, bytes) {
+    let kept = match PageBytes::new(alloc, bytes) {
         Ok(kept) => kept,
         Err(_) => return,
     };
@@ -96,7 +96,7 @@ fn keep_page(alloc: Global, cache: &mut LruCache<u32, CachedPage>, page: u32, by
 }
 
 /// A page leaves the cache.
-pub(crate) fn forget_page(cache: &mut LruCache<u32, CachedPage>, page: u32)
+pub(crate) fn forget_page(cache: &mut LruCache<u32, PageBytes>, page: u32)
     ensures entries { cache.new ≡ forgotten page cache.old }
     ensures valid { IsValid nat_eq cache.old }
 {

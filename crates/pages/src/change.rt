@@ -1,18 +1,46 @@
 //! The pages that were changed since the last commit.
-ghost use Rattle.std.specs.Prelude.{◌≡◌, ◌≢◌, ◌<◌, ◌≤◌, ℕ, List, ◌++◌, ◌∷◌, [], length, slice_set, Option, OnOk, OnErr, IfSome, IfNone, slice_index_or, None, false, true, ◌^◌};
+ghost use Rattle.std.specs.Prelude.{◌≡◌, ◌≢◌, ◌<◌, ◌≤◌, ℕ, List, ◌+◌, ◌++◌, ◌∷◌, is_some, if◌then◌else◌, [], length, slice_set, Option, IfOk, OnOk, OnErr, IfSome, IfNone, slice_index_or, None, false, true, ◌^◌};
 ghost use Rattle.std.specs.List.{All, HoldsAt};
 ghost use Rattle.station.specs.Disk.{Sector};
 ghost use Rattle.pages.specs.Image.{NamesOnce};
 ghost use Rattle.pages.specs.Changes.{changed, touched, kept, Touches, ArePlaced};
+ghost use Rattle.pages.specs.Needed.{filled, Fills};
 
-use std::alloc::AllocError;
+use crate::page_bytes::PageBytes;
+use crate::volume::MAP_ENTRIES;
+use std::alloc::{AllocError, Global};
 use std::collections::HashMap;
 
 /// A page's new bytes, or none where it was released.
 #[derive(Drop)]
 pub(crate) struct Change {
     pub page: u32,
-    pub bytes: Option<[u8; 4096]>,
+    pub bytes: Option<PageBytes>,
+}
+
+impl Change {
+    /// The page's new bytes, or none.
+    pub(crate) fn bytes(&self) -> Option<[u8; 4096]>
+        ensures { result ≡ self.now.bytes }
+    {
+        match &self.bytes {
+            Some(kept) => Some(kept.bytes()),
+            None => None,
+        }
+    }
+}
+
+/// The bytes of a page, on the heap.
+pub(crate) fn keep_bytes(
+    alloc: Global,
+    bytes: Option<[u8; 4096]>,
+) -> Result<Option<PageBytes>, AllocError>
+    ensures { IfOk result (λ kept. kept ≡ bytes) }
+{
+    match bytes {
+        Some(bytes) => Ok(Some(PageBytes::new(alloc, bytes)?)),
+        None => Ok(None),
+    }
 }
 
 /// The place of a page's change.
@@ -52,7 +80,7 @@ pub(crate) fn set_change(
     changes: &mut Vec<Change>,
     places: &mut HashMap<u32, usize>,
     page: u32,
-    bytes: Option<[u8; 4096]>,
+    bytes: Option<PageBytes>,
 ) -> Result<(), AllocError>
     requires some { 0 < page }
     requires placed { ArePlaced changes.old.items places.old }
@@ -60,6 +88,8 @@ pub(crate) fn set_change(
     ensures changed { NamesOnce (touched changes.old.items) → OnOk result ((pages : List (Option Sector)) → changed pages changes.new.items ≡ slice_set (changed pages changes.old.items) page bytes) }
     ensures once { NamesOnce (touched changes.old.items) → OnOk result (NamesOnce (touched changes.new.items)) }
     ensures touches { OnOk result (Touches (touched changes.old.items) page (touched changes.new.items)) }
+    ensures filled { NamesOnce (touched changes.old.items) → filled changes.new.items ≤ filled changes.old.items + (if is_some bytes then 1 else 0) }
+    ensures fills { NamesOnce (touched changes.old.items) → OnOk result (IfSome bytes (λ _. Fills changes.old.items page changes.new.items)) }
     ensures bounds { (n : ℕ) → page < n → All (λ c. (0 < c.page) × (c.page < n)) changes.old.items → OnOk result (All (λ c. (0 < c.page) × (c.page < n)) changes.new.items) }
     ensures err { OnErr result (changes.new.items ≡ changes.old.items) }
 {
@@ -74,7 +104,12 @@ pub(crate) fn set_change(
 }
 
 /// Whether a page is in the map of this table and these changes.
-fn has_page(table: &[u32], changes: &[Change], places: &HashMap<u32, usize>, page: u32) -> bool
+pub(crate) fn is_kept(
+    table: &[u32],
+    changes: &[Change],
+    places: &HashMap<u32, usize>,
+    page: u32,
+) -> bool
     requires some { 0 < page }
     requires page { page < length table.now }
     requires once { NamesOnce (touched changes.now) }
@@ -105,19 +140,68 @@ fn unused_between(
 {
     for page in start..end {
         let number = page as u32;
-        if !has_page(table, changes, places, number) {
+        if !is_kept(table, changes, places, number) {
             return Some(number);
         }
     }
     None
 }
 
-/// A page number that isn't used: the first from `from` on, or else the first.
+/// A page number of a run that isn't used, from `from` on, unless the run is noted as one without any.
+fn unused_in_run(
+    table: &[u32],
+    changes: &[Change],
+    places: &HashMap<u32, usize>,
+    from: usize,
+    passed: &[bool],
+    run: usize,
+) -> Option<u32>
+    requires few { length table.now < 2 ^ 32 }
+    requires once { NamesOnce (touched changes.now) }
+    requires placed { ArePlaced changes.now places.now }
+    requires run { run < length passed.now }
+    ensures { IfSome result (λ page. (0 < page) × (page < length table.now) × (slice_index_or (kept table.now changes.now) page false ≡ false)) }
+{
+    if passed[run] {
+        return None;
+    }
+    let first = run.saturating_mul(MAP_ENTRIES);
+    let start = from.max(first).max(1);
+    let end = table.len().min(first.saturating_add(MAP_ENTRIES));
+    match unused_between(table, changes, places, start, end) {
+        Some(page) => Some(page),
+        None => None,
+    }
+}
+
+/// A page number that isn't used, from `from` on, in a run that isn't noted as one without any.
+fn unused_from(
+    table: &[u32],
+    changes: &[Change],
+    places: &HashMap<u32, usize>,
+    from: usize,
+    passed: &[bool],
+) -> Option<u32>
+    requires few { length table.now < 2 ^ 32 }
+    requires once { NamesOnce (touched changes.now) }
+    requires placed { ArePlaced changes.now places.now }
+    ensures { IfSome result (λ page. (0 < page) × (page < length table.now) × (slice_index_or (kept table.now changes.now) page false ≡ false)) }
+{
+    for run in from / MAP_ENTRIES..passed.len() {
+        if let Some(page) = unused_in_run(table, changes, places, from, passed, run) {
+            return Some(page);
+        }
+    }
+    None
+}
+
+/// A page number that isn't used: the first from `from` on that the notes don't pass over, or else the first.
 pub(crate) fn unused_page(
     table: &[u32],
     changes: &[Change],
     places: &HashMap<u32, usize>,
     from: usize,
+    passed: &[bool],
 ) -> Option<u32>
     requires few { length table.now < 2 ^ 32 }
     requires once { NamesOnce (touched changes.now) }
@@ -125,10 +209,32 @@ pub(crate) fn unused_page(
     ensures found { IfSome result (λ page. (0 < page) × (page < length table.now) × (slice_index_or (kept table.now changes.now) page false ≡ false)) }
     ensures full { IfNone result ((n : ℕ) → 0 < n → n < length table.now → slice_index_or (kept table.now changes.now) n false ≡ true) }
 {
-    let end = table.len();
-    let start = if from == 0 { 1 } else { from };
-    match unused_between(table, changes, places, start, end) {
+    if let Some(page) = unused_from(table, changes, places, from, passed) {
+        return Some(page);
+    }
+    match unused_between(table, changes, places, 1, table.len()) {
         Some(page) => Some(page),
-        None => unused_between(table, changes, places, 1, start.min(end)),
+        None => None,
+    }
+}
+
+/// Notes the runs from a page number on, up to that of another, as runs without unused ones.
+pub(crate) fn pass_runs(passed: &mut Vec<bool>, from: u32, page: u32)
+    ensures { length passed.new.items ≡ length passed.old.items }
+{
+    let start = from as usize / MAP_ENTRIES;
+    let end = passed.len().min(page as usize / MAP_ENTRIES);
+    for run in start..end {
+        passed[run] = true;
+    }
+}
+
+/// The run of a page that is released has an unused number.
+pub(crate) fn forget_run(passed: &mut Vec<bool>, page: u32)
+    ensures { length passed.new.items ≡ length passed.old.items }
+{
+    let run = page as usize / MAP_ENTRIES;
+    if run < passed.len() {
+        passed[run] = false;
     }
 }

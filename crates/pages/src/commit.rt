@@ -1,5 +1,5 @@
 //! A volume's next generation is put on the disk.
-ghost use Rattle.std.specs.Prelude.{◌≡◌, ◌⊎◌, ◌<◌, ◌≤◌, ◌↔◌, Err, length, OnOk};
+ghost use Rattle.std.specs.Prelude.{◌≡◌, ◌⊎◌, ◌+◌, ◌<◌, ◌≤◌, ◌↔◌, Err, length, OnOk};
 ghost use Rattle.std.specs.List.{All};
 ghost use Rattle.station.specs.State.{SameConsole};
 ghost use Rattle.station.specs.History.{Through};
@@ -49,7 +49,8 @@ pub(crate) fn commit_volume<D: Device>(
     ensures map { D.is_honest device.old → IsCommitted (volume_of volume.old) (D.state device.old).disk → OnOk result (map_of (D.state device.new).disk.present (volume_of volume.new)
         ≡ next_map (map_of (D.state device.old).disk.present (volume_of volume.old)) changes.now catalog) }
     ensures sound { OnOk result (IsSound volume.new) }
-    ensures same_sectors { OnOk result (volume.new.sectors ≡ volume.old.sectors) }
+    ensures same_sectors { volume.new.sectors ≡ volume.old.sectors }
+    ensures next { OnOk result ((volume.new.generation ≡ volume.old.generation + 1) × (volume.new.catalog ≡ catalog)) }
 
     // `Full` tells that too few sectors are free, or that no generation is left, and then nothing was done.
     ensures short { result ≡ Err PagesError.Full → IsShort (volume_of volume.old) changes.now }

@@ -95,6 +95,7 @@ pub(crate) fn set_page(
 ) -> Result<(), PagesError>
     requires page { page < length volume.old.table.items }
     requires dirty { page / 1024 < length draft.old.dirty.items }
+    ensures sectors { volume.new.sectors ≡ volume.old.sectors }
     ensures set { OnOk result (SetsPage volume.old volume.new draft.old draft.new page sector) }
     ensures cause { IsOkUnless result PagesError.Memory }
 {
@@ -112,6 +113,7 @@ pub(crate) fn set_map(
     sector: u32,
 ) -> Result<(), PagesError>
     requires { map < length volume.old.maps.items }
+    ensures sectors { volume.new.sectors ≡ volume.old.sectors }
     ensures set { OnOk result (SetsMap volume.old volume.new draft.old draft.new map sector) }
     ensures cause { IsOkUnless result PagesError.Memory }
 {

@@ -3,7 +3,7 @@ ghost use Rattle.std.specs.Prelude.{◌≡◌, List};
 ghost use Rattle.station.specs.Disk.{Sector};
 ghost use Rattle.pages.specs.Layout.{IsForeign};
 ghost use Rattle.pages.specs.Image.{Map, Holds};
-ghost use Rattle.pages.specs.Pages.{FewNeeded, FewFree};
+ghost use Rattle.pages.specs.Pages.{FewNeeded, NeededBy, ShortBy, MapBounds, OpenBounds, FewFree};
 
 /// An image holds at most one map.
 pub fn one_map()
@@ -18,6 +18,19 @@ pub fn map_is_own()
 /// A commit needs at most two sectors for each page that was changed: one for its bytes, and one for its map sector.
 pub fn few_needed()
     ensures { FewNeeded }
+{}
+
+/// A commit needs at most a sector for each changed page that has bytes, and the sectors of the map. It answers `Full` only where
+/// fewer sectors than that are free, or no generation is left.
+pub fn needed_by()
+    ensures needed { NeededBy }
+    ensures short { ShortBy }
+{}
+
+/// A map that an image holds, and one of an opened volume, has a generation below 2^63 and at most 921,600 page numbers.
+pub fn map_bounds()
+    ensures held { MapBounds }
+    ensures open { OpenBounds }
 {}
 
 /// Where `allocate` answers `Full`, the volume has fewer free sectors than pages were changed since the last commit.

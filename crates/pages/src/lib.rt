@@ -4,7 +4,6 @@
 #![tactic(auto)]
 
 mod cache;
-mod cached_page;
 mod change;
 mod commit;
 mod draft;
@@ -14,6 +13,7 @@ mod laws;
 mod marks;
 mod numbers;
 mod open;
+mod page_bytes;
 mod page_map;
 mod payload;
 mod plan;
@@ -24,5 +24,5 @@ mod volume;
 
 pub use empty::format;
 pub use error::PagesError;
-pub use laws::{few_free, few_needed, map_is_own, one_map};
+pub use laws::{few_free, few_needed, map_bounds, map_is_own, needed_by, one_map};
 pub use page_map::PageMap;

@@ -1,5 +1,5 @@
 //! The pages of a volume, as their user sees them: a finite map from page numbers to pages, beside the page of the catalog's root.
-ghost use Rattle.std.specs.Prelude.{◌≡◌, ◌⊎◌, ◌<◌, ◌≤◌, ◌↔◌, Err, Some, None, true, false, replicate, List, [], length, slice_set, map, IsOk, IfOk, IfErr, OnOk, OnErr};
+ghost use Rattle.std.specs.Prelude.{◌≡◌, ◌⊎◌, ◌+◌, ◌^◌, is_some, IfSome, if◌then◌else◌, ◌<◌, ◌≤◌, ◌↔◌, Err, Some, None, true, false, replicate, List, [], length, slice_set, map, IsOk, IfOk, IfErr, OnOk, OnErr};
 ghost use Rattle.station.specs.Disk.{Sector};
 ghost use Rattle.station.specs.State.{synced, SameConsole};
 ghost use Rattle.station.specs.History.{Through};
@@ -14,11 +14,13 @@ ghost use Rattle.pages.specs.Errors.{IsEditRefusal, IsAllocateRefusal, IsCommitR
 ghost use Rattle.pages.specs.Use.{free_count};
 
 use crate::cache::{forget_page, new_cache, recall_page};
-use crate::cached_page::CachedPage;
-use crate::change::{Change, find_change, set_change, unused_page};
+use crate::change::{
+    Change, find_change, forget_run, is_kept, keep_bytes, pass_runs, set_change, unused_page,
+};
 use crate::commit::commit_volume;
 use crate::error::PagesError;
 use crate::open::open_volume;
+use crate::page_bytes::PageBytes;
 use crate::volume::VolumeMap;
 use lru::LruCache;
 use station::Device;
@@ -32,17 +34,20 @@ pub struct PageMap {
     volume: VolumeMap,
     changes: Vec<Change>,
     /// Pages as committed. A page that was changed since isn't there.
-    cache: LruCache<u32, CachedPage>,
+    cache: LruCache<u32, PageBytes>,
     /// The place of each page's change.
     places: HashMap<u32, usize>,
     /// Where the search for an unused page number begins.
     next_page: u32,
+    /// The runs of page numbers, one a map sector, that had no unused one when they were looked through. They are looked through
+    /// again where no other has one.
+    passed: Vec<bool>,
     catalog: u32,
     spent: bool,
 }
 
 impl PageMap {
-    ghost use Rattle.pages.specs.Pages.{committed_of, map_now, page_of, touched_of, catalog_of, is_spent, sectors_of, page_count, IsPage, HasEachPage, IsFull, Agrees, IsOpen, advanced, SamePages, SameCommitted, cache_of};
+    ghost use Rattle.pages.specs.Pages.{committed_of, map_now, page_of, touched_of, filled_of, FillsPage, HasChanges, catalog_of, is_spent, sectors_of, page_count, IsPage, HasEachPage, IsFull, Agrees, IsOpen, advanced, SamePages, SameCommitted, cache_of};
     ghost use Rattle.std.specs.Map.{lookup};
     ghost use Rattle.std.specs.Prelude.{Ok, nat_eq, Contains, IsSome};
     ghost use Rattle.pages.specs.Cache.{Recalls, forgotten};
@@ -69,6 +74,7 @@ impl PageMap {
         ensures agrees { D.is_honest device.old → IfOk result (λ pages. Agrees pages (D.state device.new).disk) }
         ensures map { IfOk result (λ pages. (image : List Sector) → map_now pages image ≡ map_of image (committed_of pages)) }
         ensures ready { IfOk result (λ pages. IsOpen pages × (is_spent pages ≡ false) × (sectors_of pages ≤ D.sectors device.old) × (touched_of pages ≡ [])) }
+        ensures filled { IfOk result (λ pages. filled_of pages ≡ 0) }
         ensures cache { IfOk result (λ pages. (cache_of pages).cap ≡ capacity) }
 
         // Where neither the device nor memory fails, it opens exactly what holds a map, and answers `ForeignMark` exactly where the
@@ -82,6 +88,7 @@ impl PageMap {
         let volume = open_volume(alloc, device)?;
         let catalog = volume.catalog;
         let cache = new_cache(alloc, capacity)?;
+        let passed = vec![in alloc; false; volume.maps.len()]?;
         Ok(PageMap {
             alloc,
             volume,
@@ -89,6 +96,7 @@ impl PageMap {
             cache,
             places: HashMap::new(alloc),
             next_page: 1,
+            passed,
             catalog,
             spent: false,
         })
@@ -106,6 +114,7 @@ impl PageMap {
         ensures catalog { catalog_of self.new ≡ page }
         ensures pages { (image : List Sector) → (map_now self.new image).pages ≡ (map_now self.old image).pages }
         ensures touched { touched_of self.new ≡ touched_of self.old }
+        ensures filled { filled_of self.new ≡ filled_of self.old }
         ensures committed { SameCommitted self.old self.new }
         ensures agrees { (disk : Disk) → Agrees self.old disk → Agrees self.new disk }
         ensures cache { cache_of self.new ≡ cache_of self.old }
@@ -119,6 +128,36 @@ impl PageMap {
         ensures { result ≡ length (touched_of self.now) }
     {
         self.changes.len()
+    }
+
+    /// The generation of the last commit. Each commit that writes raises it by one.
+    pub fn generation(&self) -> u64
+        ensures is { (image : List Sector) → (map_now self.now image).generation ≡ result }
+        ensures few { IsOpen self.now → is_spent self.now ≡ false → result < 2 ^ 63 }
+    {
+        self.volume.generation
+    }
+
+    /// Whether a commit was refused before, so that each call that may be refused answers `Spent`.
+    pub fn is_spent(&self) -> bool
+        ensures { result ≡ is_spent self.now }
+    {
+        self.spent
+    }
+
+    /// Whether a page is in the map, whatever its number.
+    pub fn has_page(&self, page: u32) -> bool
+        requires open { IsOpen self.now }
+        requires unspent { is_spent self.now ≡ false }
+        ensures { (image : List Sector) → result ≡ is_some (page_of (map_now self.now image) page) }
+    {
+        if page == 0 {
+            return false;
+        }
+        if page as usize >= self.volume.table.len() {
+            return false;
+        }
+        is_kept(&self.volume.table, &self.changes, &self.places, page)
     }
 
     /// How many page numbers the volume has, 0 among them.
@@ -171,6 +210,7 @@ impl PageMap {
         // The map stays, and what is known of it. A refusal changes nothing.
         ensures map { (image : List Sector) → map_now self.new image ≡ map_now self.old image }
         ensures touched { touched_of self.new ≡ touched_of self.old }
+        ensures filled { filled_of self.new ≡ filled_of self.old }
         ensures committed { SameCommitted self.old self.new }
         ensures agrees { D.is_honest device.old → Agrees self.old (D.state device.old).disk → Agrees self.new (D.state device.new).disk }
         ensures open { IsOpen self.new }
@@ -191,7 +231,7 @@ impl PageMap {
             return Err(PagesError::Spent);
         }
         match find_change(&self.changes, &self.places, page) {
-            Some(i) => Ok(self.changes[i].bytes),
+            Some(i) => Ok(self.changes[i].bytes()),
             None => recall_page(
                 self.alloc,
                 &mut self.cache,
@@ -210,6 +250,9 @@ impl PageMap {
         ensures catalog { catalog_of self.new ≡ catalog_of self.old }
         ensures touches { OnOk result (Touches (touched_of self.old) page (touched_of self.new)) }
         ensures untouched { OnErr result (touched_of self.new ≡ touched_of self.old) }
+        ensures filled { filled_of self.new ≤ filled_of self.old + 1 }
+        ensures fills { OnOk result (FillsPage self.old page self.new) }
+        ensures unfilled { OnErr result (filled_of self.new ≡ filled_of self.old) }
         ensures err { OnErr result ((image : List Sector) → map_now self.new image ≡ map_now self.old image) }
         ensures committed { SameCommitted self.old self.new }
         ensures agrees { (disk : Disk) → Agrees self.old disk → Agrees self.new disk }
@@ -232,6 +275,9 @@ impl PageMap {
         ensures catalog { catalog_of self.new ≡ catalog_of self.old }
         ensures touches { IfOk result (λ page. Touches (touched_of self.old) page (touched_of self.new)) }
         ensures untouched { OnErr result (touched_of self.new ≡ touched_of self.old) }
+        ensures filled { filled_of self.new ≤ filled_of self.old + 1 }
+        ensures fills { IfOk result (λ page. FillsPage self.old page self.new) }
+        ensures unfilled { OnErr result (filled_of self.new ≡ filled_of self.old) }
         ensures err { OnErr result ((image : List Sector) → map_now self.new image ≡ map_now self.old image) }
         ensures committed { SameCommitted self.old self.new }
         ensures agrees { (disk : Disk) → Agrees self.old disk → Agrees self.new disk }
@@ -252,11 +298,13 @@ impl PageMap {
             &self.changes,
             &self.places,
             self.next_page as usize,
+            &self.passed,
         ) {
             Some(page) => page,
             None => return Err(PagesError::Full),
         };
         self.change(page, Some([0; 4096]))?;
+        pass_runs(&mut self.passed, self.next_page, page);
         self.next_page = page + 1;
         Ok(page)
     }
@@ -269,6 +317,8 @@ impl PageMap {
         ensures catalog { catalog_of self.new ≡ catalog_of self.old }
         ensures touches { OnOk result (Touches (touched_of self.old) page (touched_of self.new)) }
         ensures untouched { OnErr result (touched_of self.new ≡ touched_of self.old) }
+        ensures filled { filled_of self.new ≤ filled_of self.old }
+        ensures unfilled { OnErr result (filled_of self.new ≡ filled_of self.old) }
         ensures err { OnErr result ((image : List Sector) → map_now self.new image ≡ map_now self.old image) }
         ensures committed { SameCommitted self.old self.new }
         ensures agrees { (disk : Disk) → Agrees self.old disk → Agrees self.new disk }
@@ -280,6 +330,7 @@ impl PageMap {
         ensures spent { (result ≡ Err PagesError.Spent) ↔ (is_spent self.old ≡ true) }
     {
         self.change(page, None)?;
+        forget_run(&mut self.passed, page);
         if page < self.next_page {
             self.next_page = page;
         }
@@ -294,6 +345,9 @@ impl PageMap {
         ensures catalog { catalog_of self.new ≡ catalog_of self.old }
         ensures touches { OnOk result (Touches (touched_of self.old) page (touched_of self.new)) }
         ensures untouched { OnErr result (touched_of self.new ≡ touched_of self.old) }
+        ensures filled { filled_of self.new ≤ filled_of self.old + (if is_some bytes then 1 else 0) }
+        ensures fills { OnOk result (IfSome bytes (λ _. FillsPage self.old page self.new)) }
+        ensures unfilled { OnErr result (filled_of self.new ≡ filled_of self.old) }
         ensures err { OnErr result ((image : List Sector) → map_now self.new image ≡ map_now self.old image) }
         ensures committed { SameCommitted self.old self.new }
         ensures agrees { (disk : Disk) → Agrees self.old disk → Agrees self.new disk }
@@ -307,7 +361,8 @@ impl PageMap {
         if self.spent {
             return Err(PagesError::Spent);
         }
-        set_change(&mut self.changes, &mut self.places, page, bytes)?;
+        let kept = keep_bytes(self.alloc, bytes)?;
+        set_change(&mut self.changes, &mut self.places, page, kept)?;
         forget_page(&mut self.cache, page);
         Ok(())
     }
@@ -330,7 +385,13 @@ impl PageMap {
         // After `Ok` the disk holds this one.
         ensures agrees { D.is_honest device.old → Agrees self.old (D.state device.old).disk → OnOk result (Agrees self.new (D.state device.new).disk) }
         ensures map { D.is_honest device.old → Agrees self.old (D.state device.old).disk → OnOk result (SamePages (map_now self.old (D.state device.old).disk.present) (map_now self.new (D.state device.new).disk.present)) }
+        ensures committed { OnOk result ((image : List Sector) → map_now self.new image ≡ map_of image (committed_of self.new)) }
         ensures touched { OnOk result (touched_of self.new ≡ []) }
+        ensures filled { OnOk result (filled_of self.new ≡ 0) }
+
+        // Where something was changed, it is the map of the next generation, and else nothing is other than before.
+        ensures advances { D.is_honest device.old → Agrees self.old (D.state device.old).disk → HasChanges self.old → OnOk result (map_now self.new (D.state device.new).disk.present ≡ advanced (map_now self.old (D.state device.old).disk.present)) }
+        ensures rests { (HasChanges self.old → ⊥) → is_spent self.old ≡ false → self.new ≡ self.old }
 
         // With nothing changed nothing is done.
         ensures nothing { touched_of self.old ≡ [] → catalog_of self.old ≡ (committed_of self.old).root.catalog → D.is_honest device.old → (D.state device.new ≡ D.state device.old) × (D.history device.new ≡ D.history device.old) }
@@ -341,7 +402,7 @@ impl PageMap {
         ensures told { is_spent self.old ≡ false → IsFull self.old → (result ≡ Err PagesError.Full) ⊎ (result ≡ Err PagesError.Memory) }
         ensures untouched { result ≡ Err PagesError.Full → D.is_honest device.old → (D.state device.new ≡ D.state device.old) × (D.history device.new ≡ D.history device.old) }
         ensures open { IsOpen self.new }
-        ensures same_sectors { OnOk result (sectors_of self.new ≡ sectors_of self.old) }
+        ensures same_sectors { sectors_of self.new ≡ sectors_of self.old }
         ensures cache { cache_of self.new ≡ cache_of self.old }
         ensures refused { OnErr result (is_spent self.new ≡ true) }
         ensures cause { IsCommitRefusal result }
@@ -361,8 +422,9 @@ impl PageMap {
             &self.changes,
             self.catalog,
         )?;
-        self.changes.clear();
-        self.places.clear();
+        // What a large commit took of memory is given back.
+        self.changes = Vec::new(self.alloc);
+        self.places = HashMap::new(self.alloc);
         self.spent = false;
         Ok(())
     }

@@ -44,6 +44,7 @@ pub(crate) fn next_volume(
     requires once { NamesOnce (touched changes.now) }
     ensures cause { IsPlanError result }
     ensures plan { IfOk result (λ draft. IsPlan (volume_of volume.old) (volume_of volume.new) draft.blocks.items changes.now) }
+    ensures sectors { volume.new.sectors ≡ volume.old.sectors }
     ensures next { OnOk result (IsNext volume.old volume.new catalog) }
     ensures sound { IfOk result (λ draft. IsSoundAfter volume.new draft.turns.items) }
     ensures full { result ≡ Err PagesError.Full → IsShort (volume_of volume.old) changes.now }

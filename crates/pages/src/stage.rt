@@ -25,6 +25,7 @@ pub(crate) fn stage_change(
     requires page { change.now.page < length volume.old.table.items }
     requires dirty { change.now.page / 1024 < length draft.old.dirty.items }
     ensures cause { IsPlanError result }
+    ensures sectors { volume.new.sectors ≡ volume.old.sectors }
     ensures size { OnOk result (SameSize volume.old volume.new) }
     ensures maps { OnOk result (volume.new.maps ≡ volume.old.maps) }
     ensures dirty { OnOk result (length draft.new.dirty.items ≡ length draft.old.dirty.items) }
@@ -35,7 +36,7 @@ pub(crate) fn stage_change(
     let page = change.page as usize;
     match &change.bytes {
         Some(bytes) => {
-            let sector = place_block(&volume.used, draft, bytes)?;
+            let sector = place_block(&volume.used, draft, bytes.view())?;
             set_page(volume, draft, page, sector)
         }
         None => release_page(volume, draft, page),
@@ -50,6 +51,7 @@ pub(crate) fn release_page(
 ) -> Result<(), PagesError>
     requires page { page < length volume.old.table.items }
     requires dirty { page / 1024 < length draft.old.dirty.items }
+    ensures sectors { volume.new.sectors ≡ volume.old.sectors }
     ensures released { OnOk result (ReleasesPage volume.old volume.new draft.old draft.new page) }
     ensures cause { IsOkUnless result PagesError.Memory }
 {
@@ -69,6 +71,7 @@ pub(crate) fn stage_changes(
     requires pages { All (λ c. (0 < c.page) × (c.page < length volume.old.table.items)) changes.now }
     requires count { length volume.old.table.items ≡ 1024 * length draft.old.dirty.items }
     ensures cause { IsPlanError result }
+    ensures sectors { volume.new.sectors ≡ volume.old.sectors }
     ensures size { OnOk result (SameSize volume.old volume.new) }
     ensures maps { OnOk result (volume.new.maps ≡ volume.old.maps) }
     ensures dirty { OnOk result (length draft.new.dirty.items ≡ length draft.old.dirty.items) }
@@ -111,6 +114,7 @@ pub(crate) fn stage_map(
     requires dirty { map < length draft.old.dirty.items }
     requires count { length volume.old.table.items ≡ 1024 * length volume.old.maps.items }
     ensures cause { IsPlanError result }
+    ensures sectors { volume.new.sectors ≡ volume.old.sectors }
     ensures size { OnOk result (SameSize volume.old volume.new) }
     ensures dirty { OnOk result (draft.new.dirty ≡ draft.old.dirty) }
     ensures mapped { (v : Volume) (changes : List Change) → IsMappedDraft v volume.old draft.old changes map → OnOk result (IsMappedDraft v volume.new draft.new changes (map + 1)) }
@@ -135,6 +139,7 @@ pub(crate) fn stage_maps(volume: &mut VolumeMap, draft: &mut Draft) -> Result<()
     requires count { length volume.old.table.items ≡ 1024 * length volume.old.maps.items }
     requires dirty { length draft.old.dirty.items ≡ length volume.old.maps.items }
     ensures cause { IsPlanError result }
+    ensures sectors { volume.new.sectors ≡ volume.old.sectors }
     ensures size { OnOk result (SameSize volume.old volume.new) }
     ensures mapped { (v : Volume) (changes : List Change) → IsMappedDraft v volume.old draft.old changes 0 → OnOk result (IsMappedDraft v volume.new draft.new changes (length volume.old.maps.items)) }
     ensures counted { (v : Volume) (changes : List Change) → IsCounted v volume.old draft.old changes 0 → OnOk result (IsCounted v volume.new draft.new changes (written_below v changes (length volume.old.maps.items))) }

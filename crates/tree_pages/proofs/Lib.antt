@@ -6,3 +6,4 @@ pub mod Order
 pub mod Places
 pub mod Rows
 pub mod Views
+pub mod Zeros

@@ -1,6 +1,6 @@
 -- A page of a tree as data: its kind and its rows (own choice). Byte 0 tells the kind, 1 for a leaf and 2 for an inner page; bytes
--- 2 and 3 are the number of rows, big-endian; rows stand from byte 16 on. No reader looks at the other bytes, which are written as zeros.
-use Rattle.std.specs.Prelude.{◌≡◌, ◌≤◌, ◌==◌, ℕ, zero, suc, List, [], ◌∷◌, length, take, drop, slice_index, Option, Some, None, nat_le, if◌then◌else◌}
+-- 2 and 3 are the number of rows, big-endian; rows stand from byte 16 on. No reader looks at the other bytes. They are written as zeros.
+use Rattle.std.specs.Prelude.{◌≡◌, ◌⊎◌, ◌<◌, ◌≤◌, ◌+◌, ◌*◌, ◌==◌, ℕ, zero, suc, List, [], ◌∷◌, length, take, drop, slice_index, Option, Some, None, nat_le, if◌then◌else◌}
 use Rattle.std.specs.List.{All}
 use Rattle.byteorder.specs.Endian.{big_number}
 use Rattle.tree_pages.specs.declared.form.TreeForm.{TreeForm}
@@ -34,6 +34,14 @@ node_of_kind form bytes (Some kind) =
 -- what a page is in a tree of this form, if its kind is one of the two and its rows fit
 abbrev pub node_in : TreeForm → List ℕ → Option Node
 node_in form bytes = node_of_kind form bytes (kind_in (slice_index bytes 0))
+
+-- a place of a page's bytes that names neither the kind nor the number of rows, and is in no row
+abbrev pub IsUnnamed : Node → ℕ → Type 0
+IsUnnamed node place = (place ≡ 1) ⊎ ((4 ≤ place) × (place < 16)) ⊎ (16 + length node.rows * row_length node.form node.kind ≤ place)
+
+-- the bytes at such places are zeros
+abbrev pub HasZeros : Node → List ℕ → Type 0
+HasZeros node bytes = (place : ℕ) → IsUnnamed node place → slice_index bytes place ≡ 0
 
 -- the rows are of the length that the form tells, and fit
 pub record IsNode (node : Node) : Type 0 where

@@ -2,12 +2,12 @@
 ghost use Rattle.std.specs.Prelude.{◌≡◌, ◌≤◌, ◌<◌, ◌+◌, ◌++◌, length, take, drop, Some};
 ghost use Rattle.byteorder.specs.Endian.{big_bytes};
 ghost use Rattle.tree_pages.specs.Form.{IsForm, capacity, rest_length};
-ghost use Rattle.tree_pages.specs.Node.{node_in};
+ghost use Rattle.tree_pages.specs.Node.{HasZeros, node_in};
 ghost use Rattle.tree_pages.specs.Edits.{empty_node, inserted, removed, with_key, with_rest, with_rows};
 
 use crate::form::{Kind, TreeForm};
 use crate::layout::{head, joined};
-use crate::row_bytes::{append_rows, insert_row, put_key, put_rest, remove_row, split_rows};
+use crate::row_bytes::{append_rows, front, insert_row, put_key, put_rest, remove_row, split_rows};
 use crate::tree_page::TreePage;
 
 impl TreePage {
@@ -24,11 +24,14 @@ impl TreePage {
         }
     }
 
-    /// The bytes that `read` reads this page from.
+    /// The bytes that `read` reads this page from. Those that name nothing are zeros.
     pub fn bytes(&self) -> [u8; 4096]
-        ensures { node_in self.now.form result ≡ Some self.now }
+        ensures reads { node_in self.now.form result ≡ Some self.now }
+        ensures zeros { HasZeros self.now result }
     {
-        joined(&head(self.kind, self.count), &self.bytes)
+        let end = self.count * self.form.row_length(self.kind);
+        let rows = front(&self.bytes, end);
+        joined(&head(self.kind, self.count), &rows)
     }
 
     /// A row comes to this place. There must be room for it.

@@ -1,5 +1,5 @@
 //! Where what stands in a page's bytes. This project's own choice.
-ghost use Rattle.std.specs.Prelude.{◌≡◌, ◌≤◌, ◌++◌, length, drop, Some, slice_index};
+ghost use Rattle.std.specs.Prelude.{◌≡◌, ◌⊎◌, ◌≤◌, ◌++◌, ℕ, length, drop, Some, slice_index};
 ghost use Rattle.byteorder.specs.Endian.{big_number};
 ghost use Rattle.tree_pages.specs.Node.{kind_in};
 
@@ -45,6 +45,7 @@ pub(crate) fn head(kind: Kind, count: usize) -> [u8; 16]
     ensures kind { kind_in (slice_index result 0) ≡ Some kind }
     ensures count { big_number 2 (drop 2 result) ≡ count }
     ensures long { length result ≡ 16 }
+    ensures zeros { (place : ℕ) → (place ≡ 1) ⊎ (4 ≤ place) → slice_index result place ≡ 0 }
 {
     let mut bytes = [0; 16];
     bytes[0] = kind_byte(kind);

@@ -31,6 +31,16 @@ fn erase(bytes: &mut [u8; 4080], at: usize, count: usize)
     bytes[at..at + count].fill(0);
 }
 
+/// The bytes before this place, and zeros.
+pub(crate) fn front(bytes: &[u8; 4080], end: usize) -> [u8; 4080]
+    requires { end ≤ 4080 }
+    ensures { result ≡ take end bytes.now ++ replicate (4080 - end) 0 }
+{
+    let mut kept = *bytes;
+    erase(&mut kept, end, 4080 - end);
+    kept
+}
+
 /// A row comes to this place: a key and what stands behind it.
 pub(crate) fn insert_row(
     bytes: &mut [u8; 4080],

@@ -27,6 +27,7 @@ loop-place-preserved c =
           let low : slice_index_or c.args.numbers.now loop.place 0 < length (pages_of_map loop.pages image) = omega arith in
           moves_next c.args.numbers.now loop.place (pages_of_map c.args.pages.now image) (pages_of_map loop.pages image) (pages_of_map c.release.new.self image) c.loop-place-test.true low (loop.invariant.moves image)
           (c.in_ok-release.ensures.map image);
+      filled = omega (arith, c.release.ensures.filled, loop.invariant.filled);
       keeps = keeps_on c.args.pages.now loop.pages c.release.new.self loop.invariant.keeps
           (record { committed = c.release.ensures.committed; catalog = c.release.ensures.catalog; agrees = c.release.ensures.agrees });
       is_open = c.release.ensures.open;

@@ -1,6 +1,6 @@
-use Rattle.std.proofs.Common.{List, [], take}
+use Rattle.std.proofs.Common.{◌≤◌, List, [], take}
 use Rattle.station.specs.Disk.{Sector}
-use Rattle.pages.specs.Pages.{IsOpen}
+use Rattle.pages.specs.Pages.{IsOpen, filled_of}
 use Rattle.btree.specs.Moves.{Moves}
 use Rattle.btree.specs.Changes.{pages_of_map, Keeps}
 use Rattle.btree.proofs.clear.release_pages.Given as goal
@@ -8,6 +8,7 @@ use Rattle.btree.proofs.clear.release_pages.Given as goal
 abbrev pub invariant-loop-place : goal.invariant-loop-place
 invariant-loop-place l = record {
   moves : (image : List Sector) → Moves (pages_of_map l.fn.pages image) (take l.place l.numbers) (pages_of_map l.pages image) [];
+  filled : filled_of l.pages ≤ filled_of l.fn.pages;
   keeps : Keeps l.fn.pages l.pages;
   is_open : IsOpen l.pages;
 }

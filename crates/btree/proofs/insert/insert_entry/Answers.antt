@@ -114,3 +114,27 @@ pub returns-in_err-entered-clause-full : goal.returns-in_err-entered-clause-full
 returns-in_err-entered-clause-full g c = λ is.
     let told = rw is at c.from_residual-in_err-entered.ensures.1 in
     c.in_err-entered.ensures.full (cc told)
+
+pub returns-in_err-entered-clause-filled : goal.returns-in_err-entered-clause-filled
+returns-in_err-entered-clause-filled g c = λ honest agrees levels holds.
+    let image = (g.D.Device.state c.args.device.now).disk.present in
+    let before = pages_of_map c.args.pages.now image in
+    let d = c.in_ok-descent.descent in
+    let tree = holds_tree c.args.form before c.args.root levels holds c.if-root-eq0.false in
+    let unspent : is_spent c.args.pages.now ≡ false = false_unless (is_spent c.args.pages.now) (λ spent. ok_or_err d Spent (sym c.in_ok-descent.was ∙ c.descend.ensures.spent.1 spent)) in
+    let small = few_pages before (page_count c.args.pages.now) c.page_count-page_count.result (c.page_count-page_count.ensures.pages image) c.page_count-page_count.ensures.count (c.page_count-page_count.ensures.few c.requires.open unspent) in
+    let turns = few_turns c.args.form c.args.key.now before c.args.root levels d.path.items d.page d.leaf.rows d.right small tree (c.in_ok-descent.ensures.way honest agrees levels tree) in
+    let same = c.descend.ensures.untouched.filled in
+    omega (arith, turns, c.enter.ensures.filled, same)
+
+pub returns-clause-filled : goal.returns-clause-filled
+returns-clause-filled g c = λ honest agrees levels holds.
+    let image = (g.D.Device.state c.args.device.now).disk.present in
+    let before = pages_of_map c.args.pages.now image in
+    let d = c.in_ok-descent.descent in
+    let tree = holds_tree c.args.form before c.args.root levels holds c.if-root-eq0.false in
+    let unspent : is_spent c.args.pages.now ≡ false = false_unless (is_spent c.args.pages.now) (λ spent. ok_or_err d Spent (sym c.in_ok-descent.was ∙ c.descend.ensures.spent.1 spent)) in
+    let small = few_pages before (page_count c.args.pages.now) c.page_count-page_count.result (c.page_count-page_count.ensures.pages image) c.page_count-page_count.ensures.count (c.page_count-page_count.ensures.few c.requires.open unspent) in
+    let turns = few_turns c.args.form c.args.key.now before c.args.root levels d.path.items d.page d.leaf.rows d.right small tree (c.in_ok-descent.ensures.way honest agrees levels tree) in
+    let same = c.descend.ensures.untouched.filled in
+    omega (arith, turns, c.enter.ensures.filled, same)

@@ -15,7 +15,7 @@ returns-clause-pages c = λ image lengths enough.
     write_new node.form node.kind old (pages_of_map c.edit.new.self image) c.in_ok-page.page (replicate 4096 0) c.bytes-spelled.result node.rows
     (c.in_ok-edit.ensures.map image ∙ ap (λ (l : List (Option Sector)). set l c.in_ok-page.page (Some c.bytes-spelled.result)) (c.in_ok-page.ensures.map image))
     (omega (arith, c.in_ok-page.ensures.page.1, c.page_count-page_count.ensures.pages image)) c.in_ok-page.ensures.page.0 (c.in_ok-page.ensures.unused image)
-    (spells_node node node c.bytes-spelled.result (record { form = refl; kind = refl }) c.bytes-spelled.ensures lengths enough)
+    (spells_node node node c.bytes-spelled.result (record { form = refl; kind = refl }) c.bytes-spelled.ensures.reads lengths enough)
 
 pub returns-clause-touched : goal.returns-clause-touched
 returns-clause-touched c =
@@ -28,3 +28,6 @@ pub returns-in_err-page-clause-full : goal.returns-in_err-page-clause-full
 returns-in_err-page-clause-full c = λ is.
     let told = rw is at c.from_residual.ensures.1 in
     each_used c.args.pages.now c.allocate.new.self c.allocate.result (cc told) c.allocate.ensures.full c.allocate.ensures.same c.allocate.ensures.spent
+
+pub returns-clause-filled : goal.returns-clause-filled
+returns-clause-filled c = omega (arith, c.allocate.ensures.filled, c.in_ok-edit.ensures.fills.again c.in_ok-page.ensures.fills.here)

@@ -28,8 +28,8 @@ returns-clause-pages c = λ image can.
       there = can.is_in;
       none = c.in_ok-new.ensures.unused image;
     })
-    (spells_left old c.args.page node c.divide-right.new.node c.divide-right.result c.args.place c.args.key.now c.args.rest.now c.bytes-lower.result can c.divide-right.ensures.rows c.requires.key c.requires.rest c.divide-right.ensures.left c.divide-right.ensures.left_enough c.bytes-lower.ensures)
-    (spells_right old c.args.page node c.divide-right.new.node c.divide-right.result c.args.place c.args.key.now c.args.rest.now c.bytes-upper.result can c.divide-right.ensures.rows c.requires.key c.requires.rest c.divide-right.ensures.right c.divide-right.ensures.right_enough c.bytes-upper.ensures)
+    (spells_left old c.args.page node c.divide-right.new.node c.divide-right.result c.args.place c.args.key.now c.args.rest.now c.bytes-lower.result can c.divide-right.ensures.rows c.requires.key c.requires.rest c.divide-right.ensures.left c.divide-right.ensures.left_enough c.bytes-lower.ensures.reads)
+    (spells_right old c.args.page node c.divide-right.new.node c.divide-right.result c.args.place c.args.key.now c.args.rest.now c.bytes-upper.result can c.divide-right.ensures.rows c.requires.key c.requires.rest c.divide-right.ensures.right c.divide-right.ensures.right_enough c.bytes-upper.ensures.reads)
 
 pub returns-clause-touched : goal.returns-clause-touched
 returns-clause-touched c =
@@ -44,3 +44,6 @@ pub returns-in_err-new-clause-full : goal.returns-in_err-new-clause-full
 returns-in_err-new-clause-full c = λ is.
     let told = rw is at c.from_residual.ensures.1 in
     each_used c.args.pages.now c.allocate.new.self c.allocate.result (cc told) c.allocate.ensures.full c.allocate.ensures.same c.allocate.ensures.spent
+
+pub returns-clause-filled : goal.returns-clause-filled
+returns-clause-filled c = omega (arith, c.allocate.ensures.filled, c.edit.ensures.filled, c.in_ok-edit-2.ensures.fills.again (c.in_ok-edit.ensures.fills.others c.in_ok-new.new c.in_ok-new.ensures.fills.here))

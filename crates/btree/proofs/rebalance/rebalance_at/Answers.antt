@@ -87,3 +87,9 @@ returns-clause-rebalances g c = λ honest agrees left right can pair.
     c.requires.node (ap (λ (m : Map). m.pages) (c.neighbour-2.ensures.untouched.map image)) near.are near.place_is
     (together_other place lone beside.node.rows left right c.if-turn-eq0.false (rows_read c.args.form before c.child-2.result beside.node left page_is (c.in_ok-left.ensures.part honest agrees) near.stands))
     (λ these. c.in_ok-fate.ensures.joins image left right these (sym (c.in_ok-left.ensures.shape.0 ∙ page_is)) near.child_is)
+
+pub returns-then-turn-eq0-clause-agrees : goal.returns-then-turn-eq0-clause-agrees
+returns-then-turn-eq0-clause-agrees g c = λ honest agrees. c.rebalance_pair.ensures.keeps.agrees (g.D.Device.state c.neighbour.new.device).disk (c.neighbour.ensures.agrees honest agrees)
+
+pub returns-clause-agrees : goal.returns-clause-agrees
+returns-clause-agrees g c = λ honest agrees. c.rebalance_pair-2.ensures.keeps.agrees (g.D.Device.state c.neighbour-2.new.device).disk (c.neighbour-2.ensures.agrees honest agrees)

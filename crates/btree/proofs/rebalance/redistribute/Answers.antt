@@ -15,5 +15,5 @@ returns-clause-pages c = λ image one two both.
     sym (length-append left.rows right.rows) ∙ ap length c.share_rows.ensures.rows ∙ length-append c.args.left.node.rows c.args.right.node.rows in
     write_shared form Inner (pages_of_map c.args.pages.now image) (pages_of_map c.edit-2.new.self image) c.args.left.page c.args.right.page c.bytes-lower.result c.bytes-upper.result one two left.rows right.rows
     (record { is = c.in_ok-edit-2.ensures.map image ∙ ap (λ (l : List (Option Sector)). set l c.args.right.page (Some c.bytes-upper.result)) (c.in_ok-edit.ensures.map image); both = both })
-    (spells_inner form left c.bytes-lower.result c.share_rows.ensures.left.form (c.share_rows.ensures.left.kind ∙ c.requires.inner) c.count-left_count.ensures.node (omega (arith, count, c.requires.many, c.share_rows.ensures.left_even, c.share_rows.ensures.right_even)) c.bytes-lower.ensures)
-    (spells_inner form right c.bytes-upper.result c.share_rows.ensures.right.form (c.share_rows.ensures.right.kind ∙ c.requires.inner) c.count-right_count.ensures.node (omega (arith, count, c.requires.many, c.share_rows.ensures.left_even, c.share_rows.ensures.right_even)) c.bytes-upper.ensures)
+    (spells_inner form left c.bytes-lower.result c.share_rows.ensures.left.form (c.share_rows.ensures.left.kind ∙ c.requires.inner) c.count-left_count.ensures.node (omega (arith, count, c.requires.many, c.share_rows.ensures.left_even, c.share_rows.ensures.right_even)) c.bytes-lower.ensures.reads)
+    (spells_inner form right c.bytes-upper.result c.share_rows.ensures.right.form (c.share_rows.ensures.right.kind ∙ c.requires.inner) c.count-right_count.ensures.node (omega (arith, count, c.requires.many, c.share_rows.ensures.left_even, c.share_rows.ensures.right_even)) c.bytes-upper.ensures.reads)

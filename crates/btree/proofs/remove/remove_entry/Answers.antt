@@ -3,7 +3,7 @@ use Rattle.std.specs.Prelude.{Option, false}
 use Rattle.station.specs.Disk.{Sector}
 use Rattle.station.specs.State.{State}
 use Rattle.pages.specs.Image.{Map}
-use Rattle.pages.specs.Pages.{is_spent, page_count, touched_of}
+use Rattle.pages.specs.Pages.{is_spent, page_count, touched_of, filled_of}
 use Rattle.pages.specs.declared.error.PagesError.TheVariants.{Spent}
 use Rattle.tree_pages.specs.declared.form.TreeForm.{TreeForm}
 use Rattle.tree_pages.specs.declared.form.Kind.TheVariants.{Leaf}
@@ -154,4 +154,19 @@ returns-clause-touched g c = λ honest agrees levels holds.
     few_touched (length (touched_of c.args.pages.now)) (length (touched_of c.descend.new.pages)) (length (touched_of c.take_out.new.pages)) (length (touched_of c.shrink.new.pages)) (length (touched_of c.settle_shrunk.new.pages))
     (spare c.in_ok-out.out) (spare c.in_ok-fate.fate) (length c.as_slice.result.now) (length d.path.items) (length levels)
     (ap length c.descend.ensures.untouched.touched) c.in_ok-out.ensures.touched c.in_ok-fate.ensures.touched c.in_ok-new.ensures.touched
+    (ap length c.as_slice.ensures) (turns_count c.args.form c.args.key.now levels d.path.items ends.reaches.top ends.reaches.below ends.reaches.leads) few
+
+pub returns-clause-filled : goal.returns-clause-filled
+returns-clause-filled g c = λ honest agrees levels holds.
+    let image = (g.D.Device.state c.args.device.now).disk.present in
+    let before = pages_of_map c.args.pages.now image in
+    let d = c.in_ok-descent.descent in
+    let tree = holds_tree c.args.form before c.args.root levels holds c.if-root-eq0.false in
+    let ends = c.in_ok-descent.ensures.way honest agrees levels tree in
+    let unspent : is_spent c.args.pages.now ≡ false = false_unless (is_spent c.args.pages.now) (λ spent. ok_or_err d Spent (sym c.in_ok-descent.was ∙ c.descend.ensures.spent.1 spent)) in
+    let small = few_pages before (page_count c.args.pages.now) c.page_count-page_count.result (c.page_count-page_count.ensures.pages image) c.page_count-page_count.ensures.count (c.page_count-page_count.ensures.few c.requires.open unspent) in
+    let few : length levels ≤ 20 = few_levels c.args.form before c.args.root levels small tree in
+    few_touched (filled_of c.args.pages.now) (filled_of c.descend.new.pages) (filled_of c.take_out.new.pages) (filled_of c.shrink.new.pages) (filled_of c.settle_shrunk.new.pages)
+    (spare c.in_ok-out.out) (spare c.in_ok-fate.fate) (length c.as_slice.result.now) (length d.path.items) (length levels)
+    (c.descend.ensures.untouched.filled) c.in_ok-out.ensures.filled c.in_ok-fate.ensures.filled c.in_ok-new.ensures.filled
     (ap length c.as_slice.ensures) (turns_count c.args.form c.args.key.now levels d.path.items ends.reaches.top ends.reaches.below ends.reaches.leads) few

@@ -2,7 +2,7 @@ use Rattle.std.proofs.Common.{List, length, sym, subst}
 use Rattle.std.proofs.lemmas.List.{nil_from_length}
 use Rattle.std.proofs.lemmas.Result.{IfOk-weaker}
 use Rattle.station.specs.State.{State}
-use Rattle.pages.specs.Pages.{touched_of}
+use Rattle.pages.specs.Pages.{touched_of, filled_of}
 use Rattle.btree.specs.declared.fate.Fate.{Fate}
 use Rattle.btree.specs.declared.fate.Fate.TheVariants.{Kept}
 use Rattle.btree.specs.Path.{Turn}
@@ -70,3 +70,13 @@ returns-in_default-clause-touched g t c =
     touched_on (length (touched_of c.args.pages.now)) (length (touched_of c.shrink.new.pages)) (length (touched_of c.shrink_at.new.pages)) (spare c.args.fate) (spare told) (spare up)
     c.in-Some.pair.0.now c.args.path.now c.in-Some.pair.1.now c.in-Some.ensures.cases.0 one more)
     c.shrink_at.ensures.touched
+
+pub returns-in_default-clause-filled : goal.returns-in_default-clause-filled
+returns-in_default-clause-filled g t c =
+    let told = c.in_ok-below.below in
+    let one = c.in_ok-below.ensures.filled in
+    IfOk-weaker c.shrink_at.result _ _
+    (λ up more.
+    touched_on (filled_of c.args.pages.now) (filled_of c.shrink.new.pages) (filled_of c.shrink_at.new.pages) (spare c.args.fate) (spare told) (spare up)
+    c.in-Some.pair.0.now c.args.path.now c.in-Some.pair.1.now c.in-Some.ensures.cases.0 one more)
+    c.shrink_at.ensures.filled

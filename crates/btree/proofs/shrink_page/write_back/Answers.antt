@@ -28,7 +28,7 @@ written c image old is_in =
       | else-count-eq1-via-else-count-eq1 w ↦ enough_left node.kind (length node.rows) (λ none. omega arith) (λ one inner. omega arith)
     ] in
     write_one node.form node.kind pages (pages_of_map c.edit.new.self image) c.args.page c.bytes-spelled.result old node.rows (c.in_ok-edit.ensures.map image) (is_low pages c.args.page is_in)
-    (spells_node node node c.bytes-spelled.result (record { form = refl; kind = refl }) c.bytes-spelled.ensures c.count-count.ensures.node.lengths enough)
+    (spells_node node node c.bytes-spelled.result (record { form = refl; kind = refl }) c.bytes-spelled.ensures.reads c.count-count.ensures.node.lengths enough)
 
 pub returns-then-keeps_least-clause-pages : goal.returns-then-keeps_least-clause-pages
 returns-then-keeps_least-clause-pages c = λ image old is_in keeps. (written (goal.at.returns-then-keeps_least-clause-pages c).In_ok-edit image old is_in, keeps c.if-keeps_least.true)

@@ -1,5 +1,6 @@
 use Rattle.std.proofs.Common.{◌≡◌, ◌<◌, inl, inr, List, length, refl, sym, ◌∙◌, ap, subst, arith}
-use Rattle.std.specs.Prelude.{Option}
+use Rattle.std.specs.Prelude.{Option, IfSome}
+use Rattle.pages.specs.Needed.{filled, Fills}
 use Rattle.std.specs.List.{HoldsAt}
 use Rattle.std.proofs.lemmas.List.{map_push}
 use Rattle.station.specs.Disk.{Sector}
@@ -9,6 +10,7 @@ use Rattle.pages.specs.declared.change.Change.{Change}
 use Rattle.pages.proofs.Edits.{Away, is_only, only_set, same_touched, push_touched, away_touched, touched_at}
 use Rattle.pages.proofs.Staging.{applied_more}
 use Rattle.station.proofs.Puts.{on_ok}
+use Rattle.pages.proofs.Filling.{filled_replaced, filled_pushed, fills_set, fills_pushed, either_way}
 use Rattle.pages.proofs.change.set_change.Goals as goal
 
 pub returns-in-Some-clause-changed : goal.returns-in-Some-clause-changed
@@ -51,3 +53,28 @@ returns-in-None-clause-touches c =
     let new : Change = record { page = c.args.page; bytes = c.args.bytes } in
     let away : Away c.args.page c.args.changes.now.items = subst (Away c.args.page) c.deref.ensures.value c.in-None.ensures.absent in
     on_ok c.push_change.result (λ items. inr (away_touched c.args.changes.now.items c.args.page away, ap touched items ∙ map_push (λ (x : Change). x.page) c.args.changes.now.items new)) c.push_change.ensures.ok
+
+pub returns-in-Some-clause-filled : goal.returns-in-Some-clause-filled
+returns-in-Some-clause-filled c = λ once.
+    let old = c.args.changes.now.items in
+    let low : c.in-Some.i < length old = subst (λ (l : List Change). c.in-Some.i < length l) c.deref.ensures.value c.in-Some.ensures.found.0 in
+    filled_replaced old c.in-Some.i (record { page = c.args.page; bytes = c.args.bytes }) low
+
+pub returns-in-Some-clause-fills : goal.returns-in-Some-clause-fills
+returns-in-Some-clause-fills c = λ once.
+    let old = c.args.changes.now.items in
+    let low : c.in-Some.i < length old = subst (λ (l : List Change). c.in-Some.i < length l) c.deref.ensures.value c.in-Some.ensures.found.0 in
+    let here : HoldsAt (λ (x : Change). x.page ≡ c.args.page) old c.in-Some.i = subst (λ (l : List Change). HoldsAt (λ (x : Change). x.page ≡ c.args.page) l c.in-Some.i) c.deref.ensures.value c.in-Some.ensures.found.1 in
+    fills_set old c.args.page c.in-Some.i c.args.bytes (is_only old c.args.page c.in-Some.i once (λ e. omega (arith, e, c.requires.some)) low here)
+
+pub returns-in-None-clause-filled : goal.returns-in-None-clause-filled
+returns-in-None-clause-filled c = λ once.
+    let new : Change = record { page = c.args.page; bytes = c.args.bytes } in
+    either_way c.push_change.result c.push_change.ensures.ok c.push_change.ensures.err
+    (λ items. omega (arith, ap filled items, filled_pushed c.args.changes.now.items new))
+    (λ same. omega (arith, ap filled same))
+
+pub returns-in-None-clause-fills : goal.returns-in-None-clause-fills
+returns-in-None-clause-fills c = λ once.
+    let away : Away c.args.page c.args.changes.now.items = subst (Away c.args.page) c.deref.ensures.value c.in-None.ensures.absent in
+    on_ok c.push_change.result (λ items. subst (λ (l : List Change). IfSome c.args.bytes (λ _. Fills c.args.changes.now.items c.args.page l)) (sym items) (fills_pushed c.args.changes.now.items c.args.page c.args.bytes away)) c.push_change.ensures.ok

@@ -1,14 +1,15 @@
 use Rattle.std.proofs.Common.{◌≡◌, ◌<◌, ◌≤◌, ℕ, Bool, true, false, List, length, get_or, ap, subst}
 use Rattle.std.specs.Prelude.{is_some}
 use Rattle.station.proofs.Puts.{on_ok}
+use Rattle.pages.specs.Volumes.{PlacesBlock}
 use Rattle.pages.proofs.Drafts.{page_drafted, release_drafted, placed_in}
 use Rattle.pages.proofs.Taking.{page_counted, release_counted, full_count}
 use Rattle.pages.proofs.stage.stage_change.Goals as goal
 
 pub returns-in_ok-sector-in-Some-clause-staged : goal.returns-in_ok-sector-in-Some-clause-staged
 returns-in_ok-sector-in-Some-clause-staged c = λ v changes some draft.
-    on_ok c.set_page.result (λ sets. page_drafted v c.args.volume.now c.args.draft.now changes draft c.args.change.now some c.requires.page c.requires.dirty _ c.place_block.new.draft c.set_page.new.draft c.set_page.new.volume c.in_ok-sector-in-Some.sector
-    c.in-Some.is (placed_in c.deref.ensures.value c.in_ok-sector-in-Some.ensures.placed) sets) c.set_page.ensures.set
+    on_ok c.set_page.result (λ sets. page_drafted v c.args.volume.now c.args.draft.now changes draft c.args.change.now some c.requires.page c.requires.dirty c.in-Some.bytes c.place_block.new.draft c.set_page.new.draft c.set_page.new.volume c.in_ok-sector-in-Some.sector
+    c.in-Some.is (subst (PlacesBlock c.args.volume.now.used.items c.args.draft.now c.place_block.new.draft c.in_ok-sector-in-Some.sector) c.view.ensures (placed_in c.deref.ensures.value c.in_ok-sector-in-Some.ensures.placed)) sets) c.set_page.ensures.set
 
 pub returns-in-None-clause-staged : goal.returns-in-None-clause-staged
 returns-in-None-clause-staged c = λ v changes some draft.
@@ -16,8 +17,8 @@ returns-in-None-clause-staged c = λ v changes some draft.
 
 pub returns-in_ok-sector-in-Some-clause-counted : goal.returns-in_ok-sector-in-Some-clause-counted
 returns-in_ok-sector-in-Some-clause-counted c = λ v changes maps away counted.
-    on_ok c.set_page.result (λ sets. page_counted v c.args.volume.now c.args.draft.now changes maps counted c.args.change.now away c.requires.dirty _ c.place_block.new.draft c.set_page.new.draft c.set_page.new.volume c.in_ok-sector-in-Some.sector
-    c.in-Some.is (placed_in c.deref.ensures.value c.in_ok-sector-in-Some.ensures.placed) sets) c.set_page.ensures.set
+    on_ok c.set_page.result (λ sets. page_counted v c.args.volume.now c.args.draft.now changes maps counted c.args.change.now away c.requires.dirty c.in-Some.bytes c.place_block.new.draft c.set_page.new.draft c.set_page.new.volume c.in_ok-sector-in-Some.sector
+    c.in-Some.is (subst (PlacesBlock c.args.volume.now.used.items c.args.draft.now c.place_block.new.draft c.in_ok-sector-in-Some.sector) c.view.ensures (placed_in c.deref.ensures.value c.in_ok-sector-in-Some.ensures.placed)) sets) c.set_page.ensures.set
 
 pub returns-in-None-clause-counted : goal.returns-in-None-clause-counted
 returns-in-None-clause-counted c = λ v changes maps away counted.

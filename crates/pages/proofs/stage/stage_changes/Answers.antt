@@ -1,4 +1,4 @@
-use Rattle.std.proofs.Common.{◌∙◌, ◌<◌, List, take, take_all, length, subst, sym, arith}
+use Rattle.std.proofs.Common.{◌≡◌, ◌+◌, ◌++◌, ◌∷◌, [], true, get_or, ap, ◌∙◌, ◌<◌, List, take, take_all, length, subst, sym, arith}
 use Rattle.std.proofs.lemmas.List.{take_more}
 use Rattle.std.specs.Prelude.{is_some}
 use Rattle.pages.specs.Volumes.{IsDraft, IsCounted}
@@ -6,21 +6,28 @@ use Rattle.pages.specs.declared.change.Change.{Change}
 use Rattle.pages.proofs.Drafts.{same_size_then}
 use Rattle.pages.proofs.Counting.{front_lt}
 use Rattle.pages.proofs.Taking.{front_away}
+use Rattle.pages.proofs.Edits.{Away}
 use Rattle.pages.proofs.stage.stage_changes.Goals as goal
 
 pub loop-change-preserved : goal.loop-change-preserved
 loop-change-preserved c =
     let before = c.loop-change.invariant in
     let here = c.in_ok-stage_change.ensures in
-    let lt : c.loop-change.change-index < length c.args.changes.now = omega arith in
+    let i = c.loop-change.change-index in
+    let changes = c.args.changes.now in
+    let item = c.change-item.result in
+    let is : item ≡ get_or changes i item = c.change-item.is in
+    let lt : i < length changes = omega arith in
+    let some : 0 < item.page = omega (arith, ap (λ (x : Change). x.page) is, (c.requires.pages i item lt).0) in
+    let next : take i changes ++ item ∷ [] ≡ take (i + 1) changes = ap (λ (x : Change). take i changes ++ x ∷ []) is ∙ sym (take_more changes i item lt) in
     record {
       size = same_size_then c.args.volume.now c.loop-change.volume c.stage_change.new.volume before.size here.size;
       maps = here.maps ∙ before.maps;
       dirty = here.dirty ∙ before.dirty;
-      staged = λ v draft. subst (λ (l : List Change). IsDraft v c.stage_change.new.volume c.stage_change.new.draft l) (sym (take_more c.args.changes.now c.loop-change.change-index _ lt))
-          (here.staged v (take c.loop-change.change-index c.args.changes.now) (c.requires.pages c.loop-change.change-index _ lt).0 (before.staged v draft));
-      counted = λ v once start. subst (λ (l : List Change). IsCounted v c.stage_change.new.volume c.stage_change.new.draft l 0) (sym (take_more c.args.changes.now c.loop-change.change-index _ lt))
-          (here.counted v (take c.loop-change.change-index c.args.changes.now) 0 (front_away c.args.changes.now c.loop-change.change-index _ once (c.requires.pages c.loop-change.change-index _ lt).0 lt) (before.counted v once start));
+      staged = λ v draft. subst (λ (l : List Change). IsDraft v c.stage_change.new.volume c.stage_change.new.draft l) next
+          (here.staged v (take i changes) some (before.staged v draft));
+      counted = λ v once start. subst (λ (l : List Change). IsCounted v c.stage_change.new.volume c.stage_change.new.draft l 0) next
+          (here.counted v (take i changes) 0 (subst (λ (x : Change). Away x.page (take i changes)) (sym is) (front_away changes i item once (c.requires.pages i item lt).0 lt)) (before.counted v once start));
     }
 
 pub returns-clause-counted : goal.returns-clause-counted
@@ -33,4 +40,6 @@ returns-in_err-stage_change-clause-full c = λ v once start full.
     let i = c.loop-change.change-index in
     let lt : i < length c.args.changes.now = omega arith in
     let here = c.in_err-stage_change.ensures.full v (take i c.args.changes.now) 0 (c.loop-change.invariant.counted v once start) (cc (told)) in
-    omega (arith, here.1, front_lt (λ (x : Change). is_some x.bytes) c.args.changes.now i _ lt here.0)
+    let item = c.change-item.result in
+    let filled_here : is_some (get_or c.args.changes.now i item).bytes ≡ true = subst (λ (x : Change). is_some x.bytes ≡ true) c.change-item.is here.0 in
+    omega (arith, here.1, front_lt (λ (x : Change). is_some x.bytes) c.args.changes.now i item lt filled_here)

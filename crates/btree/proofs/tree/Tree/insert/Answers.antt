@@ -56,3 +56,15 @@ returns-in_err-added-clause-room g c = λ honest agrees levels holds is.
     let full : c.insert_entry.result ≡ Err Full = cc told in
     let unspent : is_spent old ≡ false = false_unless (is_spent old) (λ was. let other : c.insert_entry.result ≡ Err Spent = c.insert_entry.ensures.spent.1 was in cc) in
     few_left old c.insert_entry.new.pages 42 c.few_free.ensures c.insert_entry.ensures.open c.insert_entry.ensures.committed unspent (c.insert_entry.ensures.full full) touched
+
+pub returns-in-Some-clause-filled : goal.returns-in-Some-clause-filled
+returns-in-Some-clause-filled g c = λ honest agrees levels holds.
+    let before = pages_of_map c.args.pages.now (g.D.Device.state c.args.device.now).disk.present in
+    c.in_ok-added.ensures.filled honest agrees levels
+    (subst (λ (f : TreeForm). Holds f before c.root-top.result levels) (sym c.form-form.ensures.is) (subst (λ (r : ℕ). Holds c.args.self.now.form before r levels) (sym c.root-top.ensures) holds))
+
+pub returns-in_err-added-clause-filled : goal.returns-in_err-added-clause-filled
+returns-in_err-added-clause-filled g c = λ honest agrees levels holds.
+    let before = pages_of_map c.args.pages.now (g.D.Device.state c.args.device.now).disk.present in
+    c.in_err-added.ensures.filled honest agrees levels
+    (subst (λ (f : TreeForm). Holds f before c.root-top.result levels) (sym c.form-form.ensures.is) (subst (λ (r : ℕ). Holds c.args.self.now.form before r levels) (sym c.root-top.ensures) holds))

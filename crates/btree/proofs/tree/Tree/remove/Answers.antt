@@ -30,3 +30,9 @@ returns-in-Some-clause-touched g c = λ honest agrees levels holds.
     let before = pages_of_map c.args.pages.now (g.D.Device.state c.args.device.now).disk.present in
     c.in_ok-removed.ensures.touched honest agrees levels
     (subst (λ (f : TreeForm). Holds f before c.root-top.result levels) (sym c.form-form.ensures.is) (subst (λ (r : ℕ). Holds c.args.self.now.form before r levels) (sym c.root-top.ensures) holds))
+
+pub returns-in-Some-clause-filled : goal.returns-in-Some-clause-filled
+returns-in-Some-clause-filled g c = λ honest agrees levels holds.
+    let before = pages_of_map c.args.pages.now (g.D.Device.state c.args.device.now).disk.present in
+    c.in_ok-removed.ensures.filled honest agrees levels
+    (subst (λ (f : TreeForm). Holds f before c.root-top.result levels) (sym c.form-form.ensures.is) (subst (λ (r : ℕ). Holds c.args.self.now.form before r levels) (sym c.root-top.ensures) holds))

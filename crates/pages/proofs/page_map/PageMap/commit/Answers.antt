@@ -1,4 +1,4 @@
-use Rattle.std.proofs.Common.{◌≡◌, List, ap, ◌∙◌}
+use Rattle.std.proofs.Common.{◌≡◌, List, [], ap, ◌∙◌, rules}
 use Rattle.station.proofs.Spans.{stays}
 use Rattle.pages.specs.Image.{Map, pages_in}
 use Rattle.pages.specs.Changes.{changed}
@@ -24,7 +24,8 @@ returns-clause-agrees g c = λ honest agrees.
     let pages = pages_in (g.D.Device.state c.args.device.now).disk.present c.args.self.now.volume.table.items in
     let after = pages_in (g.D.Device.state c.commit_volume.new.device).disk.present c.commit_volume.new.volume.table.items in
     let next : after ≡ changed pages changes = ap (λ (m : Map). m.pages) (c.in_ok-commit_volume.ensures.map honest agrees.committed) ∙ ap (λ (l : List Change). changed pages l) c.deref.ensures.value in
+    let none : c.new.result.items ≡ [] = search rules in
     record {
       committed = c.in_ok-commit_volume.ensures.committed honest agrees.committed;
-      cache = after_commit pages after changes c.clear.new.self.items c.args.self.now.cache.entries next c.clear.ensures.items agrees.cache;
+      cache = after_commit pages after changes c.new.result.items c.args.self.now.cache.entries next none agrees.cache;
     }

@@ -32,7 +32,7 @@ returns-in-Some-clause-page g c = λ honest agrees.
     let here : HoldsAt (λ (x : Change). x.page ≡ c.args.page) changes i = subst (λ (l : List Change). HoldsAt (λ (x : Change). x.page ≡ c.args.page) l i) c.deref.ensures.value c.in-Some.ensures.found.1 in
     let bounds = ready.pages i c.index.result.now low in
     let only = is_only changes c.args.page i ready.once (λ e. omega (arith, e, bounds.0, here c.index.result.now)) low here in
-    ap (λ (x : Change). x.bytes) c.index.ensures
+    c.bytes.ensures ∙ ap (λ (x : Change). x.bytes) c.index.ensures
     ∙ sym (only_same (λ (o : Option Sector). o) pages changes c.args.page i None c.index.result.now only (omega (arith, bounds.1, here c.index.result.now, length-map c.args.self.now.volume.table.items (page_at (g.D.Device.state c.args.device.now).disk.present))))
 
 pub returns-in-None-clause-page : goal.returns-in-None-clause-page

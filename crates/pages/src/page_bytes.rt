@@ -1,16 +1,16 @@
-//! A page of the cache.
+//! The bytes of a page in memory.
 ghost use Rattle.std.specs.Prelude.{◌≡◌, IfOk};
 
 use std::alloc::{AllocError, Global};
 use std::marker::Model;
 
-/// The bytes of a page, on the heap, so that the cache moves none of them.
+/// They stand on the heap, so that what keeps them moves an address alone, and a page without bytes takes no room for them.
 #[derive(Drop)]
-pub(crate) struct CachedPage {
+pub(crate) struct PageBytes {
     bytes: Box<[u8; 4096]>,
 }
 
-impl Model for CachedPage {
+impl Model for PageBytes {
     ghost use Rattle.station.specs.Disk.{Sector};
 
     ghost Value = { Sector };
@@ -18,13 +18,19 @@ impl Model for CachedPage {
     ghost view = { λ page. page.bytes.value };
 }
 
-impl CachedPage {
-    pub(crate) fn new(alloc: Global, bytes: [u8; 4096]) -> Result<CachedPage, AllocError>
+impl PageBytes {
+    pub(crate) fn new(alloc: Global, bytes: [u8; 4096]) -> Result<PageBytes, AllocError>
         ensures { IfOk result (λ page. page ≡ bytes) }
     {
-        Ok(CachedPage {
+        Ok(PageBytes {
             bytes: Box::new(alloc, bytes)?,
         })
+    }
+
+    pub(crate) fn view(&self) -> &[u8; 4096]
+        ensures { result.now ≡ self.now }
+    {
+        &*self.bytes
     }
 
     pub(crate) fn bytes(&self) -> [u8; 4096]

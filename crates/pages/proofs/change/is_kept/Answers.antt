@@ -2,7 +2,7 @@ use Rattle.std.proofs.Common.{◌==◌, ℕ, not, map, sym, ◌∙◌, arith}
 use Rattle.std.specs.Prelude.{is_some, false}
 use Rattle.std.proofs.lemmas.List.{length-map, get_or-map}
 use Rattle.pages.proofs.Edits.{is_only, only_same, away_same}
-use Rattle.pages.proofs.change.has_page.Goals as goal
+use Rattle.pages.proofs.change.is_kept.Goals as goal
 
 pub returns-in-Some : goal.returns-in-Some
 returns-in-Some c =

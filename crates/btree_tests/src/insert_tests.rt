@@ -1,7 +1,7 @@
 //! Rows of new entries and new values: trees that grow in several orders, with commits on the way, and what is read of them then.
 use crate::asserted::{form_of, holds, same, same_in};
 use crate::entries::{is_entry, key_bytes, last, value_bytes};
-use crate::reading_rows::{reads, walks};
+use crate::reading_tests::{reads, walks};
 use crate::volume::{Volume, found, tree_of, works};
 use btree::Tree;
 use std::alloc::Global;

@@ -135,6 +135,20 @@ impl Volume {
         self.reopen(rt, alloc);
     }
 
+    /// Whether the volume has a page.
+    pub fn has_page(&self, rt: &impl Abort, page: u32) -> bool {
+        assert!(rt; !self.pages.is_spent());
+        self.pages.has_page(page)
+    }
+
+    pub fn generation(&self) -> u64 {
+        self.pages.generation()
+    }
+
+    pub fn is_spent(&self) -> bool {
+        self.pages.is_spent()
+    }
+
     /// Gives a page bytes that are all alike.
     pub fn edit(&mut self, rt: &impl Abort, page: u32, byte: u8) -> Result<(), PagesError> {
         assert!(rt; 0 < page);

@@ -5,22 +5,22 @@
 #[cfg(test)]
 mod asserted;
 #[cfg(test)]
-mod damage_rows;
+mod damage_tests;
 #[cfg(test)]
-mod edit_rows;
+mod edit_tests;
 #[cfg(test)]
 mod entries;
 #[cfg(test)]
-mod form_rows;
+mod form_tests;
 #[cfg(test)]
-mod insert_rows;
+mod insert_tests;
 #[cfg(test)]
-mod page_rows;
+mod page_tests;
 #[cfg(test)]
 mod planted;
 #[cfg(test)]
-mod reading_rows;
+mod reading_tests;
 #[cfg(test)]
-mod refusal_rows;
+mod refusal_tests;
 #[cfg(test)]
 mod volume;

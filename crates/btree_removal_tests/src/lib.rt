@@ -2,22 +2,22 @@
 #![tactic(auto)]
 
 #[cfg(test)]
-mod damage_rows;
+mod damage_tests;
 #[cfg(test)]
 mod entries;
 #[cfg(test)]
-mod join_rows;
+mod join_tests;
 #[cfg(test)]
 mod planted;
 #[cfg(test)]
-mod refusal_rows;
+mod refusal_tests;
 #[cfg(test)]
-mod removal_rows;
+mod removal_tests;
 #[cfg(test)]
 mod sample;
 #[cfg(test)]
-mod stop_rows;
+mod stop_tests;
 #[cfg(test)]
 mod volume;
 #[cfg(test)]
-mod walk_rows;
+mod walk_tests;

@@ -18,6 +18,7 @@ fn is_full(rt: &impl Abort, volume: &mut Volume) {
 
 // Each call that can be refused answers `Spent`, and the device isn't called.
 fn is_spent(rt: &impl Abort, volume: &mut Volume) {
+    holds(rt, volume.is_spent());
     let before = volume.counts();
     same(rt, volume.read(rt, 1), Err(PagesError::Spent));
     same(rt, volume.edit(rt, 1, 9), Err(PagesError::Spent));

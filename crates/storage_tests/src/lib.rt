@@ -9,16 +9,16 @@ mod image;
 #[cfg(test)]
 mod opened;
 #[cfg(test)]
-mod page_cache_rows;
+mod page_cache_tests;
 #[cfg(test)]
-mod page_crash_rows;
+mod page_crash_tests;
 #[cfg(test)]
-mod page_damage_rows;
+mod page_damage_tests;
 #[cfg(test)]
-mod page_full_rows;
+mod page_full_tests;
 #[cfg(test)]
-mod page_rows;
+mod page_tests;
 #[cfg(test)]
-mod root_rows;
+mod root_tests;
 #[cfg(test)]
-mod station_rows;
+mod station_tests;

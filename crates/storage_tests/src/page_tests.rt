@@ -256,3 +256,37 @@ fn devices_without_a_volume(rt: HostRuntime) {
         same_in(&rt, &sectors, (station.writes(), station.syncs()), (0, 1));
     }
 }
+
+// Which page numbers have a page, before a commit, after it, and once one is released: 0, those of a map's ends, and one past the last.
+fn pages_there(rt: &impl Abort, volume: &Volume) -> [bool; 5] {
+    [
+        volume.has_page(rt, 0),
+        volume.has_page(rt, 1),
+        volume.has_page(rt, 1023),
+        volume.has_page(rt, 1024),
+        volume.has_page(rt, 4_294_967_295),
+    ]
+}
+
+#[test]
+fn pages_that_are_there(rt: HostRuntime) {
+    let mut volume = Volume::empty(&rt, rt.alloc(), 1024);
+    same(&rt, pages_there(&rt, &volume), [false; 5]);
+    works(&rt, volume.edit(&rt, 1, 7));
+    works(&rt, volume.edit(&rt, 1023, 8));
+    same(
+        &rt,
+        pages_there(&rt, &volume),
+        [false, true, true, false, false],
+    );
+    same(&rt, volume.generation(), 0);
+    works(&rt, volume.commit(&rt));
+    same(&rt, volume.generation(), 1);
+    works(&rt, volume.release(&rt, 1));
+    same(
+        &rt,
+        pages_there(&rt, &volume),
+        [false, false, true, false, false],
+    );
+    holds(&rt, !volume.is_spent());
+}
