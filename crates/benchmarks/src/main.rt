@@ -6,6 +6,7 @@ mod sources;
 mod sparse;
 mod tree_volume;
 mod trees;
+mod values;
 mod volumes;
 
 use std::io;
@@ -18,13 +19,14 @@ fn main(rt: HostRuntime) -> io::Result<()> {
             "sources" => sources::measure(&rt)?,
             "memory" => sources::measure_memory(&rt)?,
             "decimals" => decimals::measure(&rt)?,
+            "values" => values::measure(&rt)?,
             "volumes" => volumes::measure(&rt)?,
             "trees" => trees::measure(&rt)?,
             other => println!(rt; "there is no measurement {other}")?,
         }
     }
     if !named {
-        println!(rt; "measurements: sources, memory, decimals, volumes, trees")?;
+        println!(rt; "measurements: sources, memory, decimals, values, volumes, trees")?;
     }
     Ok(())
 }

@@ -6,8 +6,7 @@ use Rattle.std.proofs.lemmas.Nat.{pow-add}
 use Rattle.std.proofs.Math.Nat.{div-div-eq-div-mul}
 use Rattle.std.specs.Char.{is_ascii_digit}
 use Rattle.decimal18.specs.Fraction.{signed}
-use Rattle.decimal18.specs.Digits.{digits_behind}
-use Rattle.items.specs.Numbers.{digit_text}
+use Rattle.decimal18.specs.Digits.{digits_behind, digit_text}
 use Rattle.items.specs.Display.{are_digits, integer_of}
 use Rattle.items.specs.Packed.{halves, joined, characters_of, digit_halves, sign_half, by_sign_half, of_halves, packed_integer, packed_bytes}
 use Rattle.items.proofs.Digits.{one_digit, last_same, integer_front, integer_digit, integer_both, next_rest}
@@ -193,10 +192,10 @@ pair_step bytes at m rest some h e written =
       left,
       next_pair_rest m rest (length bytes - at) e ∙ ap (λ k. m / 10 ^ (2 * k)) size,
       drop-set bytes (at - 1) value inside
-      ∙ ap (λ j. value ∷ drop j bytes) one
-      ∙ ap (λ t. value ∷ t) written
-      ∙ sym (pair_front (length bytes - at) m rest e)
-      ∙ ap (λ k. joined (digit_halves (2 * k) m)) size,
+          ∙ ap (λ j. value ∷ drop j bytes) one
+          ∙ ap (λ t. value ∷ t) written
+          ∙ sym (pair_front (length bytes - at) m rest e)
+          ∙ ap (λ k. joined (digit_halves (2 * k) m)) size,
     )
 
 -- the last digit with the sign behind it
@@ -207,7 +206,7 @@ last_pair zero m s =
 last_pair (suc k) m s =
     let two : 2 * suc k ≡ suc (suc (2 * k)) = omega arith in
     let digit : (j : ℕ) → m / 10 ^ suc j ≡ m / 10 / 10 ^ j =
-        λ j. ap (λ p. m / p) (ap (λ i. 10 ^ i) (let e : suc j ≡ 1 + j = omega arith in e) ∙ pow-add 10 1 j) ∙ sym (div-div-eq-div-mul m 10 (10 ^ j)) in
+    λ j. ap (λ p. m / p) (ap (λ i. 10 ^ i) (let e : suc j ≡ 1 + j = omega arith in e) ∙ pow-add 10 1 j) ∙ sym (div-div-eq-div-mul m 10 (10 ^ j)) in
     ap (λ n. joined (digit_halves (suc n) m ++ s ∷ [])) two
     ∙ ap (λ h. (16 * (48 + h % 10 - 48) + (48 + m / 10 ^ suc (2 * k) % 10 - 48)) ∷ joined (digit_halves (suc (2 * k)) m ++ s ∷ [])) (digit (suc (2 * k)))
     ∙ ap (λ l. (16 * (48 + m / 10 / 10 ^ suc (2 * k) % 10 - 48) + (48 + l % 10 - 48)) ∷ joined (digit_halves (suc (2 * k)) m ++ s ∷ [])) (digit (2 * k))

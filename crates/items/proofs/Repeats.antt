@@ -63,18 +63,20 @@ turn bytes text i at next some h w e place =
         let k = length bytes - (i + 1) in
         let few : k ≤ length bytes = omega arith in
         let begin = again.1 in
-        let first : next < length text = omega arith in
-        (first,
+        let first : next < length text = omega arith in (
+          first,
           ap (λ p. take (i + 1) (set bytes i (get_or text at 0)) ++ to_come k (length bytes) text p) begin
-          ∙ ap (λ t. take (i + 1) (set bytes i (get_or text at 0)) ++ t) (sym (come_again k (length bytes) text (at + 1) some few again.0))
-          ∙ written_next bytes text i at h w e)
+              ∙ ap (λ t. take (i + 1) (set bytes i (get_or text at 0)) ++ t) (sym (come_again k (length bytes) text (at + 1) some few again.0))
+              ∙ written_next bytes text i at h w e,
+        )
     by_place (inr on) =
         let end = on.0 in
         let step = on.1 in
-        let inside : next < length text = omega (arith, end, step) in
-        (inside,
+        let inside : next < length text = omega (arith, end, step) in (
+          inside,
           ap (λ p. take (i + 1) (set bytes i (get_or text at 0)) ++ to_come (length bytes - (i + 1)) (length bytes) text p) on.1
-          ∙ written_next bytes text i at h w e)
+              ∙ written_next bytes text i at h w e,
+        )
 
 pub begin : (size : ℕ) (text : List ℕ) → 1 ≤ length text → to_come (size - 0) size text 0 ≡ repeated size text
 begin size text some =

@@ -88,7 +88,7 @@ word_back n half z e h =
     let v = bits_in n z in
     let bytes = big_bytes n v in
     let read : big_number n bytes ≡ v =
-        ap (big_number n) (sym (append-nil bytes)) ∙ big_from-bytes n v [] ∙ mod-eq_of_lt (bits_fit n half z e h) in
+    ap (big_number n) (sym (append-nil bytes)) ∙ big_from-bytes n v [] ∙ mod-eq_of_lt (bits_fit n half z e h) in
     ap (λ k. twos_complement k (big_number k bytes)) (length-bytes_high_first n v)
     ∙ ap (twos_complement n) read
     ∙ signed_back n half z e h

@@ -11,6 +11,7 @@ const HALF: u8 = 16;
 
 /// The last half of an item with S: that of a negative number and that of others.
 const MINUS: u8 = 0xD;
+
 const PLUS: u8 = 0xC;
 
 /// The last half of an item without S.

@@ -6,7 +6,7 @@ ghost use Rattle.items.specs.Items.{IsItem, IsTaken};
 
 use crate::item::{Item, Kind};
 use crate::storing::store;
-use crate::taken::{Taken};
+use crate::taken::Taken;
 use crate::text::{put_padded, put_repeated};
 use decimal18::Dec;
 

@@ -37,10 +37,10 @@ returns-then-half-sign_half-2 c =
     ∙ ap (λ d. Some (signed true (10 * c.in_ok-front.front + d))) c.from.ensures
     ∙ ap (λ n. Some (signed true (10 * n + get_or c.args.bytes.now (length c.args.bytes.now - 1) 0 / 16))) front.1
     ∙ sym (both_last c.args.signed true c.args.bytes.now c.requires.some front.0 c.if-digit-gt9.false
-        (c.if-half-sign_half-2.true ∙ c.sign_half-else-half-sign_half.ensures.value) (λ e same. c.if-half-sign_half.false (same ∙ sym c.sign_half.ensures.value)))
+    (c.if-half-sign_half-2.true ∙ c.sign_half-else-half-sign_half.ensures.value) (λ e same. c.if-half-sign_half.false (same ∙ sym c.sign_half.ensures.value)))
 
 pub returns-else-half-sign_half-2 : goal.returns-else-half-sign_half-2
 returns-else-half-sign_half-2 c =
     sym (no_sign_last c.args.signed c.args.bytes.now c.requires.some
-        (λ same. c.if-half-sign_half.false (same ∙ sym c.sign_half.ensures.value))
-        (λ same. c.if-half-sign_half-2.false (same ∙ sym c.sign_half-else-half-sign_half.ensures.value)))
+    (λ same. c.if-half-sign_half.false (same ∙ sym c.sign_half.ensures.value))
+    (λ same. c.if-half-sign_half-2.false (same ∙ sym c.sign_half-else-half-sign_half.ensures.value)))
