@@ -6,6 +6,7 @@ mod sources;
 mod sparse;
 mod tree_volume;
 mod trees;
+mod values;
 mod volumes;
 
 use std::io;
@@ -18,6 +19,7 @@ fn main(rt: HostRuntime) -> io::Result<()> {
             "sources" => sources::measure(&rt)?,
             "memory" => sources::measure_memory(&rt)?,
             "decimals" => decimals::measure(&rt)?,
+            "values" => values::measure(&rt)?,
             "volumes" => volumes::measure(&rt)?,
             "releases" => volumes::measure_releases(&rt)?,
             "trees" => trees::measure(&rt)?,
@@ -25,7 +27,7 @@ fn main(rt: HostRuntime) -> io::Result<()> {
         }
     }
     if !named {
-        println!(rt; "measurements: sources, memory, decimals, volumes, releases, trees")?;
+        println!(rt; "measurements: sources, memory, decimals, values, volumes, releases, trees")?;
     }
     Ok(())
 }

@@ -1,0 +1,265 @@
+//! Numbers of items read and written, beside a plain loop of 64 bits that tests and converts the same bytes.
+
+ghost use Rattle.std.specs.Prelude.{◌≡◌, ◌<◌, ◌^◌, false, unsigned_abs};
+ghost use Rattle.decimal18.specs.Fraction.{is_negative};
+ghost use Rattle.items.specs.Numbers.{IsNumeric, length_of};
+
+use decimal18::Dec;
+use items::{Numeric, OperationalSign, Usage, number, store};
+use std::io;
+use std::time::Instant;
+
+/// Numbers in a round.
+const COUNT: u32 = 1_000_000;
+
+/// Rounds, of which the quickest counts: other programs on the machine disturb the others.
+const ROUNDS: u32 = 15;
+
+const DIGITS: u8 = 18;
+
+const DISPLAY: Numeric = Numeric {
+    digits: DIGITS,
+    scale: 2,
+    usage: Usage::Display(OperationalSign::Trailing),
+};
+
+const UNSIGNED: Numeric = Numeric {
+    digits: DIGITS,
+    scale: 2,
+    usage: Usage::Display(OperationalSign::Unsigned),
+};
+
+const BINARY: Numeric = Numeric {
+    digits: DIGITS,
+    scale: 2,
+    usage: Usage::Binary { signed: true },
+};
+
+const PACKED: Numeric = Numeric {
+    digits: DIGITS,
+    scale: 2,
+    usage: Usage::Packed { signed: true },
+};
+
+/// A number of 18 digits.
+const NUMBER: u64 = 987_654_321_012_345_678;
+
+/// The number of ASCII digits, or none.
+fn plain_number(bytes: &[u8; 18]) -> Option<u64> {
+    let mut number = 0u64;
+    for byte in bytes.iter() {
+        if !byte.is_ascii_digit() {
+            return None;
+        }
+        number = number.wrapping_mul(10).wrapping_add(u64::from(*byte - b'0'));
+    }
+    Some(number)
+}
+
+fn plain_store(number: u64, bytes: &mut [u8; 18]) {
+    let mut rest = number;
+    for byte in bytes.iter_mut().rev() {
+        *byte = b'0' + (rest % 10) as u8;
+        rest /= 10;
+    }
+}
+
+/// Keeps what was read from being dropped.
+fn told(number: Option<Dec>) -> u64 {
+    match number {
+        Some(x) => u64::try_from(x.magnitude()).unwrap_or(0),
+        None => 0,
+    }
+}
+
+fn plain_numbers() -> u64 {
+    let mut bytes = *b"987654321012345678";
+    let mut sum = 0u64;
+    for n in 0..COUNT {
+        bytes[(n % 16) as usize] = b'0' + (n % 10) as u8;
+        sum = sum.wrapping_add(plain_number(&bytes).unwrap_or(0));
+    }
+    sum
+}
+
+fn display_numbers(item: Numeric) -> u64
+    requires item { IsNumeric item }
+    requires length { length_of item ≡ 18 }
+{
+    let mut bytes = *b"987654321012345678";
+    let mut sum = 0u64;
+    for n in 0..COUNT {
+        bytes[(n % 16) as usize] = b'0' + (n % 10) as u8;
+        sum = sum.wrapping_add(told(number(item, &bytes)));
+    }
+    sum
+}
+
+fn packed_numbers() -> u64 {
+    let mut bytes = *b"\x09\x87\x65\x43\x21\x01\x23\x45\x67\x8c";
+    let mut sum = 0u64;
+    for n in 0..COUNT {
+        bytes[(n % 8) as usize + 1] = (n % 10) as u8;
+        sum = sum.wrapping_add(told(number(PACKED, &bytes)));
+    }
+    sum
+}
+
+fn binary_numbers() -> u64 {
+    let mut bytes = [0; 8];
+    let mut sum = 0u64;
+    for n in 0..COUNT {
+        bytes[(n % 4) as usize + 4] = (n % 10) as u8;
+        sum = sum.wrapping_add(told(number(BINARY, &bytes)));
+    }
+    sum
+}
+
+fn plain_stores() -> u64 {
+    let mut bytes = [0; 18];
+    let mut sum = 0u64;
+    for n in 0..COUNT {
+        plain_store(NUMBER - u64::from(n), &mut bytes);
+        sum = sum.wrapping_add(u64::from(bytes[(n % 18) as usize]));
+    }
+    sum
+}
+
+/// The n-th number that is written.
+fn written(n: u32) -> Dec
+    ensures scale { result.scale ≡ 2 }
+    ensures digits { unsigned_abs result.coefficient < 10 ^ 18 }
+    ensures sign { is_negative result.coefficient ≡ false }
+{
+    Dec::new(i128::from(NUMBER - u64::from(n)), 2)
+}
+
+fn display_stores(item: Numeric) -> u64
+    requires item { IsNumeric item }
+    requires digits { item.digits ≡ 18 }
+    requires scale { item.scale ≡ 2 }
+    requires length { length_of item ≡ 18 }
+{
+    let mut bytes = [0; 18];
+    let mut sum = 0u64;
+    for n in 0..COUNT {
+        store(item, written(n), &mut bytes);
+        sum = sum.wrapping_add(u64::from(bytes[(n % 18) as usize]));
+    }
+    sum
+}
+
+fn packed_stores() -> u64 {
+    let mut bytes = [0; 10];
+    let mut sum = 0u64;
+    for n in 0..COUNT {
+        store(PACKED, written(n), &mut bytes);
+        sum = sum.wrapping_add(u64::from(bytes[(n % 10) as usize]));
+    }
+    sum
+}
+
+fn binary_stores() -> u64 {
+    let mut bytes = [0; 8];
+    let mut sum = 0u64;
+    for n in 0..COUNT {
+        store(BINARY, written(n), &mut bytes);
+        sum = sum.wrapping_add(u64::from(bytes[(n % 8) as usize]));
+    }
+    sum
+}
+
+/// What is measured.
+#[derive(Clone, Copy)]
+enum Measurement {
+    PlainNumber,
+    UnsignedNumber,
+    DisplayNumber,
+    PackedNumber,
+    BinaryNumber,
+    PlainStore,
+    UnsignedStore,
+    DisplayStore,
+    PackedStore,
+    BinaryStore,
+}
+
+const READING: [Measurement; 4] = [
+    Measurement::UnsignedNumber,
+    Measurement::DisplayNumber,
+    Measurement::PackedNumber,
+    Measurement::BinaryNumber,
+];
+
+const WRITING: [Measurement; 4] = [
+    Measurement::UnsignedStore,
+    Measurement::DisplayStore,
+    Measurement::PackedStore,
+    Measurement::BinaryStore,
+];
+
+impl Measurement {
+    fn name(self) -> &'static str {
+        match self {
+            Measurement::PlainNumber => "plain loop that reads",
+            Measurement::UnsignedNumber => "number of 9(16)V99",
+            Measurement::DisplayNumber => "number of S9(16)V99",
+            Measurement::PackedNumber => "number of S9(16)V99 PACKED-DECIMAL",
+            Measurement::BinaryNumber => "number of S9(16)V99 COMP",
+            Measurement::PlainStore => "plain loop that writes",
+            Measurement::UnsignedStore => "store of 9(16)V99",
+            Measurement::DisplayStore => "store of S9(16)V99",
+            Measurement::PackedStore => "store of S9(16)V99 PACKED-DECIMAL",
+            Measurement::BinaryStore => "store of S9(16)V99 COMP",
+        }
+    }
+
+    fn run(self) -> u64 {
+        match self {
+            Measurement::PlainNumber => plain_numbers(),
+            Measurement::UnsignedNumber => display_numbers(UNSIGNED),
+            Measurement::DisplayNumber => display_numbers(DISPLAY),
+            Measurement::PackedNumber => packed_numbers(),
+            Measurement::BinaryNumber => binary_numbers(),
+            Measurement::PlainStore => plain_stores(),
+            Measurement::UnsignedStore => display_stores(UNSIGNED),
+            Measurement::DisplayStore => display_stores(DISPLAY),
+            Measurement::PackedStore => packed_stores(),
+            Measurement::BinaryStore => binary_stores(),
+        }
+    }
+}
+
+/// The microseconds of the quickest round.
+fn microseconds(rt: &HostRuntime, measurement: Measurement) -> io::Result<u128> {
+    let mut least = u128::MAX;
+    for _ in 0..ROUNDS {
+        let start = Instant::now(rt)?;
+        let sum = measurement.run();
+        least = least.min(start.elapsed(rt)?.as_micros());
+        if sum == 0 {
+            println!(rt; "nothing was measured")?;
+        }
+    }
+    Ok(least)
+}
+
+/// Each of these beside the plain loop, in hundredths of its time.
+fn compare(rt: &HostRuntime, plain: Measurement, others: &[Measurement]) -> io::Result<()> {
+    let plain_time = microseconds(rt, plain)?.max(1);
+    let plain_name = plain.name();
+    println!(rt; "{plain_name}: {plain_time} us for {COUNT}")?;
+    for other in others {
+        let time = microseconds(rt, *other)?;
+        let name = other.name();
+        let ratio = time.min(1_000_000_000) * 100 / plain_time;
+        println!(rt; "{name}: {time} us, {ratio} hundredths of the plain loop")?;
+    }
+    Ok(())
+}
+
+/// Numbers of 18 digits, read and written in each usage.
+pub fn measure(rt: &HostRuntime) -> io::Result<()> {
+    compare(rt, Measurement::PlainNumber, &READING)?;
+    compare(rt, Measurement::PlainStore, &WRITING)
+}
