@@ -4,6 +4,7 @@
 mod decimals;
 mod sources;
 mod sparse;
+mod texts;
 mod tree_volume;
 mod trees;
 mod volumes;
@@ -19,12 +20,13 @@ fn main(rt: HostRuntime) -> io::Result<()> {
             "memory" => sources::measure_memory(&rt)?,
             "decimals" => decimals::measure(&rt)?,
             "volumes" => volumes::measure(&rt)?,
+            "texts" => texts::measure(&rt)?,
             "trees" => trees::measure(&rt)?,
             other => println!(rt; "there is no measurement {other}")?,
         }
     }
     if !named {
-        println!(rt; "measurements: sources, memory, decimals, volumes, trees")?;
+        println!(rt; "measurements: sources, memory, decimals, texts, volumes, trees")?;
     }
     Ok(())
 }

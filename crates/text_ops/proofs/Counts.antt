@@ -1,6 +1,7 @@
 -- Counts, one more at each fit.
 use Rattle.std.proofs.Common.{◌≡◌, ◌≢◌, ℕ, ◌+◌, ◌<◌, ◌≤◌, ◌==◌, Bool, true, false, cond, eqb, List, ◌∷◌, length, slice_index, slice_set, get_or, refl, ap, sym, ◌∙◌, arith, length-set, get_or-set_other, get_or-set_same}
 use Rattle.std.proofs.lemmas.Bool.{eqb-true}
+use Rattle.std.proofs.lemmas.List.Sums.{sum_by-cons}
 use Rattle.std.proofs.lemmas.Bool.Decides.{nat_tests}
 use Rattle.text_ops.specs.declared.progress.Fitted.{Fitted}
 use Rattle.text_ops.specs.Inspect.{count_of}
@@ -34,5 +35,5 @@ pub counted_more : (counts : List ℕ) (fitted : Fitted) (more all : List Fitted
 counted_more counts fitted more all total h e counted k l =
     let k-in : k < length counts = omega (arith, length-set counts fitted.number (slice_index counts fitted.number + 1)) in
     let new = at_other counts fitted.number k h (eqb fitted.number k) refl in
-    let all-is : count_of k all ≡ cond (eqb fitted.number k) 1 0 + count_of k more = ap (count_of k) e in
+    let all-is : count_of k all ≡ cond (eqb fitted.number k) 1 0 + count_of k more = ap (count_of k) e ∙ sum_by-cons (λ f. cond (f.number == k) 1 0) fitted more in
     omega (arith, new, all-is, counted k k-in)

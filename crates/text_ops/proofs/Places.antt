@@ -32,4 +32,3 @@ not_here sought text at h stands =
     let e = drop-cons text at 0 h in
     let s : stands_in_front sought (get_or text at 0 ∷ drop (suc at) text) ≡ false = rw e at stands in
     rw (e, add-one at, not_at sought (get_or text at 0) (drop (suc at) text) s) (one_on at (first_place sought (drop (suc at) text)) ∙ ap (λ n. from_place n (first_place sought (drop (suc at) text))) (add-one at))
-

@@ -1,6 +1,5 @@
 -- The two sides of a relation by their characters.
-use Rattle.std.proofs.Common.{◌≡◌, ◌&&◌, ℕ, Bool, true, false, List, length, Option, Some, None, refl, ap, sym, ◌∙◌}
-use Rattle.std.proofs.Math.Bool.{both_true}
+use Rattle.std.proofs.Common.{◌≡◌, ◌&&◌, ℕ, Bool, true, false, List, length, Option, Some, None, refl, ap, sym, subst, ◌∙◌}
 use Rattle.std.specs.Option.{option_map}
 use Rattle.std.specs.declared.cmp.Ordering.{Ordering}
 use Rattle.std.specs.declared.cmp.Ordering.TheVariants.{Equal}
@@ -56,10 +55,17 @@ number_item (t.Item item) e = e
 number_item (t.Figurative constant) e = cc
 number_item t.All e = cc
 
+both_false : (b c : Bool) → b ≡ true → c ≡ true → (b && c) ≡ false → ⊥
+both_false true true p q e = cc
+both_false true false p q e = cc
+both_false false c p q e = cc
+
 pub no_item : (one other : Taken) (b : Bool) → is_numeric_item one ≡ b → (is_number one && is_number other) ≡ false → is_numeric_item other ≡ true → is_numeric_item one ≡ false
 no_item one other false is e number = is
 no_item one other true is e number =
-    let both-are = both_true (number_item one is) (number_item other number) in cc
+    let first-is = number_item one is in
+    let second-is = number_item other number in
+    absurd (both_false (is_number one) (is_number other) first-is second-is e)
 
 pub both_reversed : (one other : Option (List ℕ)) → both order_of_texts one other ≡ option_map ordering_reverse (both order_of_texts other one)
 both_reversed None None = refl
@@ -68,9 +74,9 @@ both_reversed (Some one) None = refl
 both_reversed (Some one) (Some other) = ap Some (texts_reversed one other)
 
 pub no_numeric_item : (one : Taken) → ((item : Item) → one ≡ t.Item item → ⊥) → is_numeric_item one ≡ false
-no_numeric_item (t.Item item) no = absurd (no item refl)
-no_numeric_item (t.Figurative constant) no = refl
-no_numeric_item t.All no = refl
+no_numeric_item (t.Item item) never = absurd (never item refl)
+no_numeric_item (t.Figurative constant) never = refl
+no_numeric_item t.All never = refl
 
 -- two that are repeated
 pub no_items : (one : Taken) (ones : List ℕ) (other : Taken) (others : List ℕ) → ((item : Item) → one ≡ t.Item item → ⊥) → ((item : Item) → other ≡ t.Item item → ⊥) → both order_of_texts (characters one ones (size_of other others)) (characters other others (size_of one ones)) ≡ Some Equal
@@ -82,3 +88,22 @@ no_items (t.Figurative c) ones (t.Figurative d) others a b = refl
 no_items (t.Figurative c) ones t.All others a b = refl
 no_items t.All ones (t.Figurative d) others a b = refl
 no_items t.All ones t.All others a b = refl
+
+-- the three ways of a plain operand and another
+abbrev pub Plain : Taken → List ℕ → Taken → List ℕ → Option Ordering → Type 0
+Plain one ones other others result = result ≡ both order_of_texts (characters one ones (size_of other others)) (characters other others (size_of one ones))
+
+pub behind : (one : Taken) (ones : List ℕ) (other : Taken) (others : List ℕ) (item : Item) (result : Option Ordering) → is_numeric_item one ≡ false → other ≡ t.Item item → result ≡ option_map ordering_reverse (option_map (λ text. order_of_texts text (plain_bytes one ones (size_in item.kind item.length))) (characters_in item.kind others)) → Plain one ones other others result
+behind one ones other others item result kind is e =
+    let P : Taken → Type 0 = λ o. Plain one ones o others result in
+    subst P (sym is) (e ∙ sym (item_second one ones item others kind))
+
+pub before : (one : Taken) (ones : List ℕ) (other : Taken) (others : List ℕ) (item : Item) (result : Option Ordering) → ((i : Item) → other ≡ t.Item i → ⊥) → one ≡ t.Item item → result ≡ option_map (λ text. order_of_texts text (plain_bytes other others (size_in item.kind item.length))) (characters_in item.kind ones) → Plain one ones other others result
+before one ones other others item result never is e =
+    let P : Taken → Type 0 = λ o. Plain o ones other others result in
+    subst P (sym is) (e ∙ sym (item_first item ones other others (no_numeric_item other never)))
+
+-- the other way round
+pub turned : (one : Taken) (ones : List ℕ) (other : Taken) (others : List ℕ) (told : Option Ordering) → Plain other others one ones told → Plain one ones other others (option_map ordering_reverse told)
+turned one ones other others told e =
+    ap (option_map ordering_reverse) e ∙ sym (both_reversed (characters one ones (size_of other others)) (characters other others (size_of one ones)))

@@ -2,6 +2,7 @@
 
 ghost use Rattle.std.specs.Prelude.{◌≡◌, ◌&&◌, length, false, option_map};
 ghost use Rattle.std.specs.Option.{ok_or};
+ghost use Rattle.std.specs.Ordering.{ordering_reverse};
 ghost use Rattle.decimal18.specs.Order.{order};
 ghost use Rattle.items.specs.Faults.{data_fault};
 ghost use Rattle.items.specs.Items.{IsOf, IsTaken};
@@ -10,7 +11,7 @@ ghost use Rattle.text_ops.specs.Compare as spec;
 
 use crate::text_order::{order_beside_character, order_beside_repeated, order_of_texts};
 use decimal18::Dec;
-use items::{DataFault, Figurative, Item, Kind, Numeric, Taken, number, put_digits};
+use items::{DataFault, Figurative, Item, Kind, Numeric, Taken, number};
 use std::cmp::Ordering;
 
 /// The most digits of a number.
@@ -87,8 +88,20 @@ fn order_of_item(item: Item, ones: &[u8], beside: Taken, others: &[u8]) -> Optio
     let x = number(numeric, ones)?;
     let mut room = [b'0'; MOST_DIGITS];
     let (digits, _) = room.split_at_mut(numeric.digits as usize);
-    put_digits(x.magnitude() as u64, digits);
+    x.digits_into(digits);
     Some(order_beside(digits, beside, others))
+}
+
+/// The order of an operand by its bytes before an item's characters.
+fn order_behind(one: Taken, ones: &[u8], item: Item, others: &[u8]) -> Option<Ordering>
+    requires one { IsTaken one ones.now }
+    requires item { IsOf item others.now }
+    ensures { result ≡ option_map ordering_reverse (option_map
+        (λ text. spec.order_of_texts text (plain_bytes one ones.now (spec.size_in item.kind item.length)))
+        (characters_in item.kind others.now)) }
+{
+    let order = order_of_item(item, others, one, ones)?;
+    Some(order.reverse())
 }
 
 /// The order of an operand that is no numeric item and another one, by their characters.
@@ -101,10 +114,7 @@ fn order_of_plain(plain: Taken, bytes: &[u8], other: Taken, others: &[u8]) -> Op
         (characters other others.now (spec.size_of plain bytes.now)) }
 {
     match other {
-        Taken::Item(item) => {
-            let order = order_of_item(item, others, plain, bytes)?;
-            Some(order.reverse())
-        }
+        Taken::Item(item) => order_behind(plain, bytes, item, others),
         _ => match plain {
             Taken::Item(item) => order_of_item(item, bytes, other, others),
             _ => Some(Ordering::Equal),

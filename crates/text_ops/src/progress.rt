@@ -89,7 +89,8 @@ impl Progress {
         }
         match self.entry.fit {
             Fit::Characters => self.first <= at,
-            Fit::All(text) | Fit::First(text) => self.first <= at && rest.starts_with(text.of(texts)),
+            Fit::All(text) | Fit::First(text) => self.first <= at
+                && rest.starts_with(text.of(texts)),
             Fit::Leading(text) => self.first == at && rest.starts_with(text.of(texts)),
         }
     }

@@ -1,6 +1,6 @@
 //! What DISPLAY shows.
 
-ghost use Rattle.std.specs.Prelude.{◌≡◌, ◌≤◌, ◌<◌, ◌+◌, ◌^◌, length, take, unsigned_abs};
+ghost use Rattle.std.specs.Prelude.{◌≡◌, ◌≤◌, ◌+◌, length, take};
 ghost use Rattle.items.specs.Numbers.{IsNumeric};
 ghost use Rattle.items.specs.Display.{sign_character};
 ghost use Rattle.items.specs.Faults.{WritesFirst};
@@ -9,7 +9,7 @@ ghost use Rattle.text_ops.specs.Lengths.{shown_length};
 ghost use Rattle.text_ops.specs.Shown as spec;
 
 use decimal18::Dec;
-use items::{DataFault, Item, Kind, Numeric, number, put_digits};
+use items::{DataFault, Item, Kind, Numeric, number};
 
 /// The most digits of a number.
 const MOST_DIGITS: usize = 18;
@@ -40,13 +40,12 @@ fn put_point(digits: &[u8], scale: usize, to: &mut [u8]) -> usize
 /// Writes a number: its sign if the item has S, and its digits. Answers the length.
 fn put_number(numeric: Numeric, x: Dec, to: &mut [u8]) -> usize
     requires numeric { IsNumeric numeric }
-    requires digits { unsigned_abs x.coefficient < 10 ^ numeric.digits }
     requires room { numeric.digits + 2 ≤ length to.old }
     ensures { take result to.new ≡ spec.shown_number numeric x }
 {
     let mut room = [b'0'; MOST_DIGITS];
     let (digits, _) = room.split_at_mut(numeric.digits as usize);
-    put_digits(x.magnitude() as u64, digits);
+    x.digits_into(digits);
     let scale = numeric.scale as usize;
     if !numeric.is_signed() {
         return put_point(digits, scale, to);

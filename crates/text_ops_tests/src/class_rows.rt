@@ -22,14 +22,29 @@ fn texts(rt: &impl Abort) {
         let text = item(rt, TEXT, row.0);
         same_in(rt, row, is_class(Class::Numeric, text, row.0), row.1);
         same_in(rt, row, is_class(Class::Alphabetic, text, row.0), row.2);
-        same_in(rt, row, is_class(Class::AlphabeticLower, text, row.0), row.3);
-        same_in(rt, row, is_class(Class::AlphabeticUpper, text, row.0), row.4);
+        same_in(
+            rt,
+            row,
+            is_class(Class::AlphabeticLower, text, row.0),
+            row.3,
+        );
+        same_in(
+            rt,
+            row,
+            is_class(Class::AlphabeticUpper, text, row.0),
+            row.4,
+        );
     }
 }
 
 fn is_numeric(rt: &impl Abort, kind: Kind, bytes: &[u8], expected: bool) {
     let number = item(rt, kind, bytes);
-    same_in(rt, &bytes, is_class(Class::Numeric, number, bytes), expected);
+    same_in(
+        rt,
+        &bytes,
+        is_class(Class::Numeric, number, bytes),
+        expected,
+    );
 }
 
 #[test]

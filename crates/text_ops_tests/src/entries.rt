@@ -15,24 +15,95 @@ pub const MOST_ENTRIES: usize = 4;
 /// Characters of a subject at most.
 pub const MOST_CHARACTERS: usize = 16;
 
-pub const A: Span = Span { start: 0, length: 1 };
-pub const B: Span = Span { start: 2, length: 1 };
-pub const C: Span = Span { start: 5, length: 1 };
-pub const X: Span = Span { start: 7, length: 1 };
-pub const Y: Span = Span { start: 8, length: 1 };
-pub const ZERO: Span = Span { start: 10, length: 1 };
-pub const SPACE: Span = Span { start: 11, length: 1 };
-pub const COMMA: Span = Span { start: 12, length: 1 };
-pub const DASH: Span = Span { start: 13, length: 1 };
-pub const STAR: Span = Span { start: 14, length: 1 };
-pub const Z: Span = Span { start: 15, length: 1 };
-pub const Q: Span = Span { start: 16, length: 1 };
-pub const AA: Span = Span { start: 0, length: 2 };
-pub const AB: Span = Span { start: 1, length: 2 };
-pub const BB: Span = Span { start: 2, length: 2 };
-pub const BA: Span = Span { start: 3, length: 2 };
-pub const CC: Span = Span { start: 5, length: 2 };
-pub const XY: Span = Span { start: 7, length: 2 };
+pub const A: Span = Span {
+    start: 0,
+    length: 1,
+};
+
+pub const B: Span = Span {
+    start: 2,
+    length: 1,
+};
+
+pub const C: Span = Span {
+    start: 5,
+    length: 1,
+};
+
+pub const X: Span = Span {
+    start: 7,
+    length: 1,
+};
+
+pub const Y: Span = Span {
+    start: 8,
+    length: 1,
+};
+
+pub const ZERO: Span = Span {
+    start: 10,
+    length: 1,
+};
+
+pub const SPACE: Span = Span {
+    start: 11,
+    length: 1,
+};
+
+pub const COMMA: Span = Span {
+    start: 12,
+    length: 1,
+};
+
+pub const DASH: Span = Span {
+    start: 13,
+    length: 1,
+};
+
+pub const STAR: Span = Span {
+    start: 14,
+    length: 1,
+};
+
+pub const Z: Span = Span {
+    start: 15,
+    length: 1,
+};
+
+pub const Q: Span = Span {
+    start: 16,
+    length: 1,
+};
+
+pub const AA: Span = Span {
+    start: 0,
+    length: 2,
+};
+
+pub const AB: Span = Span {
+    start: 1,
+    length: 2,
+};
+
+pub const BB: Span = Span {
+    start: 2,
+    length: 2,
+};
+
+pub const BA: Span = Span {
+    start: 3,
+    length: 2,
+};
+
+pub const CC: Span = Span {
+    start: 5,
+    length: 2,
+};
+
+pub const XY: Span = Span {
+    start: 7,
+    length: 2,
+};
 
 /// An entry without phrases.
 pub fn entry(fit: Fit) -> Entry {

@@ -25,20 +25,42 @@ fn shows(rt: &impl Abort, kind: Kind, bytes: &[u8], expected: &[u8]) {
 
 #[test]
 fn numbers(rt: &impl Abort) {
-    shows(rt, display(5, 2, OperationalSign::Trailing), b"0015p", b"-001.50");
+    shows(
+        rt,
+        display(5, 2, OperationalSign::Trailing),
+        b"0015p",
+        b"-001.50",
+    );
     shows(rt, display(2, 2, OperationalSign::Unsigned), b"50", b".50");
     shows(rt, binary(4, 0), &[0x00, 0x07], b"+0007");
     shows(rt, display(1, 0, OperationalSign::Trailing), b"s", b"-3");
-    shows(rt, display(2, 0, OperationalSign::LeadingSeparate), b"-00", b"+00");
+    shows(
+        rt,
+        display(2, 0, OperationalSign::LeadingSeparate),
+        b"-00",
+        b"+00",
+    );
     shows(rt, packed(3, 3), &[0x01, 0x2d], b"-.012");
-    shows(rt, display(18, 0, OperationalSign::Unsigned), b"123456789012345678", b"123456789012345678");
+    shows(
+        rt,
+        display(18, 0, OperationalSign::Unsigned),
+        b"123456789012345678",
+        b"123456789012345678",
+    );
 }
 
 #[test]
 fn texts(rt: &impl Abort) {
     shows(rt, TEXT, b"a b", b"a b");
     shows(rt, Kind::Group, b"\x00 1", b"\x00 1");
-    shows(rt, Kind::NumericEdited { blank_when_zero: false }, b"$ 1.50", b"$ 1.50");
+    shows(
+        rt,
+        Kind::NumericEdited {
+            blank_when_zero: false,
+        },
+        b"$ 1.50",
+        b"$ 1.50",
+    );
 }
 
 // Bytes that are no number are a fault, and nothing is written.
