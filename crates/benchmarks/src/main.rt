@@ -4,6 +4,7 @@
 mod decimals;
 mod sources;
 mod sparse;
+mod texts;
 mod tree_volume;
 mod trees;
 mod values;
@@ -22,12 +23,13 @@ fn main(rt: HostRuntime) -> io::Result<()> {
             "values" => values::measure(&rt)?,
             "volumes" => volumes::measure(&rt)?,
             "releases" => volumes::measure_releases(&rt)?,
+            "texts" => texts::measure(&rt)?,
             "trees" => trees::measure(&rt)?,
             other => println!(rt; "there is no measurement {other}")?,
         }
     }
     if !named {
-        println!(rt; "measurements: sources, memory, decimals, values, volumes, releases, trees")?;
+        println!(rt; "measurements: sources, memory, decimals, values, texts, volumes, releases, trees")?;
     }
     Ok(())
 }

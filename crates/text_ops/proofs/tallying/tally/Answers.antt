@@ -1,0 +1,10 @@
+use Rattle.std.proofs.Common.{◌≡◌, ℕ, length, slice_index, sym, subst, List, ◌∙◌, arith}
+use Rattle.text_ops.specs.declared.progress.Progress.{Progress}
+use Rattle.text_ops.specs.Walk.{AreActive}
+use Rattle.text_ops.proofs.Walks.{active_begun}
+use Rattle.text_ops.proofs.tallying.tally.Goals as goal
+
+pub count_fits-requires-clause-within : goal.count_fits-requires-clause-within
+count_fits-requires-clause-within c =
+    let P : List Progress → Type 0 = λ xs. AreActive xs (length c.args.texts.now) in
+    subst P (sym c.begin.ensures) (active_begun c.args.texts.now c.args.subject.now c.args.entries.now (length c.args.texts.now) c.requires.within)
