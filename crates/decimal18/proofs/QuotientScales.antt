@@ -1,6 +1,6 @@
 -- The scale of a quotient by the count of the dividend's digits.
-use Rattle.std.proofs.Common.{◌≡◌, ℕ, ◌+◌, ◌-◌, ◌^◌, ◌<◌, ◌≤◌, Bool, true, false, refl, ap, sym, ◌∙◌, arith, ◌&&◌, unsigned_abs, nat_le, nat_lt, min, Some, None, inl, inr, subst}
-use Rattle.std.proofs.lemmas.Bool.{le-leb, lt-leb, cases_lt}
+use Rattle.std.proofs.Common.{◌≡◌, ℕ, ◌+◌, ◌-◌, ◌^◌, ◌<◌, ◌≤◌, true, false, ap, sym, ◌∙◌, arith, ◌&&◌, unsigned_abs, min, Some, None, subst}
+use Rattle.std.proofs.lemmas.Bool.{le-leb}
 use Rattle.decimal18.specs.Fraction.{Fraction}
 use Rattle.decimal18.specs.Arithmetic.{is_within}
 use Rattle.decimal18.specs.Quotient.{admits, extended, greatest}

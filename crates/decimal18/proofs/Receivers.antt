@@ -1,5 +1,5 @@
 -- What a receiver holds, by sign and digits.
-use Rattle.std.proofs.Common.{◌≡◌, ℕ, IfOk, refl, inl, inr, Bool, subst, ◌-◌, ◌/◌, ◌%◌, ◌^◌, ◌<◌, ◌≤◌, ap, sym, ◌∙◌, arith, unsigned_abs, ℤ, pos, int_div, nat_lt, nat_le, if◌then◌else◌, Result, Ok}
+use Rattle.std.proofs.Common.{◌≡◌, ℕ, IfOk, refl, inl, inr, Bool, subst, ◌-◌, ◌/◌, ◌%◌, ◌^◌, ◌<◌, ◌≤◌, ap, sym, ◌∙◌, unsigned_abs, ℤ, pos, int_div, nat_lt, if◌then◌else◌, Result, Ok}
 use Rattle.std.proofs.lemmas.Bool.{le-leb, lt-leb, cases_lt, lt-ltb, le-ltb}
 use Rattle.std.proofs.lemmas.Nat.{mod_below}
 use Rattle.decimal18.specs.TotalOrder.{ten_pos}

@@ -1,11 +1,10 @@
 -- How a coefficient is kept: as a low part, which fits 64 bits with its sign, and a high part, which counts multiples of
 -- 2^64. A coefficient that fits 64 bits is its own low part, and its high part is zero.
-use Rattle.std.proofs.Common.{◌≡◌, ℕ, zero, suc, ◌+◌, ◌-◌, ◌*◌, ◌/◌, ◌%◌, ◌^◌, ◌<◌, ◌≤◌, refl, ap, sym, ◌∙◌, arith, ℤ, pos, negsuc, neg_ℤ, ◌+ℤ◌, ◌-ℤ◌, ◌*ℤ◌, FitsSigned, inl, inr, cond, subst}
+use Rattle.std.proofs.Common.{◌≡◌, ℕ, zero, suc, ◌+◌, ◌-◌, ◌*◌, ◌/◌, ◌^◌, ◌<◌, ◌≤◌, refl, ap, sym, ◌∙◌, arith, ℤ, pos, negsuc, neg_ℤ, ◌+ℤ◌, ◌-ℤ◌, ◌*ℤ◌, FitsSigned, cond}
 use Rattle.std.specs.Int.{w64}
-use Rattle.std.proofs.Math.IntN.{sub_ℕ, +ℤ-neg_ℤ_cancel, -ℤ-+ℤ_cancel, +ℤ_idr, neg_ℤ-neg_ℤ}
-use Rattle.std.proofs.Math.Nat.{div-mul-le_self, lt-div-mul-add}
-use Rattle.std.proofs.lemmas.Bool.{cases_lt, lt-ltb, le-ltb}
-use Rattle.std.proofs.lemmas.Nat.{div-mul-add, div_below}
+use Rattle.std.proofs.Math.IntN.{sub_ℕ, +ℤ-neg_ℤ_cancel, -ℤ-+ℤ_cancel, +ℤ_idr}
+use Rattle.std.proofs.lemmas.Bool.{lt-ltb, le-ltb}
+use Rattle.std.proofs.lemmas.Nat.{div-mul-add}
 
 abbrev pub joined : ℤ → ℤ → ℤ
 joined low high = low +ℤ high *ℤ pos (2 ^ 64)

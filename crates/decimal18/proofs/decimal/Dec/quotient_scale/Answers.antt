@@ -1,4 +1,4 @@
-use Rattle.std.proofs.Common.{arith, ◌≡◌, ◌+◌, ◌-◌, ◌≤◌}
+use Rattle.std.proofs.Common.{arith, ◌+◌, ◌-◌, ◌≤◌}
 use Rattle.decimal18.proofs.QuotientScales.{scale_found, scale_admitted, no_scale}
 use Rattle.decimal18.proofs.decimal.Dec.quotient_scale.Goals as goal
 
