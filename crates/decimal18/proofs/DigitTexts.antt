@@ -1,10 +1,10 @@
 -- Digits written from the last to the first, and a number's digits in two parts.
-use Rattle.std.proofs.Common.{◌≡◌, ℕ, zero, suc, ◌+◌, ◌-◌, ◌*◌, ◌/◌, ◌%◌, ◌^◌, ◌<◌, ◌≤◌, List, [], ◌∷◌, ◌++◌, length, drop, ap, sym, ◌∙◌, arith, add-one, refl, inl, inr}
+use Rattle.std.proofs.Common.{◌≡◌, ℕ, zero, suc, ◌+◌, ◌-◌, ◌*◌, ◌/◌, ◌%◌, ◌^◌, ◌<◌, ◌≤◌, List, ◌∷◌, ◌++◌, length, drop, ap, sym, ◌∙◌, arith, add-one, refl, inl, inr}
 use Rattle.std.proofs.lemmas.Bool.{cases_lt}
 use Rattle.std.proofs.Math.ListN.{set}
 use Rattle.std.proofs.Math.Nat.{div-mul-le_self, div-div-eq-div-mul, pow-suc, mul-add-div_right, mul-add-mod_self_right, mul_assoc}
 use Rattle.std.proofs.lemmas.List.{drop-set, drop_all}
-use Rattle.std.proofs.lemmas.Nat.{pow-add, div-add-mod'}
+use Rattle.std.proofs.lemmas.Nat.{pow-add}
 use Rattle.decimal18.specs.Digits.{digit_text, digit_of}
 use Rattle.decimal18.specs.TotalOrder.{ten_pos}
 

@@ -1,5 +1,5 @@
 -- The definitions on small numbers.
-use Rattle.std.specs.Prelude.{◌≡◌, ◌*◌, false, ℤ, ℕ, pos, negsuc, refl, Ok, ◌^◌, ◌-◌, true, ◌∷◌, [], Some, None, Result}
+use Rattle.std.specs.Prelude.{◌≡◌, ◌*◌, ℤ, ℕ, pos, negsuc, refl, Ok, ◌^◌, ◌-◌, true, ◌∷◌, [], Some, None, Result}
 use Rattle.std.specs.declared.cmp.Ordering.TheVariants.{Less, Equal}
 use Rattle.decimal18.specs.Fraction.{Fraction, of_parts, absolute}
 use Rattle.decimal18.specs.Arithmetic.{sum, difference, product, size_error}

@@ -1,20 +1,29 @@
--- The greatest number up to a bound that passes a test, from above.
-use Rattle.std.proofs.Common.{◌≡◌, ℕ, zero, suc, ◌-◌, ◌<◌, Bool, true, false, ap, sym, ◌∙◌, arith, Some, None, if◌then◌else◌}
+-- The greatest number up to a bound that passes a test.
+use Rattle.std.proofs.Common.{◌≡◌, ℕ, zero, suc, ◌<◌, ◌≤◌, Bool, true, false, ap, sym, ◌∙◌, arith, Some, None, if◌then◌else◌, inl, inr, subst}
+use Rattle.std.proofs.Math.Nat.{eq-or-lt_of_le}
 use Rattle.decimal18.specs.Quotient.{greatest}
 
-pub greatest_here : (test : ℕ → Bool) (n : ℕ) → test n ≡ true → greatest test n ≡ Some n
+here : (test : ℕ → Bool) (n : ℕ) → test n ≡ true → greatest test n ≡ Some n
 unfolding greatest
-greatest_here test zero h = ap (λ b. if b then Some zero else None) h
-greatest_here test (suc n) h = ap (λ b. if b then Some (suc n) else greatest test n) h
+here test zero h = ap (λ b. if b then Some zero else None) h
+here test (suc n) h = ap (λ b. if b then Some (suc n) else greatest test n) h
 
-pub greatest_none : (test : ℕ → Bool) (n : ℕ) → n ≡ 0 → test n ≡ false → greatest test n ≡ None
+pub greatest_is : (test : ℕ → Bool) (n q : ℕ) → q ≤ n → test q ≡ true → ((r : ℕ) → q < r → r ≤ n → test r ≡ false) → greatest test n ≡ Some q
 unfolding greatest
-greatest_none test zero e h = ap (λ b. if b then Some zero else None) h
-greatest_none test (suc n) e h = absurd (omega arith)
+greatest_is test zero q h passes above = let same : q ≡ zero = omega arith in subst (λ m. test m ≡ true → greatest test zero ≡ Some m) (sym same) (here test zero) passes
+greatest_is test (suc n) q h passes above = elim (eq-or-lt_of_le h) [
+  | inl same ↦ subst (λ m. test m ≡ true → greatest test (suc n) ≡ Some m) (sym same) (here test (suc n)) passes
+  | inr less ↦
+      let most : suc n ≤ suc n = omega arith in
+      let lower : q ≤ n = omega arith in
+      ap (λ b. if b then Some (suc n) else greatest test n) (above (suc n) less most)
+      ∙ greatest_is test n q lower passes (λ r a b. let under : r ≤ suc n = omega arith in above r a under)
+]
 
-pub greatest_below : (test : ℕ → Bool) (n : ℕ) → 0 < n → test n ≡ false → greatest test (n - 1) ≡ greatest test n
+pub greatest_never : (test : ℕ → Bool) (n : ℕ) → ((r : ℕ) → r ≤ n → test r ≡ false) → greatest test n ≡ None
 unfolding greatest
-greatest_below test zero e h = absurd (omega arith)
-greatest_below test (suc n) e h =
-    let back : suc n - 1 ≡ n = omega arith in
-    ap (greatest test) back ∙ sym (ap (λ b. if b then Some (suc n) else greatest test n) h)
+greatest_never test zero none = ap (λ b. if b then Some zero else None) (none zero (omega arith))
+greatest_never test (suc n) none =
+    let most : suc n ≤ suc n = omega arith in
+    ap (λ b. if b then Some (suc n) else greatest test n) (none (suc n) most)
+    ∙ greatest_never test n (λ r a. let under : r ≤ suc n = omega arith in none r under)

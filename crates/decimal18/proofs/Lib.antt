@@ -4,14 +4,17 @@ pub mod DigitRuns
 pub mod DigitTexts
 pub mod Examples
 pub mod Greatest
+pub mod Halves
 pub mod Intermediates
 pub mod Powers
 pub mod ProductLaws
 pub mod QuotientLaws
+pub mod QuotientScales
 pub mod Raised
 pub mod ReceiverLaws
 pub mod Receivers
 pub mod Rounds
+pub mod ShortArithmetic
 pub mod Signs
 pub mod SumLaws
 pub mod Truncations

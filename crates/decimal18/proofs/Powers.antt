@@ -16,8 +16,8 @@ entry (suc n) k (suc i) h =
     let here : i < n = omega arith in
     entry n (suc k) i here ∙ ap (λ e. 10 ^ e) (omega arith)
 
-pub entry_of_table : (i : ℕ) → i < 39 → get_or (powers_from 39 0) i 0 ≡ 10 ^ i
-entry_of_table i h = entry 39 0 i h ∙ ap (λ e. 10 ^ e) (omega arith)
+pub entry_of_table : (n i : ℕ) → i < n → get_or (powers_from n 0) i 0 ≡ 10 ^ i
+entry_of_table n i h = entry n 0 i h ∙ ap (λ e. 10 ^ e) (omega arith)
 
 pub split_power : (k n : ℕ) → k ≤ n → 10 ^ n ≡ 10 ^ (n - k) * 10 ^ k
 split_power k n h = let e : n ≡ (n - k) + k = omega arith in ap (λ x. 10 ^ x) e ∙ pow-add 10 (n - k) k
@@ -71,3 +71,9 @@ low_shifted m k n r p h e f =
 
 pub low_below : (k n r p : ℕ) → k ≤ n → r < 10 ^ (n - k) → p ≡ 10 ^ k → r * p < 10 ^ n
 low_below k n r p h e f = subst (λ t. r * t < 10 ^ n) (sym f) (shifted_below r k n h e)
+
+-- Half of a unit of 64 bits.
+pub short_half : (k p : ℕ) → 0 < k → k ≤ 18 → p ≡ 10 ^ (k - 1) → 5 * p < 10 ^ 18
+short_half k p some most e =
+    let less : 10 ^ (k - 1) ≤ 10 ^ 17 = power_le (k - 1) 17 (omega arith) in
+    omega (arith, less, e)

@@ -1,6 +1,8 @@
 -- What a receiver holds, by sign and digits.
-use Rattle.std.proofs.Common.{◌≡◌, ℕ, Bool, subst, ◌-◌, ◌/◌, ◌%◌, ◌^◌, ◌<◌, ◌≤◌, ap, sym, ◌∙◌, arith, unsigned_abs, ℤ, pos, int_div, nat_lt, nat_le, if◌then◌else◌, Result, Ok}
-use Rattle.std.proofs.lemmas.Bool.{le-leb, lt-leb}
+use Rattle.std.proofs.Common.{◌≡◌, ℕ, IfOk, refl, inl, inr, Bool, subst, ◌-◌, ◌/◌, ◌%◌, ◌^◌, ◌<◌, ◌≤◌, ap, sym, ◌∙◌, unsigned_abs, ℤ, pos, int_div, nat_lt, if◌then◌else◌, Result, Ok}
+use Rattle.std.proofs.lemmas.Bool.{le-leb, lt-leb, cases_lt, lt-ltb, le-ltb}
+use Rattle.std.proofs.lemmas.Nat.{mod_below}
+use Rattle.decimal18.specs.TotalOrder.{ten_pos}
 use Rattle.decimal18.specs.Fraction.{Fraction, is_negative, signed}
 use Rattle.decimal18.specs.Arithmetic.{size_error}
 use Rattle.decimal18.specs.Receiver.{digits_at, at_scale, fitted, low_digits, truncated}
@@ -37,3 +39,37 @@ truncated_by x scale h =
 
 pub parts_below : (b : Bool) (n digits : ℕ) → n < 10 ^ digits → unsigned_abs (signed b n) < 10 ^ digits
 parts_below b n digits h = subst (λ m. m < 10 ^ digits) (sym (abs-signed b n)) h
+
+-- What is held is below the limit, and has the receiver's scale.
+pub fitted_below : (x : Fraction) (digits scale : ℕ) (rounding : Rounding) → IfOk (fitted x digits scale rounding) (λ kept. unsigned_abs kept.coefficient < 10 ^ digits)
+unfolding fitted
+fitted_below x digits scale rounding =
+    let n = unsigned_abs (at_scale x scale rounding) in
+    let held : Result Fraction Size = Ok (record { coefficient = at_scale x scale rounding; scale = scale }) in
+    let P : Result Fraction Size → Type 0 = λ r. IfOk r (λ kept. unsigned_abs kept.coefficient < 10 ^ digits) in
+    elim (cases_lt n (10 ^ digits)) [
+      | inl below ↦ subst P (sym (ap (λ b. if b then held else size_error) (lt-ltb n (10 ^ digits) below))) below
+      | inr over ↦ subst P (sym (ap (λ b. if b then held else size_error) (le-ltb n (10 ^ digits) over))) tt
+    ]
+
+pub fitted_at : (x : Fraction) (digits scale : ℕ) (rounding : Rounding) → IfOk (fitted x digits scale rounding) (λ kept. kept.scale ≡ scale)
+unfolding fitted
+fitted_at x digits scale rounding =
+    let n = unsigned_abs (at_scale x scale rounding) in
+    let held : Result Fraction Size = Ok (record { coefficient = at_scale x scale rounding; scale = scale }) in
+    let P : Result Fraction Size → Type 0 = λ r. IfOk r (λ kept. kept.scale ≡ scale) in
+    elim (cases_lt n (10 ^ digits)) [
+      | inl below ↦ subst P (sym (ap (λ b. if b then held else size_error) (lt-ltb n (10 ^ digits) below))) refl
+      | inr over ↦ subst P (sym (ap (λ b. if b then held else size_error) (le-ltb n (10 ^ digits) over))) tt
+    ]
+
+pub low_below_limit : (x : Fraction) (digits scale : ℕ) (rounding : Rounding) → unsigned_abs (low_digits x digits scale rounding).coefficient < 10 ^ digits
+low_below_limit x digits scale rounding =
+    let n = digits_at (unsigned_abs x.coefficient) x.scale scale rounding in
+    let size : unsigned_abs (low_digits x digits scale rounding).coefficient ≡ n % 10 ^ digits =
+    ap (λ (f : Fraction). unsigned_abs f.coefficient) (low_by x digits scale rounding) ∙ abs-signed (is_negative x.coefficient) (n % 10 ^ digits) in
+    subst (λ m. m < 10 ^ digits) (sym size) (mod_below n (10 ^ digits) (ten_pos digits))
+
+pub low_at : (x : Fraction) (digits scale : ℕ) (rounding : Rounding) → (low_digits x digits scale rounding).scale ≡ scale
+unfolding low_digits
+low_at x digits scale rounding = refl

@@ -1,5 +1,5 @@
 -- Sums, differences and products are exact, and the order of the operands is free.
-use Rattle.std.proofs.Common.{◌≡◌, ℕ, zero, suc, ◌+◌, ◌-◌, ◌^◌, ◌≤◌, max, min, Bool, true, false, ◌&&◌, refl, ap, sym, ◌∙◌, arith, ℤ, pos, negsuc, neg_ℤ, ◌*ℤ◌, ◌+ℤ◌, int_div, if◌then◌else◌, Result, Ok}
+use Rattle.std.proofs.Common.{◌≡◌, ℕ, zero, suc, ◌+◌, ◌-◌, ◌^◌, ◌≤◌, max, min, Bool, true, false, ◌&&◌, refl, ap, sym, ◌∙◌, arith, ℤ, pos, negsuc, neg_ℤ, ◌*ℤ◌, ◌+ℤ◌, int_div, if◌then◌else◌, Result, Ok, Some, None}
 use Rattle.std.proofs.Math.IntN.{+ℤ_assoc, +ℤ_comm, *ℤ_comm, suc_ℤ-*ℤ, *ℤ-zero}
 use Rattle.std.proofs.Math.Nat.{div-one, add_comm, max_comm}
 use Rattle.std.proofs.lemmas.Nat.{pow-add}
@@ -104,3 +104,18 @@ unfolding product
 product_commutes x y =
     ap (λ v. intermediate v (x.scale + y.scale)) (*ℤ_comm x.coefficient y.coefficient)
     ∙ ap (intermediate (y.coefficient *ℤ x.coefficient)) (add_comm x.scale y.scale)
+
+taken : (b : Bool) (z v : ℤ) → Some v ≡ (if b then Some z else None) → (b ≡ true) × (v ≡ z)
+taken true z v e = (refl, cc)
+taken false z v e = cc
+
+-- A sum of coefficients that passed the test of alignment.
+pub sum_of_aligned : (x y : Fraction) (a b : ℤ) (scale : ℕ) (r : Result Fraction Size) → scale ≡ max x.scale y.scale → Some a ≡ (if is_within (aligned x scale) then Some (aligned x scale) else None) → Some b ≡ (if is_within (aligned y scale) then Some (aligned y scale) else None) → r ≡ intermediate (a +ℤ b) scale → r ≡ sum x y
+unfolding sum
+sum_of_aligned x y a b scale r e f g h =
+    let p = taken (is_within (aligned x scale)) (aligned x scale) a f in
+    let q = taken (is_within (aligned y scale)) (aligned y scale) b g in
+    let total = intermediate (aligned x scale +ℤ aligned y scale) scale in
+    h ∙ ap (λ z. intermediate (z +ℤ b) scale) p.1 ∙ ap (λ z. intermediate (aligned x scale +ℤ z) scale) q.1
+    ∙ sym (ap (λ t. if t && is_within (aligned y scale) then total else size_error) p.0 ∙ ap (λ t. if t then total else size_error) q.0)
+    ∙ ap (combined ◌+ℤ◌ x y) e

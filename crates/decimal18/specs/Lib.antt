@@ -1,4 +1,5 @@
 pub mod Fraction
+pub mod Halves
 pub mod Arithmetic
 pub mod Quotient
 pub mod Receiver

@@ -80,9 +80,9 @@ impl Dec {
         raised(self.coefficient(), scale - self.scale())
     }
 
-    /// The exact sum, or a size error where an aligned coefficient or that of the sum has more than 38 digits.
+    /// The sum in 128 bits.
     #[tactic(auto, unfolding(crate::specs::Arithmetic::sum))]
-    pub fn add(self, other: Dec) -> Result<Dec, Size>
+    fn long_sum(self, other: Dec) -> Result<Dec, Size>
         ensures { result ≡ sum self other }
     {
         let scale = self.scale().max(other.scale());
@@ -95,24 +95,47 @@ impl Dec {
         total(left, right, scale)
     }
 
-    /// The exact difference, or a size error where an aligned coefficient or that of the difference has more than 38
-    /// digits.
-    #[tactic(auto, using(crate::proofs::Difference::as_sum))]
-    pub fn sub(self, other: Dec) -> Result<Dec, Size>
-        ensures { result ≡ difference self other }
-    {
-        self.add(-other)
-    }
-
-    /// The exact product, cut towards zero to 18 decimals, or a size error where its coefficient has more than 38 digits.
+    /// The product in 128 bits.
     #[tactic(auto, unfolding(crate::specs::Arithmetic::product))]
-    pub fn mul(self, other: Dec) -> Result<Dec, Size>
+    fn long_product(self, other: Dec) -> Result<Dec, Size>
         ensures { result ≡ product self other }
     {
         let negative = self.is_negative() != other.is_negative();
         match self.magnitude().checked_mul(other.magnitude()) {
             Some(magnitude) => limited(negative, magnitude, self.scale() + other.scale()),
             None => Err(Size),
+        }
+    }
+
+    /// The exact sum, or a size error where an aligned coefficient or that of the sum has more than 38 digits.
+    pub fn add(self, other: Dec) -> Result<Dec, Size>
+        ensures { result ≡ sum self other }
+    {
+        match self.short_sum(other) {
+            Some(sum) => Ok(sum),
+            None => self.long_sum(other),
+        }
+    }
+
+    /// The exact difference, or a size error where an aligned coefficient or that of the difference has more than 38
+    /// digits.
+    #[tactic(auto, using(crate::proofs::Difference::as_sum))]
+    pub fn sub(self, other: Dec) -> Result<Dec, Size>
+        ensures { result ≡ difference self other }
+    {
+        match self.short_difference(other) {
+            Some(difference) => Ok(difference),
+            None => self.long_sum(-other),
+        }
+    }
+
+    /// The exact product, cut towards zero to 18 decimals, or a size error where its coefficient has more than 38 digits.
+    pub fn mul(self, other: Dec) -> Result<Dec, Size>
+        ensures { result ≡ product self other }
+    {
+        match self.short_product(other) {
+            Some(product) => Ok(product),
+            None => self.long_product(other),
         }
     }
 }

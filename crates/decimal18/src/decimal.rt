@@ -1,6 +1,7 @@
-ghost use Rattle.std.specs.Prelude.{◌≡◌, ◌<◌, ◌≤◌, ◌^◌, ◌↔◌, IsTrue, pos, unsigned_abs};
+ghost use Rattle.std.specs.Prelude.{◌≡◌, ◌<◌, ◌≤◌, ◌^◌, ◌↔◌, IsTrue, IfSome, pos, unsigned_abs};
 ghost use Rattle.std.specs.Ordering.{int_eq};
 ghost use Rattle.decimal18.specs.Fraction.{is_negative, of_parts, absolute};
+ghost use Rattle.decimal18.specs.Halves.{high_part};
 
 use crate::arithmetic::with_sign;
 use std::marker::Model;
@@ -11,25 +12,49 @@ pub const COEFFICIENT_DIGITS: u8 = 38;
 /// The greatest scale.
 pub const MOST_SCALE: u8 = 18;
 
+/// What the high part of a coefficient counts: multiples of 2^64.
+const HIGH_UNIT: i128 = 0x1_0000_0000_0000_0000;
+
+/// Half of that. The low part of a coefficient is below it, and not below its negation.
+const HALF_UNIT: i128 = 0x8000_0000_0000_0000;
+
 /// An exact decimal number, `coefficient / 10^scale`: a coefficient below 10^38 in absolute value, and a scale from 0
 /// to 18. Those limits are this project's own choice.
 #[derive(Clone, Copy, Debug)]
 pub struct Dec {
-    coefficient: i128,
+    low: i64,
+    high: i64,
     scale: u8,
 }
 
 impl Model for Dec {
-    ghost use Rattle.std.specs.Prelude.{◌<◌, ◌≤◌, ◌^◌, unsigned_abs};
+    ghost use Rattle.std.specs.Prelude.{◌<◌, ◌≤◌, ◌^◌, unsigned_abs, FitsSigned};
+    ghost use Rattle.std.specs.Int.{w64};
     ghost use Rattle.decimal18.specs.Fraction.{Fraction};
+    ghost use Rattle.decimal18.specs.Halves.{joined, low_part, high_part, parts_of};
 
     ghost Value = { Fraction };
 
-    ghost view = { λ d. record { coefficient = d.coefficient; scale = d.scale } };
+    ghost view = { λ d. record { coefficient = joined d.low d.high; scale = d.scale } };
 
-    ghost invariant = { λ d. (unsigned_abs d.coefficient < 10 ^ 38) × (d.scale ≤ 18) };
+    ghost invariant = { λ d. (unsigned_abs (joined d.low d.high) < 10 ^ 38) × (d.scale ≤ 18) × FitsSigned w64 d.low };
 
-    ghost inverse = { λ x. record { coefficient = x.coefficient; scale = x.scale } };
+    ghost inverse = { λ x. record { low = low_part x.coefficient; high = high_part x.coefficient; scale = x.scale } };
+
+    ghost inverse_ok = { λ d h. parts_of (λ l u. record { low = l; high = u; scale = d.scale }) d.low d.high h.2 };
+}
+
+/// The high part of a coefficient: the nearest multiple of 2^64.
+#[tactic(auto, using(crate::proofs::Halves::high_by, crate::proofs::Halves::units_fit))]
+fn high_part(coefficient: i128) -> i64
+    requires { unsigned_abs coefficient < 10 ^ 38 }
+    ensures { result ≡ high_part coefficient }
+{
+    let negative = coefficient < 0;
+    let magnitude = coefficient.unsigned_abs();
+    let from_zero = if negative { magnitude - 1 } else { magnitude };
+    let units = ((from_zero + HALF_UNIT as u128) / HIGH_UNIT as u128) as i64;
+    if negative { -units } else { units }
 }
 
 impl Dec {
@@ -39,7 +64,37 @@ impl Dec {
         requires scale { scale ≤ 18 }
         ensures { result ≡ record { coefficient = coefficient; scale = scale } }
     {
-        Dec { coefficient, scale }
+        if coefficient < HALF_UNIT && coefficient >= -HALF_UNIT {
+            return Dec::short(coefficient as i64, scale);
+        }
+        let high = high_part(coefficient);
+        let low = coefficient - high as i128 * HIGH_UNIT;
+        Dec {
+            low: low as i64,
+            high,
+            scale,
+        }
+    }
+
+    /// The number with this coefficient of 64 bits.
+    #[tactic(auto, using(crate::specs::Halves::short_joined))]
+    pub(crate) fn short(coefficient: i64, scale: u8) -> Dec
+        requires { scale ≤ 18 }
+        ensures { result ≡ record { coefficient = coefficient; scale = scale } }
+    {
+        Dec {
+            low: coefficient,
+            high: 0,
+            scale,
+        }
+    }
+
+    /// The coefficient, where it fits 64 bits.
+    #[tactic(auto, using(crate::specs::Halves::short_joined))]
+    pub(crate) fn short_coefficient(self) -> Option<i64>
+        ensures { IfSome result (λ coefficient. coefficient ≡ self.coefficient) }
+    {
+        if self.high == 0 { Some(self.low) } else { None }
     }
 
     /// The number with this scale whose coefficient has this sign and absolute value; zero has no sign.
@@ -62,7 +117,7 @@ impl Dec {
         ensures value { result ≡ self.coefficient }
         ensures bound { unsigned_abs result < 10 ^ 38 }
     {
-        self.coefficient
+        self.low as i128 + self.high as i128 * HIGH_UNIT
     }
 
     /// Decimals, 0 to 18.
@@ -78,19 +133,19 @@ impl Dec {
         ensures value { result ≡ unsigned_abs self.coefficient }
         ensures bound { result < 10 ^ 38 }
     {
-        self.coefficient.unsigned_abs()
+        self.coefficient().unsigned_abs()
     }
 
     pub fn is_zero(self) -> bool
         ensures zero { IsTrue result ↔ (self.coefficient ≡ pos 0) }
         ensures test { result ≡ int_eq self.coefficient (pos 0) }
     {
-        self.coefficient == 0
+        self.coefficient() == 0
     }
 
     pub fn is_negative(self) -> bool
         ensures { result ≡ is_negative self.coefficient }
     {
-        self.coefficient < 0
+        self.coefficient() < 0
     }
 }

@@ -4,6 +4,7 @@
 
 mod arithmetic;
 mod decimal;
+mod digit_count;
 mod digit_text;
 mod digits;
 pub mod laws;
@@ -11,6 +12,8 @@ mod order;
 mod power;
 mod quotient;
 mod receiver;
+mod short_arithmetic;
+mod short_receiver;
 mod size_error;
 
 pub use decimal::Dec;

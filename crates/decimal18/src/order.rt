@@ -1,8 +1,9 @@
 ghost use Rattle.std.specs.Prelude.{◌≡◌, ◌<◌, ◌≤◌, ◌^◌, pos, ◌*ℤ◌, unsigned_abs};
 ghost use Rattle.std.specs.Ordering.{int_cmp};
+ghost use Rattle.decimal18.specs.Order.{order};
 
 use crate::decimal::Dec;
-use crate::power::power_of_ten;
+use crate::power::{power_of_ten, signed_power};
 use std::cmp::Ordering;
 
 /// The order of `left * 10^shift` and `right`.
@@ -16,6 +17,35 @@ fn raised_order(left: i128, shift: u8, right: i128) -> Ordering
         None if left < 0 => Ordering::Less,
         None => Ordering::Greater,
     }
+}
+
+/// The same in 64 bits.
+fn short_raised_order(left: i64, shift: u8, right: i64) -> Ordering
+    requires { shift ≤ 18 }
+    ensures { result ≡ int_cmp (left *ℤ pos (10 ^ shift)) right }
+{
+    if shift == 0 {
+        return left.cmp(&right);
+    }
+    match left.checked_mul(signed_power(shift)) {
+        Some(raised) => raised.cmp(&right),
+        None if left < 0 => Ordering::Less,
+        None => Ordering::Greater,
+    }
+}
+
+/// The order of two numbers, the first of which has no more decimals.
+fn order_of(left: Dec, right: Dec) -> Ordering
+    requires { left.scale ≤ right.scale }
+    ensures { result ≡ order left right }
+{
+    let shift = right.scale() - left.scale();
+    if let Some(one) = left.short_coefficient() {
+        if let Some(two) = right.short_coefficient() {
+            return short_raised_order(one, shift, two);
+        }
+    }
+    raised_order(left.coefficient(), shift, right.coefficient())
 }
 
 impl Ord for Dec {
@@ -34,18 +64,9 @@ impl Ord for Dec {
     fn cmp(&self, other: &Dec) -> Ordering {
         let (left, right) = (*self, *other);
         if left.scale() <= right.scale() {
-            raised_order(
-                left.coefficient(),
-                right.scale() - left.scale(),
-                right.coefficient(),
-            )
+            order_of(left, right)
         } else {
-            raised_order(
-                right.coefficient(),
-                left.scale() - right.scale(),
-                left.coefficient(),
-            )
-            .reverse()
+            order_of(right, left).reverse()
         }
     }
 }

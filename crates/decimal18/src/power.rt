@@ -1,4 +1,4 @@
-ghost use Rattle.std.specs.Prelude.{◌≡◌, ◌<◌, ◌≤◌, ◌^◌};
+ghost use Rattle.std.specs.Prelude.{◌≡◌, ◌<◌, ◌≤◌, ◌^◌, pos};
 
 /// Powers of ten in the table.
 const COUNT: usize = 39;
@@ -52,4 +52,48 @@ pub fn power_of_ten(exponent: u8) -> u128
     ensures positive { 0 < result }
 {
     POWERS[exponent as usize]
+}
+
+/// Powers of ten that fit 64 bits.
+const SHORT_COUNT: usize = 20;
+
+const SHORT_POWERS: [u64; SHORT_COUNT] = [
+    1,
+    10,
+    100,
+    1_000,
+    10_000,
+    100_000,
+    1_000_000,
+    10_000_000,
+    100_000_000,
+    1_000_000_000,
+    10_000_000_000,
+    100_000_000_000,
+    1_000_000_000_000,
+    10_000_000_000_000,
+    100_000_000_000_000,
+    1_000_000_000_000_000,
+    10_000_000_000_000_000,
+    100_000_000_000_000_000,
+    1_000_000_000_000_000_000,
+    10_000_000_000_000_000_000,
+];
+
+/// 10 to an exponent of at most 19, in 64 bits.
+pub fn short_power(exponent: u8) -> u64
+    requires { exponent ≤ 19 }
+    ensures value { result ≡ 10 ^ exponent }
+    ensures positive { 0 < result }
+{
+    SHORT_POWERS[exponent as usize]
+}
+
+/// 10 to an exponent of at most 18, in 64 bits with a sign.
+#[tactic(auto, using(crate::proofs::Powers::power_le))]
+pub fn signed_power(exponent: u8) -> i64
+    requires { exponent ≤ 18 }
+    ensures { result ≡ pos (10 ^ exponent) }
+{
+    short_power(exponent) as i64
 }

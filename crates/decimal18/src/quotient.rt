@@ -3,35 +3,22 @@ ghost use Rattle.decimal18.specs.Quotient.{admits, extended, greatest, quotient}
 
 use crate::arithmetic::{divided, with_sign};
 use crate::decimal::{COEFFICIENT_DIGITS, Dec, MOST_SCALE};
+use crate::digit_count::digit_count;
 use crate::power::power_of_ten;
 use crate::size_error::Size;
 
 impl Dec {
-    fn admits(self, divisor: Dec, scale: u8) -> bool
-        requires { scale ≤ 18 }
-        ensures { result ≡ admits self divisor scale }
-    {
-        let wanted = scale + divisor.scale();
-        if wanted < self.scale() {
-            return false;
-        }
-        let zeros = wanted - self.scale();
-        self.magnitude() < power_of_ten(COEFFICIENT_DIGITS - zeros)
-    }
-
-    /// The greatest scale that the quotient may have.
+    /// The greatest scale that the quotient may have: the dividend's coefficient takes as many zeros as leave it at most
+    /// 38 digits.
     fn quotient_scale(self, divisor: Dec) -> Option<u8>
         ensures value { result ≡ greatest (admits self divisor) 18 }
         ensures admitted { IfSome result (λ q. (q ≤ 18) × (admits self divisor q ≡ true)) }
     {
-        let mut scale = MOST_SCALE;
-        while !self.admits(divisor, scale) {
-            if scale == 0 {
-                return None;
-            }
-            scale -= 1;
+        let most = COEFFICIENT_DIGITS - digit_count(self.magnitude()) + self.scale();
+        if most < divisor.scale() {
+            return None;
         }
-        Some(scale)
+        Some((most - divisor.scale()).min(MOST_SCALE))
     }
 
     fn quotient_with(self, divisor: Dec, scale: u8) -> Dec

@@ -4,6 +4,7 @@ ghost use Rattle.decimal18.specs.Receiver.{carry, digits_at, fitted, low_digits,
 use crate::arithmetic::divided;
 use crate::decimal::Dec;
 use crate::power::power_of_ten;
+use crate::short_receiver::SHORT_DIGITS;
 use crate::size_error::Size;
 
 /// What becomes of the digits that a receiver has no places for (COBOL-85, Nucleus, the ROUNDED phrase).
@@ -81,7 +82,7 @@ fn fitted_digits(
     requires scale { scale ≤ 18 }
     requires decimals { scale ≤ digits }
     ensures value { result ≡ (if nat_lt (digits_at magnitude from scale rounding) (10 ^ digits) then Some (digits_at magnitude from scale rounding) else None) }
-    ensures bound { IfSome result (λ kept. kept < 10 ^ digits) }
+    ensures bound { IfSome result (λ kept. kept < 10 ^ 38) }
 {
     if from <= scale {
         return lengthened(magnitude, scale - from, digits);
@@ -113,9 +114,35 @@ fn low_part(magnitude: u128, from: u8, digits: u8, scale: u8, rounding: Rounding
 }
 
 impl Dec {
+    /// What a receiver holds, in 128 bits.
+    #[tactic(auto, using(crate::proofs::Receivers::fitted_by))]
+    fn long_fit(self, digits: u8, scale: u8, rounding: Rounding) -> Result<Dec, Size>
+        requires digits { digits ≤ 38 }
+        requires scale { scale ≤ 18 }
+        requires decimals { scale ≤ digits }
+        ensures { result ≡ fitted self digits scale rounding }
+    {
+        match fitted_digits(self.magnitude(), self.scale(), digits, scale, rounding) {
+            Some(kept) => Ok(Dec::from_parts(self.is_negative(), kept, scale)),
+            None => Err(Size),
+        }
+    }
+
+    /// The low digits that fit, in 128 bits.
+    #[tactic(auto, using(crate::proofs::Receivers::low_by, crate::proofs::Powers::power_le))]
+    fn long_cut(self, digits: u8, scale: u8, rounding: Rounding) -> Dec
+        requires digits { digits ≤ 38 }
+        requires scale { scale ≤ 18 }
+        requires decimals { scale ≤ digits }
+        ensures { result ≡ low_digits self digits scale rounding }
+    {
+        let kept = low_part(self.magnitude(), self.scale(), digits, scale, rounding);
+        Dec::from_parts(self.is_negative(), kept, scale)
+    }
+
     /// What a receiver of `digits` digits (at most 38), `scale` of them decimals (at most 18), holds of the number: a size
     /// error where it would have more whole digits than that.
-    #[tactic(auto, using(crate::proofs::Receivers::fitted_by, crate::proofs::Powers::power_le, crate::proofs::Receivers::parts_below))]
+    #[tactic(auto, using(crate::proofs::Receivers::fitted_below, crate::proofs::Receivers::fitted_at))]
     pub fn fit(self, digits: u8, scale: u8, rounding: Rounding) -> Result<Dec, Size>
         requires digits { digits ≤ 38 }
         requires scale { scale ≤ 18 }
@@ -124,14 +151,16 @@ impl Dec {
         ensures bound { IfOk result (λ kept. unsigned_abs kept.coefficient < 10 ^ digits) }
         ensures at { IfOk result (λ kept. kept.scale ≡ scale) }
     {
-        match fitted_digits(self.magnitude(), self.scale(), digits, scale, rounding) {
-            Some(kept) => Ok(Dec::from_parts(self.is_negative(), kept, scale)),
-            None => Err(Size),
+        if digits <= SHORT_DIGITS {
+            if let Some(coefficient) = self.short_coefficient() {
+                return self.short_fit(coefficient, digits, scale, rounding);
+            }
         }
+        self.long_fit(digits, scale, rounding)
     }
 
     /// What such a receiver holds where no size error is told: the low digits that fit.
-    #[tactic(auto, using(crate::proofs::Receivers::low_by, crate::proofs::Powers::power_le, crate::proofs::Receivers::parts_below))]
+    #[tactic(auto, using(crate::proofs::Receivers::low_below_limit, crate::proofs::Receivers::low_at))]
     pub fn cut(self, digits: u8, scale: u8, rounding: Rounding) -> Dec
         requires digits { digits ≤ 38 }
         requires scale { scale ≤ 18 }
@@ -140,8 +169,12 @@ impl Dec {
         ensures bound { unsigned_abs result.coefficient < 10 ^ digits }
         ensures at { result.scale ≡ scale }
     {
-        let kept = low_part(self.magnitude(), self.scale(), digits, scale, rounding);
-        Dec::from_parts(self.is_negative(), kept, scale)
+        if digits <= SHORT_DIGITS {
+            if let Some(coefficient) = self.short_coefficient() {
+                return self.short_cut(coefficient, digits, scale, rounding);
+            }
+        }
+        self.long_cut(digits, scale, rounding)
     }
 
     /// The number cut towards zero at a scale, with its sign and all its whole digits: the number itself where it has no

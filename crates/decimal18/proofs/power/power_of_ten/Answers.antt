@@ -6,5 +6,5 @@ use Rattle.decimal18.proofs.power.power_of_ten.Goals as goal
 pub returns : goal.returns
 returns c =
     let within : c.args.exponent < 39 = omega arith in
-    let value = entry_of_table c.args.exponent within in
+    let value = entry_of_table 39 c.args.exponent within in
     record { value = value; positive = subst (λ n. 0 < n) (sym value) (ten_pos c.args.exponent) }

@@ -1,26 +1,21 @@
-use Rattle.std.proofs.Common.{arith, ◌≡◌, sym, ◌∙◌, true}
-use Rattle.decimal18.specs.Quotient.{admits}
-use Rattle.decimal18.proofs.Greatest.{greatest_here, greatest_none, greatest_below}
+use Rattle.std.proofs.Common.{arith, ◌+◌, ◌-◌, ◌≤◌}
+use Rattle.decimal18.proofs.QuotientScales.{scale_found, scale_admitted, no_scale}
 use Rattle.decimal18.proofs.decimal.Dec.quotient_scale.Goals as goal
 
-pub returns-then-scale-eq0-clause-value : goal.returns-then-scale-eq0-clause-value
-returns-then-scale-eq0-clause-value c =
-    let test = admits c.args.self c.args.divisor in
-    sym (greatest_none test c.loop-self.scale c.if-scale-eq0.true (sym c.admits.ensures ∙ c.loop-self-test.true)) ∙ c.loop-self.invariant.rest
+pub returns-then-most-scale-clause-value : goal.returns-then-most-scale-clause-value
+returns-then-most-scale-clause-value c =
+    let dividend : c.args.self.scale ≤ 18 = omega arith in
+    let divisor : c.args.divisor.scale ≤ 18 = omega arith in
+    no_scale c.args.self c.args.divisor c.magnitude.result c.digit_count.result (38 - c.digit_count.result + c.scale.result) dividend divisor c.magnitude.ensures.value c.digit_count.ensures.below c.digit_count.ensures.least c.digit_count.ensures.most (omega arith) (omega arith)
 
-pub loop-self-preserved : goal.loop-self-preserved
-loop-self-preserved c =
-    let test = admits c.args.self c.args.divisor in
-    record {
-      most = omega arith;
-      rest = greatest_below test c.loop-self.scale (omega arith) (sym c.admits.ensures ∙ c.loop-self-test.true) ∙ c.loop-self.invariant.rest;
-    }
+pub returns-clause-value : goal.returns-clause-value
+returns-clause-value c =
+    let dividend : c.args.self.scale ≤ 18 = omega arith in
+    let divisor : c.args.divisor.scale ≤ 18 = omega arith in
+    scale_found c.args.self c.args.divisor c.magnitude.result c.digit_count.result (38 - c.digit_count.result + c.scale.result) c.min.result dividend divisor c.magnitude.ensures.value c.digit_count.ensures.below c.digit_count.ensures.least c.digit_count.ensures.most (omega arith) (omega arith) (omega arith)
 
-pub returns : goal.returns
-returns c =
-    let test = admits c.args.self c.args.divisor in
-    let passes : test c.loop-self.scale ≡ true = sym c.admits.ensures ∙ c.loop-self-test.false in
-    record {
-      value = sym (greatest_here test c.loop-self.scale passes) ∙ c.loop-self.invariant.rest;
-      admitted = (c.loop-self.invariant.most, passes);
-    }
+pub returns-clause-admitted : goal.returns-clause-admitted
+returns-clause-admitted c =
+    let dividend : c.args.self.scale ≤ 18 = omega arith in
+    let divisor : c.args.divisor.scale ≤ 18 = omega arith in
+    (omega arith, scale_admitted c.args.self c.args.divisor c.magnitude.result c.digit_count.result (38 - c.digit_count.result + c.scale.result) c.min.result dividend divisor c.magnitude.ensures.value c.digit_count.ensures.below c.digit_count.ensures.most (omega arith) (omega arith) (omega arith))
