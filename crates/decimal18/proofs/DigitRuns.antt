@@ -2,7 +2,9 @@
 use Rattle.std.proofs.Common.{◌≡◌, ℕ, ◌+◌, ◌-◌, ◌*◌, ◌^◌, ◌<◌, ◌≤◌, List, [], ◌∷◌, length, drop, get_or, ap, sym, ◌∙◌, arith, add-one, nat_lt, Some, None, if◌then◌else◌, subst}
 use Rattle.std.proofs.Math.Seq.{drop-cons}
 use Rattle.std.proofs.lemmas.Bool.{le-ltb}
+use Rattle.std.proofs.Math.Nat.{pow-suc}
 use Rattle.decimal18.specs.Digits.{digits_behind}
+use Rattle.decimal18.proofs.Powers.{power_le}
 
 grows : (n : ℕ) (cs : List ℕ) → n ≤ digits_behind n cs
 grows n [] = omega arith
@@ -17,3 +19,19 @@ too_long n i all p cs h q above e =
     let least : 10 ^ 37 ≤ n = subst (λ m. m ≤ n) q above in
     let over : 10 ^ 38 ≤ all = subst (λ m. 10 ^ 38 ≤ m) e (omega (arith, next, least)) in
     sym (ap (λ b. if b then Some all else None) (le-ltb all (10 ^ 38) over))
+
+-- A run of at most 18 digits stays below 10^18.
+pub room_behind : (n i : ℕ) → i < 18 → n < 10 ^ i → 10 * n + 9 < 10 ^ 18
+room_behind n i h below =
+    let most : 10 ^ i ≤ 10 ^ 17 = power_le i 17 (omega arith) in
+    omega (arith, below, most)
+
+pub digit_behind : (n i d : ℕ) → n < 10 ^ i → d ≤ 9 → 10 * n + d < 10 ^ (i + 1)
+digit_behind n i d below h =
+    let power : 10 ^ (i + 1) ≡ 10 ^ i * 10 = ap (λ k. 10 ^ k) (add-one i) ∙ pow-suc 10 i in
+    omega (arith, below, power)
+
+pub short_run : (n i : ℕ) → i ≤ 18 → n < 10 ^ i → n < 10 ^ 18
+short_run n i h below =
+    let most : 10 ^ i ≤ 10 ^ 18 = power_le i 18 h in
+    omega (arith, below, most)

@@ -1,12 +1,12 @@
 -- The definitions on small numbers.
-use Rattle.std.specs.Prelude.{◌≡◌, ℤ, ℕ, pos, negsuc, refl, Ok, ◌^◌, ◌-◌, true, ◌∷◌, [], Some, None, Result}
+use Rattle.std.specs.Prelude.{◌≡◌, ◌*◌, false, ℤ, ℕ, pos, negsuc, refl, Ok, ◌^◌, ◌-◌, true, ◌∷◌, [], Some, None, Result}
 use Rattle.std.specs.declared.cmp.Ordering.TheVariants.{Less, Equal}
-use Rattle.decimal18.specs.Fraction.{Fraction}
+use Rattle.decimal18.specs.Fraction.{Fraction, of_parts, absolute}
 use Rattle.decimal18.specs.Arithmetic.{sum, difference, product, size_error}
 use Rattle.decimal18.specs.Quotient.{quotient, greatest}
-use Rattle.decimal18.specs.Receiver.{fitted, low_digits}
+use Rattle.decimal18.specs.Receiver.{fitted, low_digits, truncated}
 use Rattle.decimal18.specs.Order.{order}
-use Rattle.decimal18.specs.Digits.{spelled, whole}
+use Rattle.decimal18.specs.Digits.{spelled, whole, digit_text}
 use Rattle.decimal18.specs.declared.size_error.Size.{Size}
 use Rattle.decimal18.specs.declared.receiver.Rounding.TheVariants.{Truncated, Rounded}
 
@@ -120,3 +120,60 @@ integer = refl
 
 no_integer : whole (number (pos 125) 1) ≡ None
 no_integer = refl
+
+-- -12.5 and zero, which has no sign, by their parts; -12.5 without its sign.
+parts : of_parts true 125 1 ≡ number (negsuc 124) 1
+parts = refl
+
+zero_parts : of_parts true 0 2 ≡ number (pos 0) 2
+zero_parts = refl
+
+without_sign : absolute (number (negsuc 124) 1) ≡ number (pos 125) 1
+without_sign = refl
+
+-- 12.34 in six characters, in three and in none.
+six_characters : digit_text 6 1234 ≡ 48 ∷ 48 ∷ 49 ∷ 50 ∷ 51 ∷ 52 ∷ []
+six_characters = refl
+
+three_characters : digit_text 3 1234 ≡ 50 ∷ 51 ∷ 52 ∷ []
+three_characters = refl
+
+no_characters : digit_text 0 1234 ≡ []
+no_characters = refl
+
+-- -2.75 cut at one decimal, and at three.
+cut_short : truncated (number (negsuc 274) 2) 1 ≡ number (negsuc 26) 1
+unfolding truncated
+cut_short = refl
+
+cut_long : truncated (number (negsuc 274) 2) 3 ≡ number (negsuc 274) 2
+unfolding truncated
+cut_long = refl
+
+-- DIVIDE 100 BY 7 GIVING Q REMAINDER R, Q of one decimal: 14.2 and 0.6.
+one_decimal : truncated (number (pos 14285714285714285714) 18) 1 ≡ number (pos 142) 1
+unfolding truncated
+one_decimal = refl
+
+-- DIVIDE 999 BY 1E-18 GIVING Q REMAINDER R, Q of 18 decimals: the quotient has 17, and keeps all its whole digits, so that
+-- the remainder is 0.
+long_quotient : quotient (number (pos 999) 0) (number (pos 1) 18) ≡ given (pos (999 * 10 ^ 35)) 17
+unfolding quotient greatest
+long_quotient = refl
+
+all_whole_digits : truncated (number (pos (999 * 10 ^ 35)) 17) 18 ≡ number (pos (999 * 10 ^ 35)) 17
+unfolding truncated
+all_whole_digits = refl
+
+times_divisor : product (number (pos (999 * 10 ^ 35)) 17) (number (pos 1) 18) ≡ given (pos (999 * 10 ^ 18)) 18
+unfolding product
+times_divisor = refl
+
+no_remainder : difference (number (pos 999) 0) (number (pos (999 * 10 ^ 18)) 18) ≡ given (pos 0) 18
+unfolding difference
+no_remainder = refl
+
+-- The low 38 digits would have lost a whole digit.
+low_digits_lose : low_digits (number (pos (999 * 10 ^ 35)) 17) 38 18 Truncated ≡ number (pos (99 * 10 ^ 36)) 18
+unfolding low_digits
+low_digits_lose = refl

@@ -1,8 +1,10 @@
 pub mod Alignment
 pub mod Difference
 pub mod DigitRuns
+pub mod DigitTexts
 pub mod Examples
 pub mod Greatest
+pub mod Intermediates
 pub mod Powers
 pub mod ProductLaws
 pub mod QuotientLaws
@@ -12,3 +14,4 @@ pub mod Receivers
 pub mod Rounds
 pub mod Signs
 pub mod SumLaws
+pub mod Truncations

@@ -69,8 +69,5 @@ low_shifted m k n r p h e f =
     ap (λ t. t * p) e ∙ ap (λ t. m % 10 ^ (n - k) * t) f
     ∙ sym (ap (λ t. t % 10 ^ n) split ∙ mod-mul-add (m / 10 ^ (n - k)) (10 ^ n) (m % 10 ^ (n - k) * 10 ^ k) low)
 
-pub low_below : (m k n r p : ℕ) → k ≤ n → n ≤ 38 → r < 10 ^ (n - k) → p ≡ 10 ^ k → r * p < 10 ^ 38
-low_below m k n r p h most e f =
-    let within : r * 10 ^ k < 10 ^ n = shifted_below r k n h e in
-    let room : 10 ^ n ≤ 10 ^ 38 = power_le n 38 most in
-    subst (λ t. r * t < 10 ^ 38) (sym f) (omega (arith, within, room))
+pub low_below : (k n r p : ℕ) → k ≤ n → r < 10 ^ (n - k) → p ≡ 10 ^ k → r * p < 10 ^ n
+low_below k n r p h e f = subst (λ t. r * t < 10 ^ n) (sym f) (shifted_below r k n h e)

@@ -21,7 +21,7 @@ answer x = Ok x
 pub inside : (x z : Fraction) → answer x ≡ answer z → x ≡ z
 inside x z e = cc
 
-div_one : (z : ℤ) → int_div z (pos 1) ≡ z
+pub div_one : (z : ℤ) → int_div z (pos 1) ≡ z
 div_one (pos n) = ap pos (div-one n)
 div_one (negsuc n) = ap (λ m. neg_ℤ (pos m)) (div-one (suc n))
 

@@ -1,5 +1,5 @@
 -- Numbers from and by their decimal digits (COBOL-85, Nucleus, numeric literals and the digit positions of a numeric item).
-use Rattle.std.specs.Prelude.{ℕ, Bool, ℤ, pos, List, [], ◌∷◌, ◌+◌, ◌-◌, ◌*◌, ◌/◌, ◌%◌, ◌^◌, ◌==◌, unsigned_abs, int_div, if◌then◌else◌, Option, Some, None, Result}
+use Rattle.std.specs.Prelude.{ℕ, zero, suc, Bool, ℤ, pos, List, [], ◌∷◌, ◌+◌, ◌-◌, ◌*◌, ◌/◌, ◌%◌, ◌^◌, ◌==◌, unsigned_abs, int_div, if◌then◌else◌, Option, Some, None, Result}
 use Rattle.decimal18.specs.Fraction.{Fraction, signed}
 use Rattle.decimal18.specs.Arithmetic.{intermediate}
 use Rattle.decimal18.specs.declared.size_error.Size.{Size}
@@ -16,6 +16,12 @@ spelled negative digits scale = intermediate (signed negative (digits_behind 0 d
 -- The digit of n with so many digits to its right.
 abbrev pub digit_of : ℕ → ℕ → ℕ
 digit_of n place = n / 10 ^ place % 10
+
+-- The last digits of n, so many, as ASCII characters: each is 48 plus the digit with as many places to its right as
+-- characters follow it.
+abbrev pub digit_text : ℕ → ℕ → List ℕ
+digit_text zero n = []
+digit_text (suc count) n = (48 + digit_of n count) ∷ digit_text count n
 
 -- The integer that the number is, if it is one.
 abbrev pub whole : Fraction → Option ℤ

@@ -1,5 +1,5 @@
 -- Decimal fractions, on integers without bound.
-use Rattle.std.specs.Prelude.{ℕ, Bool, true, false, ℤ, pos, negsuc, neg_ℤ, ◌*ℤ◌, ◌^◌, ◌-◌}
+use Rattle.std.specs.Prelude.{ℕ, Bool, true, false, ℤ, pos, negsuc, neg_ℤ, ◌*ℤ◌, unsigned_abs, ◌^◌, ◌-◌}
 
 -- The number coefficient / 10 ^ scale.
 pub record Fraction : Type 0 where
@@ -14,6 +14,14 @@ is_negative (negsuc n) = true
 abbrev pub signed : Bool → ℕ → ℤ
 signed false n = pos n
 signed true n = neg_ℤ (pos n)
+
+-- The number whose coefficient has this sign and absolute value.
+abbrev pub of_parts : Bool → ℕ → ℕ → Fraction
+of_parts negative magnitude scale = record { coefficient = signed negative magnitude; scale = scale }
+
+-- The number without its sign.
+abbrev pub absolute : Fraction → Fraction
+absolute x = record { coefficient = pos (unsigned_abs x.coefficient); scale = x.scale }
 
 -- The coefficient that the same number has at a scale that is not less.
 abbrev pub aligned : Fraction → ℕ → ℤ

@@ -1,7 +1,8 @@
 ghost use Rattle.std.specs.Prelude.{◌≡◌, ◌<◌, ◌≤◌, ◌^◌, ◌↔◌, IsTrue, pos, unsigned_abs};
 ghost use Rattle.std.specs.Ordering.{int_eq};
-ghost use Rattle.decimal18.specs.Fraction.{is_negative};
+ghost use Rattle.decimal18.specs.Fraction.{is_negative, of_parts, absolute};
 
+use crate::arithmetic::with_sign;
 use std::marker::Model;
 
 /// Decimal digits that a coefficient may have.
@@ -39,6 +40,22 @@ impl Dec {
         ensures { result ≡ record { coefficient = coefficient; scale = scale } }
     {
         Dec { coefficient, scale }
+    }
+
+    /// The number with this scale whose coefficient has this sign and absolute value; zero has no sign.
+    pub fn from_parts(negative: bool, magnitude: u128, scale: u8) -> Dec
+        requires magnitude { magnitude < 10 ^ 38 }
+        requires scale { scale ≤ 18 }
+        ensures { result ≡ of_parts negative magnitude scale }
+    {
+        Dec::new(with_sign(negative, magnitude), scale)
+    }
+
+    /// The number without its sign.
+    pub fn abs(self) -> Dec
+        ensures { result ≡ absolute self }
+    {
+        Dec::from_parts(false, self.magnitude(), self.scale())
     }
 
     pub fn coefficient(self) -> i128

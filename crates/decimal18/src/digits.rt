@@ -1,4 +1,4 @@
-ghost use Rattle.std.specs.Prelude.{◌≡◌, ◌<◌, ◌≤◌, ◌^◌, All, nat_lt, IfSome, if◌then◌else◌, unsigned_abs, Ok};
+ghost use Rattle.std.specs.Prelude.{length, ◌≡◌, ◌<◌, ◌≤◌, ◌^◌, All, nat_lt, IfSome, if◌then◌else◌, unsigned_abs, Ok};
 ghost use Rattle.std.specs.Char.{IsAsciiDigit};
 ghost use Rattle.decimal18.specs.Arithmetic.{is_within, size_error};
 ghost use Rattle.decimal18.specs.Digits.{digits_behind, spelled, digit_of, whole};
@@ -10,6 +10,27 @@ use crate::size_error::Size;
 
 /// The radix of decimal digits.
 const RADIX: u128 = 10;
+
+/// The same in 64 bits.
+const SHORT_RADIX: u64 = 10;
+
+/// Digits whose number is below 2^64, whatever they are.
+const SHORT: usize = 18;
+
+/// The number that at most 18 ASCII digits stand for.
+#[tactic(auto, using(crate::proofs::DigitRuns::digit_behind))]
+fn short_number(digits: &[u8]) -> u64
+    requires digits { All IsAsciiDigit digits.now }
+    requires short { length digits.now ≤ 18 }
+    ensures value { result ≡ digits_behind 0 digits.now }
+    ensures bound { result < 10 ^ 18 }
+{
+    let mut number = 0;
+    for digit in digits {
+        number = SHORT_RADIX * number + (*digit - b'0') as u64;
+    }
+    number
+}
 
 /// The number that ASCII digits stand for behind those of `front`, if it has at most 38 digits.
 fn number_behind(front: u128, digits: &[u8]) -> Option<u128>
@@ -43,14 +64,18 @@ impl Dec {
 
     /// The number with these ASCII digits, the last `scale` of them (at most 18) decimals: a size error where it has more
     /// than 38 digits, zeros in front not counted.
-    #[tactic(auto, unfolding(crate::specs::Digits::spelled))]
+    #[tactic(auto, using(crate::proofs::Intermediates::spelled_short), unfolding(crate::specs::Digits::spelled))]
     pub fn from_digits(negative: bool, digits: &[u8], scale: u8) -> Result<Dec, Size>
         requires digits { All IsAsciiDigit digits.now }
         requires scale { scale ≤ 18 }
         ensures { result ≡ spelled negative digits.now scale }
     {
+        if digits.len() <= SHORT {
+            let magnitude = short_number(digits) as u128;
+            return Ok(Dec::from_parts(negative, magnitude, scale));
+        }
         match number_behind(0, digits) {
-            Some(magnitude) => Ok(Dec::new(with_sign(negative, magnitude), scale)),
+            Some(magnitude) => Ok(Dec::from_parts(negative, magnitude, scale)),
             None => Err(Size),
         }
     }

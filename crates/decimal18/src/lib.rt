@@ -4,6 +4,7 @@
 
 mod arithmetic;
 mod decimal;
+mod digit_text;
 mod digits;
 pub mod laws;
 mod order;

@@ -1,7 +1,7 @@
-ghost use Rattle.std.specs.Prelude.{◌≡◌, ◌<◌, ◌≤◌, ◌+◌, ◌*◌, ◌/◌, ◌%◌, ◌^◌, nat_lt, IfSome, if◌then◌else◌};
-ghost use Rattle.decimal18.specs.Receiver.{carry, digits_at, fitted, low_digits};
+ghost use Rattle.std.specs.Prelude.{◌≡◌, ◌<◌, ◌≤◌, ◌+◌, ◌*◌, ◌/◌, ◌%◌, ◌^◌, nat_lt, IfSome, IfOk, unsigned_abs, if◌then◌else◌};
+ghost use Rattle.decimal18.specs.Receiver.{carry, digits_at, fitted, low_digits, truncated};
 
-use crate::arithmetic::{divided, with_sign};
+use crate::arithmetic::divided;
 use crate::decimal::Dec;
 use crate::power::power_of_ten;
 use crate::size_error::Size;
@@ -81,7 +81,7 @@ fn fitted_digits(
     requires scale { scale ≤ 18 }
     requires decimals { scale ≤ digits }
     ensures value { result ≡ (if nat_lt (digits_at magnitude from scale rounding) (10 ^ digits) then Some (digits_at magnitude from scale rounding) else None) }
-    ensures bound { IfSome result (λ kept. kept < 10 ^ 38) }
+    ensures bound { IfSome result (λ kept. kept < 10 ^ digits) }
 {
     if from <= scale {
         return lengthened(magnitude, scale - from, digits);
@@ -102,7 +102,7 @@ fn low_part(magnitude: u128, from: u8, digits: u8, scale: u8, rounding: Rounding
     requires scale { scale ≤ 18 }
     requires decimals { scale ≤ digits }
     ensures value { result ≡ digits_at magnitude from scale rounding % 10 ^ digits }
-    ensures bound { result < 10 ^ 38 }
+    ensures bound { result < 10 ^ digits }
 {
     if from <= scale {
         let zeros = scale - from;
@@ -115,28 +115,45 @@ fn low_part(magnitude: u128, from: u8, digits: u8, scale: u8, rounding: Rounding
 impl Dec {
     /// What a receiver of `digits` digits (at most 38), `scale` of them decimals (at most 18), holds of the number: a size
     /// error where it would have more whole digits than that.
-    #[tactic(auto, using(crate::proofs::Receivers::fitted_by))]
+    #[tactic(auto, using(crate::proofs::Receivers::fitted_by, crate::proofs::Powers::power_le, crate::proofs::Receivers::parts_below))]
     pub fn fit(self, digits: u8, scale: u8, rounding: Rounding) -> Result<Dec, Size>
         requires digits { digits ≤ 38 }
         requires scale { scale ≤ 18 }
         requires decimals { scale ≤ digits }
-        ensures { result ≡ fitted self digits scale rounding }
+        ensures value { result ≡ fitted self digits scale rounding }
+        ensures bound { IfOk result (λ kept. unsigned_abs kept.coefficient < 10 ^ digits) }
+        ensures at { IfOk result (λ kept. kept.scale ≡ scale) }
     {
         match fitted_digits(self.magnitude(), self.scale(), digits, scale, rounding) {
-            Some(kept) => Ok(Dec::new(with_sign(self.is_negative(), kept), scale)),
+            Some(kept) => Ok(Dec::from_parts(self.is_negative(), kept, scale)),
             None => Err(Size),
         }
     }
 
     /// What such a receiver holds where no size error is told: the low digits that fit.
-    #[tactic(auto, using(crate::proofs::Receivers::low_by))]
+    #[tactic(auto, using(crate::proofs::Receivers::low_by, crate::proofs::Powers::power_le, crate::proofs::Receivers::parts_below))]
     pub fn cut(self, digits: u8, scale: u8, rounding: Rounding) -> Dec
         requires digits { digits ≤ 38 }
         requires scale { scale ≤ 18 }
         requires decimals { scale ≤ digits }
-        ensures { result ≡ low_digits self digits scale rounding }
+        ensures value { result ≡ low_digits self digits scale rounding }
+        ensures bound { unsigned_abs result.coefficient < 10 ^ digits }
+        ensures at { result.scale ≡ scale }
     {
         let kept = low_part(self.magnitude(), self.scale(), digits, scale, rounding);
-        Dec::new(with_sign(self.is_negative(), kept), scale)
+        Dec::from_parts(self.is_negative(), kept, scale)
+    }
+
+    /// The number cut towards zero at a scale, with its sign and all its whole digits: the number itself where it has no
+    /// more decimals than that (COBOL-85, Nucleus, the REMAINDER phrase).
+    #[tactic(auto, using(crate::proofs::Receivers::truncated_by, crate::proofs::Receivers::truncated_same))]
+    pub fn truncated(self, scale: u8) -> Dec
+        ensures { result ≡ truncated self scale }
+    {
+        if self.scale() <= scale {
+            return self;
+        }
+        let kept = divided(self.magnitude(), power_of_ten(self.scale() - scale));
+        Dec::from_parts(self.is_negative(), kept, scale)
     }
 }

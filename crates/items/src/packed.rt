@@ -1,0 +1,105 @@
+//! Numbers in packed usage.
+
+ghost use Rattle.std.specs.Prelude.{◌≡◌, ◌+◌, ◌-◌, ◌*◌, ◌/◌, ◌%◌, ◌<◌, ◌≤◌, ◌^◌, length, slice_index, IfSome, if◌then◌else◌};
+ghost use Rattle.decimal18.specs.Digits.{digits_behind};
+ghost use Rattle.decimal18.specs.Fraction as numbers;
+ghost use Rattle.items.specs.Display.{are_digits};
+ghost use Rattle.items.specs.Packed as spec;
+
+/// The values of half a byte.
+const HALF: u8 = 16;
+
+/// The last half of an item with S: that of a negative number and that of others.
+const MINUS: u8 = 0xD;
+const PLUS: u8 = 0xC;
+
+/// The last half of an item without S.
+const UNSIGNED: u8 = 0xF;
+
+/// The half that tells the sign.
+fn sign_half(signed: bool, negative: bool) -> u8
+    ensures value { result ≡ spec.sign_half signed negative }
+    ensures bound { result < 16 }
+{
+    match (signed, negative) {
+        (true, true) => MINUS,
+        (true, false) => PLUS,
+        (false, _) => UNSIGNED,
+    }
+}
+
+/// The number that the bytes are, two digits a byte, if their halves are digits.
+fn pairs(bytes: &[u8]) -> Option<u64>
+    requires { length bytes.now ≤ 9 }
+    ensures value { result ≡ (if are_digits (spec.characters_of (spec.halves bytes.now)) then Some (digits_behind 0 (spec.characters_of (spec.halves bytes.now))) else None) }
+    ensures bound { IfSome result (λ number. number < 100 ^ length bytes.now) }
+{
+    let mut number = 0;
+    for byte in bytes {
+        let high = *byte / HALF;
+        let low = *byte % HALF;
+        if high > 9 || low > 9 {
+            return None;
+        }
+        number = 100 * number + u64::from(10 * high + low);
+    }
+    Some(number)
+}
+
+/// A number by its sign and its absolute value.
+fn signed_number(negative: bool, magnitude: u64) -> i128
+    ensures { result ≡ numbers.signed negative magnitude }
+{
+    let value = i128::from(magnitude);
+    if negative { -value } else { value }
+}
+
+/// The integer that the bytes of a packed number are.
+pub fn packed_integer(signed: bool, bytes: &[u8]) -> Option<i128>
+    requires some { 1 ≤ length bytes.now }
+    requires most { length bytes.now ≤ 10 }
+    ensures { result ≡ spec.packed_integer signed bytes.now }
+{
+    let [front @ .., last] = bytes else {
+        return None;
+    };
+    let front = pairs(front)?;
+    let digit = *last / HALF;
+    if digit > 9 {
+        return None;
+    }
+    let magnitude = 10 * front + u64::from(digit);
+    let half = *last % HALF;
+    if half == sign_half(signed, false) {
+        Some(signed_number(false, magnitude))
+    } else if half == sign_half(signed, true) {
+        Some(signed_number(true, magnitude))
+    } else {
+        None
+    }
+}
+
+/// Writes the last digits of a number, two a byte.
+fn put_pairs(magnitude: u64, bytes: &mut [u8])
+    ensures { bytes.new ≡ spec.joined (spec.digit_halves (2 * length bytes.old) magnitude) }
+{
+    let mut rest = magnitude;
+    let mut at = bytes.len();
+    while at > 0 {
+        at -= 1;
+        let pair = (rest % 100) as u8;
+        bytes[at] = HALF * (pair / 10) + pair % 10;
+        rest /= 100;
+    }
+}
+
+/// Writes a packed number.
+pub fn put_packed(signed: bool, negative: bool, magnitude: u64, bytes: &mut [u8])
+    requires { 1 ≤ length bytes.old }
+    ensures { bytes.new ≡ spec.packed_bytes signed (length bytes.old) negative magnitude }
+{
+    let size = bytes.len();
+    let (front, last) = bytes.split_at_mut(size - 1);
+    put_pairs(magnitude / 10, front);
+    last.fill(HALF * (magnitude % 10) as u8 + sign_half(signed, negative));
+}
