@@ -1,10 +1,11 @@
 -- A picture that is read is the picture of the text, and the only one; what its form bounds.
-use Rattle.std.proofs.Common.{◌≡◌, ◌≤◌, ◌+◌, ℕ, Bool, true, false, ◌||◌, if◌then◌else◌, List, [], ◌∷◌, length, Option, Some, None, Result, Ok, Err, IfOk, refl, sym, ap, ◌∙◌, subst, arith, lit≤}
+use Rattle.std.proofs.Common.{◌≡◌, ◌≤◌, ◌+◌, ◌*◌, ◌==◌, ℕ, Bool, true, false, not, ◌||◌, if◌then◌else◌, List, [], ◌∷◌, length, Option, Some, None, Result, Ok, Err, IfOk, refl, sym, ap, ◌∙◌, subst, arith, lit≤}
 use Rattle.answers.specs.Answer.{Gives}
 use Rattle.picture.specs.declared.run.Run.{Run}
 use Rattle.picture.specs.declared.description.Description.{Description}
 use Rattle.picture.specs.declared.category.Category.{Category}
 use Rattle.picture.specs.declared.category.Category.TheVariants as k
+use Rattle.picture.specs.declared.class.Class.{Class}
 use Rattle.picture.specs.declared.class.Class.TheVariants as c
 use Rattle.picture.specs.declared.symbol.Symbol.{Symbol}
 use Rattle.picture.specs.declared.symbol.Symbol.TheVariants as s
@@ -13,13 +14,16 @@ use Rattle.picture.specs.declared.symbol.Suppression.TheVariants as z
 use Rattle.picture.specs.declared.fault.PictureFault.{PictureFault}
 use Rattle.picture.specs.declared.fault.PictureFault.TheVariants as faults
 use Rattle.picture.specs.Faults.{fault_of, or_no_form}
-use Rattle.picture.specs.Symbols.{has, is_nine, is_by, is_floating, least}
-use Rattle.picture.specs.Runs.{from_first, occurrences}
-use Rattle.picture.specs.Forms.{IsEdited, digit_places, suppression_of}
+use Rattle.picture.specs.Symbols.{has, width, is_nine, is_by, is_floating, least}
+use Rattle.picture.specs.Runs.{from_first, occurrences, size_of, total}
+use Rattle.picture.specs.Forms.{Each, whole, stretch, IsEdited, digit_places, suppression_of}
 use Rattle.picture.specs.Categories.{HasForm}
 use Rattle.picture.specs.Deciding.{category_of}
 use Rattle.picture.specs.Text.{Spells, runs_of}
 use Rattle.picture.specs.Pictures.{IsPicture, IsAnswer, IsAnyPicture, IsOfRuns, IsWithin, IsBounded, described, of_digits, of_characters, of_category, of_runs, of_form, picture_from, picture_of, scale_of}
+use Rattle.std.proofs.lemmas.Bool.{eqb-true}
+use Rattle.std.proofs.lemmas.List.{append-nil}
+use Rattle.picture.proofs.Divisions.{every_symbol, symbol_holds}
 use Rattle.picture.proofs.Counts.{scale_within}
 use Rattle.picture.proofs.Forms.{category_found, category_only}
 use Rattle.picture.proofs.Places.{length-places}
@@ -142,11 +146,48 @@ scale_edited by runs h =
 scale_numeric : (runs : List Run) → scale_of z.Nothing runs ≤ digit_places z.Nothing runs
 scale_numeric runs = let h = scale_within z.Nothing runs in omega arith
 
+abbrev HasWidth : Class → Type 0
+HasWidth class = (x : Symbol) → has class x ≡ true → width x ≡ 1
+
+width_test : Class → Symbol → Bool
+width_test class x = not (has class x) || (width x == 1)
+
+tested : (a : Bool) (n : ℕ) → (not a || (n == 1)) ≡ true → a ≡ true → n ≡ 1
+tested true n e h = eqb-true n 1 e
+tested false n e h = cc
+
+all_width : (class : Class) → every_symbol (width_test class) ≡ true → HasWidth class
+unfolding width_test
+all_width class h = λ x e. tested (has class x) (width x) (symbol_holds (width_test class) h x) e
+
+letters_width : HasWidth c.Letters
+unfolding every_symbol width_test has
+letters_width = all_width c.Letters refl
+
+alphanumeric_width : HasWidth c.Alphanumeric
+unfolding every_symbol width_test has
+alphanumeric_width = all_width c.Alphanumeric refl
+
+edited_width : HasWidth c.AlphanumericEdited
+unfolding every_symbol width_test has
+edited_width = all_width c.AlphanumericEdited refl
+
+front_size : (class : Class) → HasWidth class → (front : List Run) → Each class front → size_of front ≡ total front
+unfolding size_of total
+front_size class wide [] each = refl
+front_size class wide (run ∷ more) each =
+    let one = ap (λ w. w * run.count) (wide run.symbol each.0) in let rest = front_size class wide more each.1 in omega arith
+
+-- a picture of characters has a place for each symbol
+characters_size : (class : Class) → HasWidth class → (runs : List Run) → whole (stretch class) runs → size_of runs ≡ total runs
+characters_size class wide runs (front, e, each, stops) =
+    let is = e ∙ append-nil front in ap size_of is ∙ front_size class wide front each ∙ sym (ap total is)
+
 within : (category : Category) (runs : List Run) → HasForm category runs → IsBounded (described category runs)
 unfolding of_digits of_characters
-within k.Alphabetic runs h = (refl, refl)
-within k.Alphanumeric runs h = (refl, refl)
-within k.AlphanumericEdited runs h = (refl, refl)
+within k.Alphabetic runs h = (refl, refl, characters_size c.Letters letters_width runs h.arranged)
+within k.Alphanumeric runs h = (refl, refl, characters_size c.Alphanumeric alphanumeric_width runs h.arranged)
+within k.AlphanumericEdited runs h = (refl, refl, characters_size c.AlphanumericEdited edited_width runs h.arranged)
 within k.Numeric runs h =
     (h.arranged.digits.0, h.arranged.digits.1, scale_numeric runs, length-places z.Nothing runs)
 within k.NumericEdited runs h =

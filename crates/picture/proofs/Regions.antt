@@ -1,9 +1,9 @@
 -- Editing's laws of every picture: what runs of a form show.
-use Rattle.std.proofs.Common.{◌≡◌, ◌≤◌, ◌<◌, ◌+◌, ◌-◌, ◌*◌, ◌==◌, ℕ, zero, suc, Bool, true, false, not, ◌&&◌, ◌||◌, nat_le, nat_lt, if◌then◌else◌, List, [], ◌∷◌, ◌++◌, length, set, slice_index_or, Option, Some, None, inl, inr, refl, sym, ap, ◌∙◌, subst, append_assoc, length-append, arith, lit≤}
+use Rattle.std.proofs.Common.{◌≡◌, ◌≤◌, ◌<◌, ◌+◌, ◌-◌, ◌==◌, ℕ, zero, suc, Bool, true, false, not, ◌&&◌, ◌||◌, nat_le, nat_lt, if◌then◌else◌, List, [], ◌∷◌, ◌++◌, length, set, slice_index_or, Option, Some, inl, inr, refl, sym, ap, ◌∙◌, subst, append_assoc, arith, lit≤}
 use Rattle.std.specs.Cmp.Derive.{both_true}
 use Rattle.std.proofs.lemmas.Bool.{leb-true}
 use Rattle.std.proofs.lemmas.Bool.Decides.{nat_tests}
-use Rattle.std.proofs.lemmas.List.{get_or_append_left, length-set, get_or-set_other, get_or-set_same}
+use Rattle.std.proofs.lemmas.List.{get_or_append_left, length-set}
 use Rattle.std.proofs.Math.Seq.{get_or-append_seam, get_or-append_right, set-append_seam}
 use Rattle.picture.specs.declared.run.Run.{Run}
 use Rattle.picture.specs.declared.class.Class.{Class}
@@ -18,15 +18,15 @@ use Rattle.picture.specs.declared.place.Place.TheVariants as p
 use Rattle.picture.specs.declared.place.Region.{Region}
 use Rattle.picture.specs.declared.description.Description.{Description}
 use Rattle.picture.specs.Symbols.{has, is_floating, least}
-use Rattle.picture.specs.Runs.{is_one, from_first, occurrences, size_of}
-use Rattle.picture.specs.Forms.{Part, whole, Each, one, stretch, optional, numeric_arrangement, arrangement, decimals, digit_places, suppression_of, IsEdited}
+use Rattle.picture.specs.Runs.{from_first, occurrences, size_of}
+use Rattle.picture.specs.Forms.{whole, Each, one, stretch, optional, numeric_arrangement, arrangement, decimals, digit_places, suppression_of, IsEdited}
 use Rattle.picture.specs.Categories.{HasForm}
 use Rattle.picture.specs.Places.{shown, repeated, each_place, region_from}
 use Rattle.picture.specs.Spelling.{fit_in, can_repeat, spelling}
-use Rattle.picture.specs.Regions.{is_digit_place, is_first_floating, is_point_place, digits_in, begins_at, IsStretch, IsEditing}
+use Rattle.picture.specs.Regions.{is_first_floating, is_point_place, digits_in, begins_at, IsStretch, IsEditing}
 use Rattle.picture.specs.Pictures.{IsAnyPicture, described, of_digits, of_characters}
 use Rattle.picture.proofs.Counts.{from_rest}
-use Rattle.picture.proofs.Places.{length-each, length-places}
+use Rattle.picture.proofs.Places.{length-each}
 use Rattle.picture.proofs.Divisions.{every_symbol, every_suppression, symbol_holds, suppression_holds}
 use Rattle.picture.proofs.Fitting.{spells_fit}
 
@@ -490,8 +490,8 @@ stretched by runs counted some h =
       omega arith,
       omega arith,
       λ at from to. ap (λ l. is_point_place (slice_index_or l at p.Digit)) same
-      ∙ ap is_point_place (get_or_append_left (each_place by front.front) (each_place by (from_first c.NinesAndPoints runs)) p.Digit at (omega arith))
-      ∙ none_at is_point_place (each_place by front.front) at p.Digit none refl,
+          ∙ ap is_point_place (get_or_append_left (each_place by front.front) (each_place by (from_first c.NinesAndPoints runs)) p.Digit at (omega arith))
+          ∙ none_at is_point_place (each_place by front.front) at p.Digit none refl,
     )
 
 record Marked (by : Suppression) (runs : List Run) : Type 0 where

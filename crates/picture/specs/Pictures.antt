@@ -9,7 +9,7 @@ use Rattle.picture.specs.declared.symbol.Suppression.TheVariants as z
 use Rattle.picture.specs.declared.description.Description.{Description}
 use Rattle.picture.specs.declared.fault.PictureFault.{PictureFault}
 use Rattle.picture.specs.declared.fault.PictureFault.TheVariants as faults
-use Rattle.picture.specs.Runs.{from_first, occurrences, size_of}
+use Rattle.picture.specs.Runs.{from_first, occurrences, size_of, total}
 use Rattle.picture.specs.Forms.{digit_places, most_digits, most_places, suppression_of}
 use Rattle.picture.specs.Categories.{stands, HasForm}
 use Rattle.picture.specs.Deciding.{category_of}
@@ -73,11 +73,11 @@ pub record IsOfRuns (given : List Run) (picture : Description) : Type 0 where
 abbrev pub HasDigitPlaces : Description → Type 0
 HasDigitPlaces picture = (1 ≤ picture.digits) × (picture.digits ≤ most_digits) × (picture.scale ≤ picture.digits) × (length picture.places ≡ picture.size)
 
--- What each category bounds: an edited picture has at most 160 places.
+-- What each category bounds: a numeric edited picture has at most 160 places. A picture of characters has a place for each symbol.
 abbrev pub IsWithin : Category → Description → Type 0
 IsWithin k.Numeric picture = HasDigitPlaces picture
 IsWithin k.NumericEdited picture = HasDigitPlaces picture × (picture.size ≤ most_places)
-IsWithin category picture = (picture.digits ≡ 0) × (picture.scale ≡ 0)
+IsWithin category picture = (picture.digits ≡ 0) × (picture.scale ≡ 0) × (picture.size ≡ total picture.runs)
 
 abbrev pub IsBounded : Description → Type 0
 IsBounded picture = IsWithin picture.category picture

@@ -97,7 +97,11 @@ fn of_characters(alloc: Global, category: Category, runs: Items<Run>) -> Descrip
 }
 
 /// What the form of the runs says.
-pub fn described(alloc: Global, category: Category, runs: Items<Run>) -> Result<Description, AllocError>
+pub fn described(
+    alloc: Global,
+    category: Category,
+    runs: Items<Run>,
+) -> Result<Description, AllocError>
     requires bounded { 2 * total runs < 2 ^ 128 }
     requires form { HasForm category runs }
     ensures { IfOk result (λ description. description ≡ spec.described category runs) }
@@ -111,7 +115,6 @@ pub fn described(alloc: Global, category: Category, runs: Items<Run>) -> Result<
         _ => Ok(of_characters(alloc, category, runs)),
     }
 }
-
 
 impl Description {
     pub fn copied(&self, alloc: Global) -> Result<Description, AllocError>

@@ -68,9 +68,17 @@ fn runs_that_no_text_spells(rt: HostRuntime) {
     let most = 999_999_999_999_999_999_999_999_999;
     same(&rt, answered(rt.alloc(), &[]), refused);
     same(&rt, answered_one(rt.alloc(), Symbol::X, 0), refused);
-    same(&rt, answered_one(rt.alloc(), Symbol::X, most), Ok(Category::Alphanumeric));
+    same(
+        &rt,
+        answered_one(rt.alloc(), Symbol::X, most),
+        Ok(Category::Alphanumeric),
+    );
     same(&rt, answered_one(rt.alloc(), Symbol::X, most + 1), refused);
-    same(&rt, answered_one(rt.alloc(), Symbol::Nine, 18), Ok(Category::Numeric));
+    same(
+        &rt,
+        answered_one(rt.alloc(), Symbol::Nine, 18),
+        Ok(Category::Numeric),
+    );
     same(&rt, answered_one(rt.alloc(), Symbol::Nine, 19), refused);
     same(&rt, answered_one(rt.alloc(), Symbol::Cr, 1), refused);
     same(&rt, PictureFault::Memory.number(), None);
@@ -84,7 +92,11 @@ const SINGLE: Run = Run {
 
 #[test]
 fn thirty_characters_at_the_most(rt: HostRuntime) {
-    same(&rt, answered(rt.alloc(), &[SINGLE; 30]), Ok(Category::Alphanumeric));
+    same(
+        &rt,
+        answered(rt.alloc(), &[SINGLE; 30]),
+        Ok(Category::Alphanumeric),
+    );
     same(&rt, answered(rt.alloc(), &[SINGLE; 31]), Err(Some(20)));
     let nine = Run {
         symbol: Symbol::Nine,
@@ -98,6 +110,10 @@ fn thirty_characters_at_the_most(rt: HostRuntime) {
         symbol: Symbol::Cr,
         count: 2,
     };
-    same(&rt, answered(rt.alloc(), &[nine, credit]), Ok(Category::NumericEdited));
+    same(
+        &rt,
+        answered(rt.alloc(), &[nine, credit]),
+        Ok(Category::NumericEdited),
+    );
     same(&rt, answered(rt.alloc(), &[nine, twice]), Err(Some(20)));
 }

@@ -1,5 +1,4 @@
-use Rattle.std.proofs.Common.{◌≡◌, ◌<◌, ◌≤◌, ◌+◌, ◌-◌, ◌/◌, ◌^◌, length, ap, arith}
-use Rattle.picture.specs.Spelling.{decimal}
+use Rattle.std.proofs.Common.{arith}
 use Rattle.picture.proofs.Fitting.{counted, counted_last}
 use Rattle.picture.proofs.spelling.digit_count.Goals as goal
 
