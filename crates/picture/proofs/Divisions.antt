@@ -21,16 +21,16 @@ Apart one other = (x : Symbol) → has one x ≡ true → has other x ≡ true �
 apart : Class → Class → Symbol → Bool
 apart one other x = not (has one x && has other x)
 
-every_symbol : (Symbol → Bool) → Bool
+unfoldable pub every_symbol : (Symbol → Bool) → Bool
 every_symbol test =
     test s.A && test s.X && test s.Nine && test s.S && test s.V && test s.B && test s.Zero && test s.Slash && test s.Comma
     && test s.Point && test s.Z && test s.Star && test s.Plus && test s.Minus && test s.Currency && test s.Cr && test s.Db
 
-every_suppression : (Suppression → Bool) → Bool
+unfoldable pub every_suppression : (Suppression → Bool) → Bool
 every_suppression test =
     test z.Nothing && test z.Spaces && test z.Asterisks && test z.FloatingCurrency && test z.FloatingPlus && test z.FloatingMinus
 
-symbol_holds : (test : Symbol → Bool) → every_symbol test ≡ true → (x : Symbol) → test x ≡ true
+pub symbol_holds : (test : Symbol → Bool) → every_symbol test ≡ true → (x : Symbol) → test x ≡ true
 unfolding every_symbol
 symbol_holds test h s.A = grind arith
 symbol_holds test h s.X = grind arith
@@ -50,7 +50,7 @@ symbol_holds test h s.Currency = grind arith
 symbol_holds test h s.Cr = grind arith
 symbol_holds test h s.Db = grind arith
 
-suppression_holds : (test : Suppression → Bool) → every_suppression test ≡ true → (by : Suppression) → test by ≡ true
+pub suppression_holds : (test : Suppression → Bool) → every_suppression test ≡ true → (by : Suppression) → test by ≡ true
 unfolding every_suppression
 suppression_holds test h z.Nothing = grind arith
 suppression_holds test h z.Spaces = grind arith

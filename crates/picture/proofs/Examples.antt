@@ -6,7 +6,7 @@ use Rattle.picture.specs.declared.place.Place.TheVariants as p
 use Rattle.picture.specs.declared.place.Region.{Region}
 use Rattle.picture.specs.declared.category.Category.{Category}
 use Rattle.picture.specs.declared.category.Category.TheVariants as k
-use Rattle.picture.specs.declared.picture.Picture.{Picture}
+use Rattle.picture.specs.declared.description.Description.{Description}
 use Rattle.picture.specs.declared.symbol.Suppression.TheVariants as z
 use Rattle.picture.specs.Symbols.{has}
 use Rattle.picture.specs.Runs.{past, past_one, from_first, occurrences, ends_in, size_of}
@@ -15,7 +15,7 @@ use Rattle.picture.specs.Categories.{kind_of}
 use Rattle.picture.specs.Deciding as d
 use Rattle.picture.specs.Places.{repeated, each_place, region_from}
 use Rattle.picture.specs.Text.{symbol_of, number_at, closed, count_at, character_at, pair_at, run_from, run_at, runs_from, runs_of}
-use Rattle.picture.specs.Pictures.{of_digits, of_characters, picture_of, scale_of}
+use Rattle.picture.specs.Pictures.{of_digits, of_characters, of_form, picture_of, scale_of}
 
 record Summary : Type 0 where
   category : Category
@@ -23,7 +23,7 @@ record Summary : Type 0 where
   digits : ℕ
   scale : ℕ
 
-told : Option Picture → Option Summary
+told : Option Description → Option Summary
 told None = None
 told (Some picture) = Some (record { category = picture.category; size = picture.size; digits = picture.digits; scale = picture.scale })
 
@@ -61,7 +61,7 @@ edited : Holds (
     ∷ row (codes "ZZV99") k.NumericEdited 4 4 2
     ∷ row (codes "B(159)9") k.NumericEdited 160 1 0
     ∷ [])
-unfolding told picture_of runs_of runs_from run_at run_from pair_at character_at count_at closed number_at symbol_of d.category_of d.is_of d.is_edited d.is_arranged d.past_core d.has_one_sign d.begins_before_point d.has_digits d.is_numeric d.is_only kind_of suppression_of has past past_one from_first occurrences ends_in size_of of_digits of_characters scale_of each_place repeated region_from
+unfolding told picture_of of_form runs_of runs_from run_at run_from pair_at character_at count_at closed number_at symbol_of d.category_of d.is_of d.is_edited d.is_arranged d.past_core d.has_one_sign d.begins_before_point d.has_digits d.is_numeric d.is_only kind_of suppression_of has past past_one from_first occurrences ends_in size_of of_digits of_characters scale_of each_place repeated region_from
 edited = (refl, (refl, (refl, (refl, (refl, (refl, (refl, (refl, (refl, (refl, (refl, (refl, (refl, (refl, (refl, (refl, (refl, (refl, (refl, tt)))))))))))))))))))
 
 -- the other categories
@@ -82,7 +82,7 @@ plain : Holds (
     ∷ row (codes "XXBXX/X") k.AlphanumericEdited 7 0 0
     ∷ row (codes "X(9999999999)B") k.AlphanumericEdited 10000000000 0 0
     ∷ [])
-unfolding told picture_of runs_of runs_from run_at run_from pair_at character_at count_at closed number_at symbol_of d.category_of d.is_of d.is_edited d.is_arranged d.past_core d.has_one_sign d.begins_before_point d.has_digits d.is_numeric d.is_only kind_of suppression_of has past past_one from_first occurrences ends_in size_of of_digits of_characters scale_of each_place repeated region_from
+unfolding told picture_of of_form runs_of runs_from run_at run_from pair_at character_at count_at closed number_at symbol_of d.category_of d.is_of d.is_edited d.is_arranged d.past_core d.has_one_sign d.begins_before_point d.has_digits d.is_numeric d.is_only kind_of suppression_of has past past_one from_first occurrences ends_in size_of of_digits of_characters scale_of each_place repeated region_from
 plain = (refl, (refl, (refl, (refl, (refl, (refl, (refl, (refl, (refl, (refl, (refl, (refl, (refl, (refl, (refl, tt)))))))))))))))
 
 -- texts without a form
@@ -118,22 +118,22 @@ without_form : Holds (
     ∷ refused (codes "X,X")
     ∷ refused (codes "$9$9")
     ∷ [])
-unfolding told picture_of runs_of runs_from run_at run_from pair_at character_at count_at closed number_at symbol_of d.category_of d.is_of d.is_edited d.is_arranged d.past_core d.has_one_sign d.begins_before_point d.has_digits d.is_numeric d.is_only kind_of suppression_of has past past_one from_first occurrences ends_in size_of of_digits of_characters scale_of each_place repeated region_from
+unfolding told picture_of of_form runs_of runs_from run_at run_from pair_at character_at count_at closed number_at symbol_of d.category_of d.is_of d.is_edited d.is_arranged d.past_core d.has_one_sign d.begins_before_point d.has_digits d.is_numeric d.is_only kind_of suppression_of has past past_one from_first occurrences ends_in size_of of_digits of_characters scale_of each_place repeated region_from
 without_form = (refl, (refl, (refl, (refl, (refl, (refl, (refl, (refl, (refl, (refl, (refl, (refl, (refl, (refl, (refl, (refl, (refl, (refl, (refl, (refl, (refl, (refl, (refl, (refl, (refl, (refl, (refl, (refl, (refl, (refl, tt))))))))))))))))))))))))))))))
 
 -- The places of an edited picture, and the region of its floating symbol.
-places : Option Picture → List Place
+places : Option Description → List Place
 places None = []
 places (Some picture) = picture.places
 
-region : Option Picture → Option Region
+region : Option Description → Option Region
 region None = None
 region (Some picture) = picture.region
 
 shown : places (picture_of (codes "$$,$9.9CR")) ≡ p.FirstFloating ∷ p.Floating ∷ p.Insertion 44 ∷ p.Floating ∷ p.Digit ∷ p.Point ∷ p.Digit ∷ p.Negative 67 ∷ p.Negative 82 ∷ []
-unfolding places picture_of runs_of runs_from run_at run_from pair_at character_at count_at closed number_at symbol_of d.category_of d.is_of d.is_edited d.is_arranged d.past_core d.has_one_sign d.begins_before_point d.has_digits d.is_numeric d.is_only kind_of suppression_of has past past_one from_first occurrences ends_in size_of of_digits of_characters scale_of each_place repeated region_from
+unfolding places picture_of of_form runs_of runs_from run_at run_from pair_at character_at count_at closed number_at symbol_of d.category_of d.is_of d.is_edited d.is_arranged d.past_core d.has_one_sign d.begins_before_point d.has_digits d.is_numeric d.is_only kind_of suppression_of has past past_one from_first occurrences ends_in size_of of_digits of_characters scale_of each_place repeated region_from
 shown = refl
 
 suppressed : region (picture_of (codes "$**9.99DB")) ≡ Some (record { by = z.Asterisks; begin = 1; end = 3 })
-unfolding region picture_of runs_of runs_from run_at run_from pair_at character_at count_at closed number_at symbol_of d.category_of d.is_of d.is_edited d.is_arranged d.past_core d.has_one_sign d.begins_before_point d.has_digits d.is_numeric d.is_only kind_of suppression_of has past past_one from_first occurrences ends_in size_of of_digits of_characters scale_of each_place repeated region_from
+unfolding region picture_of of_form runs_of runs_from run_at run_from pair_at character_at count_at closed number_at symbol_of d.category_of d.is_of d.is_edited d.is_arranged d.past_core d.has_one_sign d.begins_before_point d.has_digits d.is_numeric d.is_only kind_of suppression_of has past past_one from_first occurrences ends_in size_of of_digits of_characters scale_of each_place repeated region_from
 suppressed = refl

@@ -7,10 +7,10 @@ use Rattle.picture.specs.Text.{is_digit, number_at}
 digit_most : (byte : ℕ) → is_digit byte ≡ true → byte - 48 ≤ 9
 digit_most byte e = grind (arith, nat_tests)
 
-below_power : (v p : ℕ) → 1 ≤ p → v < (v + 1) * p
+pub below_power : (v p : ℕ) → 1 ≤ p → v < (v + 1) * p
 below_power v p h = let m = mul-le-mul_left (v + 1) h in omega arith
 
-one_more : (v d p q : ℕ) → d ≤ 9 → q ≡ 10 * p → (v * 10 + d + 1) * p ≤ (v + 1) * q
+pub one_more : (v d p q : ℕ) → d ≤ 9 → q ≡ 10 * p → (v * 10 + d + 1) * p ≤ (v + 1) * q
 one_more v d p q h e =
     let m = mul-le-mul_left p (a_most v d h) in rw e (omega (arith, m))
   where

@@ -1,10 +1,11 @@
 -- A picture that is read is the picture of the text, and the only one; what its form bounds.
-use Rattle.std.proofs.Common.{◌≡◌, ◌≤◌, ◌+◌, ℕ, Bool, true, false, ◌||◌, if◌then◌else◌, List, [], ◌∷◌, length, Option, Some, None, Result, Ok, Err, IfOk, refl, sym, ap, ◌∙◌, subst, arith}
+use Rattle.std.proofs.Common.{◌≡◌, ◌≤◌, ◌+◌, ◌*◌, ◌==◌, ℕ, Bool, true, false, not, ◌||◌, if◌then◌else◌, List, [], ◌∷◌, length, Option, Some, None, Result, Ok, Err, IfOk, refl, sym, ap, ◌∙◌, subst, arith, lit≤}
 use Rattle.answers.specs.Answer.{Gives}
 use Rattle.picture.specs.declared.run.Run.{Run}
-use Rattle.picture.specs.declared.picture.Picture.{Picture}
+use Rattle.picture.specs.declared.description.Description.{Description}
 use Rattle.picture.specs.declared.category.Category.{Category}
 use Rattle.picture.specs.declared.category.Category.TheVariants as k
+use Rattle.picture.specs.declared.class.Class.{Class}
 use Rattle.picture.specs.declared.class.Class.TheVariants as c
 use Rattle.picture.specs.declared.symbol.Symbol.{Symbol}
 use Rattle.picture.specs.declared.symbol.Symbol.TheVariants as s
@@ -13,16 +14,21 @@ use Rattle.picture.specs.declared.symbol.Suppression.TheVariants as z
 use Rattle.picture.specs.declared.fault.PictureFault.{PictureFault}
 use Rattle.picture.specs.declared.fault.PictureFault.TheVariants as faults
 use Rattle.picture.specs.Faults.{fault_of, or_no_form}
-use Rattle.picture.specs.Symbols.{has, is_nine, is_by, is_floating, least}
-use Rattle.picture.specs.Runs.{from_first, occurrences}
-use Rattle.picture.specs.Forms.{IsEdited, digit_places, suppression_of}
+use Rattle.picture.specs.Symbols.{has, width, is_nine, is_by, is_floating, least}
+use Rattle.picture.specs.Runs.{from_first, occurrences, size_of, total}
+use Rattle.picture.specs.Forms.{Each, whole, stretch, IsEdited, digit_places, suppression_of}
 use Rattle.picture.specs.Categories.{HasForm}
 use Rattle.picture.specs.Deciding.{category_of}
 use Rattle.picture.specs.Text.{Spells, runs_of}
-use Rattle.picture.specs.Pictures.{IsPicture, IsAnswer, IsBounded, described, of_digits, of_characters, of_category, of_runs, picture_of, scale_of}
+use Rattle.picture.specs.Pictures.{IsPicture, IsAnswer, IsAnyPicture, IsOfRuns, IsWithin, IsBounded, described, of_digits, of_characters, of_category, of_runs, of_form, picture_from, picture_of, scale_of}
+use Rattle.std.proofs.lemmas.Bool.{eqb-true}
+use Rattle.std.proofs.lemmas.List.{append-nil}
+use Rattle.picture.proofs.Divisions.{every_symbol, symbol_holds}
 use Rattle.picture.proofs.Counts.{scale_within}
 use Rattle.picture.proofs.Forms.{category_found, category_only}
 use Rattle.picture.proofs.Places.{length-places}
+use Rattle.picture.specs.Spelling.{are_spelled}
+use Rattle.picture.proofs.Fitting.{spelled, spells_fit}
 use Rattle.picture.proofs.Texts.{runs_spelled, runs_answered}
 
 -- ---- exact both ways
@@ -38,8 +44,8 @@ is_described text k.NumericEdited runs short spelled form = record { short = sho
 some_is : {A : Type 0} {a b : A} → Some a ≡ Some b → a ≡ b
 some_is e = cc
 
-picture_found : (text : List ℕ) (picture : Picture) → picture_of text ≡ Some picture → IsPicture text picture
-unfolding picture_of
+picture_found : (text : List ℕ) (picture : Description) → picture_of text ≡ Some picture → IsPicture text picture
+unfolding picture_of of_form
 picture_found text picture e = go (runs_of text) refl e
   where
     inner : (runs : List Run) → runs_of text ≡ Some runs → (o : Option Category) → category_of runs ≡ o → of_category runs o ≡ Some picture → IsPicture text picture
@@ -52,25 +58,25 @@ picture_found text picture e = go (runs_of text) refl e
     go None is e = cc
     go (Some runs) is e = inner runs is (category_of runs) refl e
 
-picture_answered : (text : List ℕ) (picture : Picture) → IsPicture text picture → picture_of text ≡ Some picture
-unfolding picture_of
+picture_answered : (text : List ℕ) (picture : Description) → IsPicture text picture → picture_of text ≡ Some picture
+unfolding picture_of of_form
 picture_answered text picture h =
     ap of_runs (runs_answered text picture.runs h.spelled h.short) ∙ ap (of_category picture.runs) (category_only picture.runs picture.category h.form) ∙ ap Some (sym h.told)
 
 -- Each text has at most one form.
-pub one_form : (text : List ℕ) (one other : Picture) → IsPicture text one → IsPicture text other → one ≡ other
+pub one_form : (text : List ℕ) (one other : Description) → IsPicture text one → IsPicture text other → one ≡ other
 one_form text one other h g = some_is (sym (picture_answered text one h) ∙ picture_answered text other g)
 
-found_is : (o : Option Picture) (picture : Picture) → or_no_form o ≡ Ok picture → o ≡ Some picture
+found_is : (o : Option Description) (picture : Description) → or_no_form o ≡ Ok picture → o ≡ Some picture
 found_is None picture e = cc
 found_is (Some p) picture e = cc
 
-pub answer_form : (text : List ℕ) (result : Result Picture PictureFault) → Gives (λ p. p) fault_of result (or_no_form (picture_of text)) → IfOk result (λ picture. IsPicture text picture)
+pub answer_form : (text : List ℕ) (result : Result Description PictureFault) → Gives (λ p. p) fault_of result (or_no_form (picture_of text)) → IfOk result (λ picture. IsPicture text picture)
 answer_form text (Ok picture) g = picture_found text picture (found_is (picture_of text) picture g)
 answer_form text (Err e) g = tt
 
-pub answer_only : (text : List ℕ) (result : Result Picture PictureFault) → Gives (λ p. p) fault_of result (or_no_form (picture_of text))
-    → (picture : Picture) → IsPicture text picture → IsAnswer picture result
+pub answer_only : (text : List ℕ) (result : Result Description PictureFault) → Gives (λ p. p) fault_of result (or_no_form (picture_of text))
+    → (picture : Description) → IsPicture text picture → IsAnswer picture result
 answer_only text (Ok answer) g picture h = let e = picture_answered text picture h in let f = found_is (picture_of text) answer g in some_is (sym f ∙ e)
 answer_only text (Err faults.Memory) g picture h = tt
 answer_only text (Err faults.NoForm) g picture h = let e = ap or_no_form (picture_answered text picture h) in cc
@@ -140,16 +146,117 @@ scale_edited by runs h =
 scale_numeric : (runs : List Run) → scale_of z.Nothing runs ≤ digit_places z.Nothing runs
 scale_numeric runs = let h = scale_within z.Nothing runs in omega arith
 
+abbrev HasWidth : Class → Type 0
+HasWidth class = (x : Symbol) → has class x ≡ true → width x ≡ 1
+
+width_test : Class → Symbol → Bool
+width_test class x = not (has class x) || (width x == 1)
+
+tested : (a : Bool) (n : ℕ) → (not a || (n == 1)) ≡ true → a ≡ true → n ≡ 1
+tested true n e h = eqb-true n 1 e
+tested false n e h = cc
+
+all_width : (class : Class) → every_symbol (width_test class) ≡ true → HasWidth class
+unfolding width_test
+all_width class h = λ x e. tested (has class x) (width x) (symbol_holds (width_test class) h x) e
+
+letters_width : HasWidth c.Letters
+unfolding every_symbol width_test has
+letters_width = all_width c.Letters refl
+
+alphanumeric_width : HasWidth c.Alphanumeric
+unfolding every_symbol width_test has
+alphanumeric_width = all_width c.Alphanumeric refl
+
+edited_width : HasWidth c.AlphanumericEdited
+unfolding every_symbol width_test has
+edited_width = all_width c.AlphanumericEdited refl
+
+front_size : (class : Class) → HasWidth class → (front : List Run) → Each class front → size_of front ≡ total front
+unfolding size_of total
+front_size class wide [] each = refl
+front_size class wide (run ∷ more) each =
+    let one = ap (λ w. w * run.count) (wide run.symbol each.0) in let rest = front_size class wide more each.1 in omega arith
+
+-- a picture of characters has a place for each symbol
+characters_size : (class : Class) → HasWidth class → (runs : List Run) → whole (stretch class) runs → size_of runs ≡ total runs
+characters_size class wide runs (front, e, each, stops) =
+    let is = e ∙ append-nil front in ap size_of is ∙ front_size class wide front each ∙ sym (ap total is)
+
 within : (category : Category) (runs : List Run) → HasForm category runs → IsBounded (described category runs)
 unfolding of_digits of_characters
-within k.Alphabetic runs h = (refl, refl)
-within k.Alphanumeric runs h = (refl, refl)
-within k.AlphanumericEdited runs h = (refl, refl)
+within k.Alphabetic runs h = (refl, refl, characters_size c.Letters letters_width runs h.arranged)
+within k.Alphanumeric runs h = (refl, refl, characters_size c.Alphanumeric alphanumeric_width runs h.arranged)
+within k.AlphanumericEdited runs h = (refl, refl, characters_size c.AlphanumericEdited edited_width runs h.arranged)
 within k.Numeric runs h =
     (h.arranged.digits.0, h.arranged.digits.1, scale_numeric runs, length-places z.Nothing runs)
 within k.NumericEdited runs h =
     let by = suppression_of runs in
     ((h.arranged.digits.0, h.arranged.digits.1, scale_edited by runs h.arranged, length-places by runs), h.arranged.fits)
 
-pub bounds : (text : List ℕ) (picture : Picture) → IsPicture text picture → IsBounded picture
+pub bounds : (text : List ℕ) (picture : Description) → IsPicture text picture → IsBounded picture
 bounds text picture h = subst IsBounded (sym h.told) (within picture.category picture.runs h.form)
+
+-- ---- from runs
+
+runs_of_described : (category : Category) (runs : List Run) → (described category runs).runs ≡ runs
+unfolding of_digits of_characters
+runs_of_described k.Alphabetic runs = refl
+runs_of_described k.Alphanumeric runs = refl
+runs_of_described k.AlphanumericEdited runs = refl
+runs_of_described k.Numeric runs = refl
+runs_of_described k.NumericEdited runs = refl
+
+runs_of_form : (runs : List Run) (picture : Description) → of_form runs ≡ Some picture → picture.runs ≡ runs
+unfolding of_form
+runs_of_form runs picture e = go (category_of runs) e
+  where
+    go : (o : Option Category) → of_category runs o ≡ Some picture → picture.runs ≡ runs
+    go None e = cc
+    go (Some category) e = sym (ap (λ (p : Description). p.runs) (some_is e)) ∙ runs_of_described category runs
+
+from_found : (runs : List Run) (picture : Description) → picture_from runs ≡ Some picture → IsOfRuns runs picture
+unfolding picture_from picture_of
+from_found runs picture e = go (are_spelled runs) refl e
+  where
+    go : (b : Bool) → are_spelled runs ≡ b → (if b then of_form runs else None) ≡ Some picture → IsOfRuns runs picture
+    go false is e = cc
+    go true is e =
+        let text = spelled 30 runs is in
+        record {
+          read = (text.0, picture_found text.0 picture (ap of_runs (runs_answered text.0 runs text.1 text.2) ∙ e));
+          same = runs_of_form runs picture e;
+        }
+
+from_answered : (runs : List Run) (picture : Description) → IsAnyPicture picture → picture.runs ≡ runs → picture_from runs ≡ Some picture
+unfolding picture_from picture_of
+from_answered runs picture h same =
+    let fits = ap are_spelled (sym same) ∙ spells_fit 30 picture.runs h.0 (lit≤ tt) h.1.spelled h.1.short in
+    let read = runs_answered h.0 picture.runs h.1.spelled h.1.short in
+    let is : of_form picture.runs ≡ Some picture = sym (ap of_runs read) ∙ picture_answered h.0 picture h.1 in
+    rw fits (ap of_form (sym same) ∙ is)
+
+pub from_form : (runs : List Run) (result : Result Description PictureFault) → Gives (λ p. p) fault_of result (or_no_form (picture_from runs))
+    → IfOk result (IsOfRuns runs)
+from_form runs (Ok picture) g = from_found runs picture (found_is (picture_from runs) picture g)
+from_form runs (Err e) g = tt
+
+pub from_only : (runs : List Run) (result : Result Description PictureFault) → Gives (λ p. p) fault_of result (or_no_form (picture_from runs))
+    → (picture : Description) → IsOfRuns runs picture → IsAnswer picture result
+from_only runs (Ok answer) g picture h =
+    let e = from_answered runs picture h.read h.same in let f = found_is (picture_from runs) answer g in some_is (sym f ∙ e)
+from_only runs (Err faults.Memory) g picture h = tt
+from_only runs (Err faults.NoForm) g picture h = let e = ap or_no_form (from_answered runs picture h.read h.same) in cc
+
+pub any_bounded : (picture : Description) → IsAnyPicture picture → IsBounded picture
+any_bounded picture h = bounds h.0 picture h.1
+
+bounded_digits : (category : Category) (picture : Description) → IsWithin category picture → (picture.digits ≤ 18) × (picture.scale ≤ picture.digits)
+bounded_digits k.Alphabetic picture h = (omega arith, omega arith)
+bounded_digits k.Alphanumeric picture h = (omega arith, omega arith)
+bounded_digits k.AlphanumericEdited picture h = (omega arith, omega arith)
+bounded_digits k.Numeric picture h = (h.1, h.2)
+bounded_digits k.NumericEdited picture h = (h.0.1, h.0.2)
+
+pub any_digits : (picture : Description) → IsAnyPicture picture → (picture.digits ≤ 18) × (picture.scale ≤ picture.digits)
+any_digits picture h = bounded_digits picture.category picture (any_bounded picture h)

@@ -39,7 +39,7 @@ length-repeated zero places = omega arith
 length-repeated (suc n) places =
     let h = length-repeated n places in let l = length-append places (repeated n places) in grind (arith)
 
-length-each : (by : Suppression) (runs : List Run) → length (each_place by runs) ≡ size_of runs
+pub length-each : (by : Suppression) (runs : List Run) → length (each_place by runs) ≡ size_of runs
 unfolding each_place size_of
 length-each by [] = refl
 length-each by (run ∷ more) =

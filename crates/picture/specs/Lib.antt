@@ -4,6 +4,8 @@ pub mod Forms
 pub mod Categories
 pub mod Deciding
 pub mod Text
+pub mod Spelling
 pub mod Faults
 pub mod Places
+pub mod Regions
 pub mod Pictures

@@ -1,27 +1,28 @@
 -- A picture: its form, and what a text is read as.
-use Rattle.std.specs.Prelude.{◌≡◌, ℕ, ◌≤◌, false, List, [], length, Option, Some, None, Result, Ok, Err}
+use Rattle.std.specs.Prelude.{◌≡◌, ℕ, ◌≤◌, false, List, [], length, Option, Some, None, Result, Ok, Err, if◌then◌else◌}
 use Rattle.picture.specs.declared.run.Run.{Run}
 use Rattle.picture.specs.declared.category.Category.{Category}
 use Rattle.picture.specs.declared.category.Category.TheVariants as k
 use Rattle.picture.specs.declared.class.Class.TheVariants as c
 use Rattle.picture.specs.declared.symbol.Suppression.{Suppression}
 use Rattle.picture.specs.declared.symbol.Suppression.TheVariants as z
-use Rattle.picture.specs.declared.picture.Picture.{Picture}
+use Rattle.picture.specs.declared.description.Description.{Description}
 use Rattle.picture.specs.declared.fault.PictureFault.{PictureFault}
 use Rattle.picture.specs.declared.fault.PictureFault.TheVariants as faults
-use Rattle.picture.specs.Runs.{from_first, occurrences, size_of}
+use Rattle.picture.specs.Runs.{from_first, occurrences, size_of, total}
 use Rattle.picture.specs.Forms.{digit_places, most_digits, most_places, suppression_of}
 use Rattle.picture.specs.Categories.{stands, HasForm}
 use Rattle.picture.specs.Deciding.{category_of}
 use Rattle.picture.specs.Places.{places_of, region_of}
 use Rattle.picture.specs.Text.{Spells, most_characters, runs_of}
+use Rattle.picture.specs.Spelling.{are_spelled}
 
 -- the digit places after the point
 unfoldable pub scale_of : Suppression → List Run → ℕ
 scale_of by runs = occurrences (c.Digits by) (from_first c.Points runs)
 
 -- a picture of digits, with zeros suppressed in that way
-unfoldable pub of_digits : Category → Suppression → List Run → Picture
+unfoldable pub of_digits : Category → Suppression → List Run → Description
 of_digits category by runs = record {
   category = category;
   runs = runs;
@@ -34,7 +35,7 @@ of_digits category by runs = record {
 }
 
 -- a picture of characters
-unfoldable pub of_characters : Category → List Run → Picture
+unfoldable pub of_characters : Category → List Run → Description
 of_characters category runs = record {
   category = category;
   runs = runs;
@@ -47,46 +48,63 @@ of_characters category runs = record {
 }
 
 -- What a form of that category says.
-abbrev pub described : Category → List Run → Picture
+abbrev pub described : Category → List Run → Description
 described k.Numeric runs = of_digits k.Numeric z.Nothing runs
 described k.NumericEdited runs = of_digits k.NumericEdited (suppression_of runs) runs
 described category runs = of_characters category runs
 
 -- The picture that a text is: it spells the runs, these have a form, and the rest is what the form says.
-pub record IsPicture (text : List ℕ) (picture : Picture) : Type 0 where
+pub record IsPicture (text : List ℕ) (picture : Description) : Type 0 where
   pub short : length text ≤ most_characters
   pub spelled : Spells picture.runs text
   pub form : HasForm picture.category picture.runs
   pub told : picture ≡ described picture.category picture.runs
 
+-- It is the picture of some text.
+abbrev pub IsAnyPicture : Description → Type 0
+IsAnyPicture picture = (text : List ℕ) × IsPicture text picture
+
+-- It is a picture, and these are its runs.
+pub record IsOfRuns (given : List Run) (picture : Description) : Type 0 where
+  pub read : IsAnyPicture picture
+  pub same : picture.runs ≡ given
+
 -- Digit places from 1 to 18, of which the scale stands after the point, and a place for each character.
-abbrev pub HasDigitPlaces : Picture → Type 0
+abbrev pub HasDigitPlaces : Description → Type 0
 HasDigitPlaces picture = (1 ≤ picture.digits) × (picture.digits ≤ most_digits) × (picture.scale ≤ picture.digits) × (length picture.places ≡ picture.size)
 
--- What each category bounds: an edited picture has at most 160 places.
-abbrev pub IsWithin : Category → Picture → Type 0
+-- What each category bounds: a numeric edited picture has at most 160 places. A picture of characters has a place for each symbol.
+abbrev pub IsWithin : Category → Description → Type 0
 IsWithin k.Numeric picture = HasDigitPlaces picture
 IsWithin k.NumericEdited picture = HasDigitPlaces picture × (picture.size ≤ most_places)
-IsWithin category picture = (picture.digits ≡ 0) × (picture.scale ≡ 0)
+IsWithin category picture = (picture.digits ≡ 0) × (picture.scale ≡ 0) × (picture.size ≡ total picture.runs)
 
-abbrev pub IsBounded : Picture → Type 0
+abbrev pub IsBounded : Description → Type 0
 IsBounded picture = IsWithin picture.category picture
 
 -- ---- reading, as a function
 
-abbrev pub of_category : List Run → Option Category → Option Picture
+abbrev pub of_category : List Run → Option Category → Option Description
 of_category runs None = None
 of_category runs (Some category) = Some (described category runs)
 
-abbrev pub of_runs : Option (List Run) → Option Picture
-of_runs None = None
-of_runs (Some runs) = of_category runs (category_of runs)
+-- the picture of runs with a form
+unfoldable pub of_form : List Run → Option Description
+of_form runs = of_category runs (category_of runs)
 
-unfoldable pub picture_of : List ℕ → Option Picture
+abbrev pub of_runs : Option (List Run) → Option Description
+of_runs None = None
+of_runs (Some runs) = of_form runs
+
+unfoldable pub picture_of : List ℕ → Option Description
 picture_of text = of_runs (runs_of text)
 
--- What may be answered where a text is that picture.
-abbrev pub IsAnswer : Picture → Result Picture PictureFault → Type 0
+-- the picture with these runs, if a text can spell them
+unfoldable pub picture_from : List Run → Option Description
+picture_from runs = if are_spelled runs then of_form runs else None
+
+-- What may be answered where that is the picture.
+abbrev pub IsAnswer : {A : Type 0} → A → Result A PictureFault → Type 0
 IsAnswer picture (Ok answer) = answer ≡ picture
 IsAnswer picture (Err faults.Memory) = Unit {0}
 IsAnswer picture (Err faults.NoForm) = ⊥

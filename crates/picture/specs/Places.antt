@@ -13,10 +13,8 @@ use Rattle.picture.specs.declared.symbol.Suppression.TheVariants as z
 use Rattle.picture.specs.Symbols.{is_by, is_floating}
 use Rattle.picture.specs.Runs.{from_first, size_of}
 
--- simple, special and fixed insertion, and digits
+-- Simple, special and fixed insertion, and digits. In a picture of digits stands no A or X.
 abbrev pub fixed_place : Symbol → Place
-fixed_place s.A = p.Letter
-fixed_place s.Nine = p.Digit
 fixed_place s.B = p.Insertion 32
 fixed_place s.Zero = p.Insertion 48
 fixed_place s.Slash = p.Insertion 47
@@ -27,7 +25,7 @@ fixed_place s.Star = p.Suppressed
 fixed_place s.Plus = p.Plus
 fixed_place s.Minus = p.Minus
 fixed_place s.Currency = p.Currency
-fixed_place _ = p.Character
+fixed_place _ = p.Digit
 
 abbrev pub place_of : Suppression → Symbol → Place
 place_of by symbol = if is_floating by && is_by by symbol then p.Floating else fixed_place symbol

@@ -5,19 +5,19 @@ ghost use Rattle.picture.specs.Forms.{whole, some_of, stretch, numeric_arrangeme
 ghost use Rattle.picture.specs.Pictures.{IsPicture, IsBounded};
 
 use crate::class::Class;
-use crate::picture::Picture;
+use crate::description::Description;
 use crate::run::Run;
 use crate::symbol::Suppression;
 
 /// Each text is one picture at the most.
 pub fn one_form()
-    ensures { (text : List ℕ) (one other : Picture) → IsPicture text one → IsPicture text other → one ≡ other }
+    ensures { (text : List ℕ) (one other : Description) → IsPicture text one → IsPicture text other → one ≡ other }
 {}
 
 /// Digit places are 1 to 18 in numeric and numeric edited pictures and 0 in others, the scale is at most the digit places, and
 /// an edited picture has at most 160 places.
 pub fn bounds()
-    ensures { (text : List ℕ) (picture : Picture) → IsPicture text picture → IsBounded picture }
+    ensures { (text : List ℕ) (picture : Description) → IsPicture text picture → IsBounded picture }
 {}
 
 /// However a picture can be divided into its parts, it can be where each part takes all that it can.

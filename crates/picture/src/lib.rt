@@ -4,12 +4,14 @@
 
 mod category;
 mod class;
+mod description;
 mod edited;
 mod fault;
 mod form;
 mod picture;
 mod place;
 mod run;
+mod spelling;
 mod symbol;
 mod text;
 

@@ -1,132 +1,93 @@
-//! A picture as data.
+//! The picture of an item.
 
-ghost use Rattle.std.specs.Prelude.{◌≡◌, ◌≢◌, ℕ, List, ◌*◌, ◌<◌, ◌≤◌, ◌^◌, IfOk};
+ghost use Rattle.std.specs.Prelude.{◌≡◌, ◌≤◌, ◌*◌, ◌<◌, ◌^◌, IfOk};
 ghost use Rattle.answers.specs.Answer.{Gives};
 ghost use Rattle.picture.specs.Faults.{fault_of, or_no_form};
-ghost use Rattle.picture.specs.Forms.{digit_places, most_digits, most_places, suppression_of};
-ghost use Rattle.picture.specs.Categories.{HasForm};
-ghost use Rattle.picture.specs.Runs as counts;
+ghost use Rattle.picture.specs.Forms.{most_digits};
 ghost use Rattle.picture.specs.Runs.{total};
 ghost use Rattle.picture.specs.Pictures as spec;
-ghost use Rattle.picture.specs.Pictures.{IsPicture, IsAnswer};
+ghost use Rattle.picture.specs.Pictures.{IsPicture, IsAnswer, IsAnyPicture, IsOfRuns, IsBounded};
+ghost use Rattle.picture.specs.Regions.{IsEditing};
 
-use crate::category::{Category, category_of, stands};
-use crate::class::Class;
-use crate::edited;
+use crate::category::{Category, category_of};
+use crate::description::{Description, described};
 use crate::fault::PictureFault;
-use crate::place::{Place, Region, places_of, region_of};
-use crate::run::{Run, from_first, occurrences, size_of};
-use crate::symbol::Suppression;
+use crate::place::{Place, Region};
+use crate::run::Run;
+use crate::spelling::are_spelled;
 use crate::text::runs_of;
 use sqlite_items::Items;
 use std::alloc::{AllocError, Global};
+use std::marker::Model;
 
-/// The picture of an item (COBOL-85, Nucleus, the PICTURE clause).
+/// The picture of an item (COBOL-85, Nucleus, the PICTURE clause). Each value is the picture of some text; contracts see
+/// what it says.
 #[derive(Debug, Drop)]
 pub struct Picture {
-    pub category: Category,
-    /// The symbols in order, as they are written.
-    pub runs: Items<Run>,
-    /// The size of the item, in characters.
-    pub size: u128,
-    /// The digit places, 1 to 18 in a numeric or numeric edited picture, else 0.
-    pub digits: u8,
-    /// How many of the digit places stand after the point.
-    pub scale: u8,
-    /// A numeric picture has S, or a numeric edited one a sign, CR or DB.
-    pub signed: bool,
-    /// What each character place shows, in a numeric or numeric edited picture, else none. In a picture of characters
-    /// the runs say it: at A, X and 9 a character of the sender, at B, 0 and / that insertion.
-    pub places: Items<Place>,
-    /// Where leading zeros are suppressed.
-    pub region: Option<Region>,
-}
-
-/// The digit places after the point.
-#[tactic(auto, unfolding(crate::specs::Pictures::scale_of))]
-fn scale_of(runs: &[Run], by: Suppression) -> u128
-    requires { 2 * total runs.now < 2 ^ 128 }
-    ensures { result ≡ spec.scale_of by runs.now }
-{
-    occurrences(from_first(runs, Class::Points), Class::Digits(by))
-}
-
-/// A picture of digits, with zeros suppressed in that way.
-#[tactic(auto, unfolding(crate::specs::Pictures::of_digits))]
-fn of_digits(
+    description: Description,
     alloc: Global,
-    category: Category,
-    by: Suppression,
-    runs: Items<Run>,
-) -> Result<Picture, AllocError>
-    requires bounded { 2 * total runs < 2 ^ 128 }
-    requires digits { digit_places by runs ≤ most_digits }
-    requires fits { by ≢ Suppression.Nothing → counts.size_of runs ≤ most_places }
-    ensures { IfOk result (λ picture. picture ≡ spec.of_digits category by runs) }
-{
-    let size = size_of(runs.as_slice());
-    let digits = edited::digit_places(runs.as_slice(), by);
-    let scale = scale_of(runs.as_slice(), by);
-    let signed = stands(runs.as_slice(), Class::Signs);
-    let region = region_of(runs.as_slice(), by);
-    let places = places_of(alloc, runs.as_slice(), region, by)?;
-    Ok(Picture {
-        category,
-        runs,
-        size,
-        digits: digits as u8,
-        scale: scale as u8,
-        signed,
-        places,
-        region,
-    })
 }
 
-/// A picture of characters.
-#[tactic(auto, unfolding(crate::specs::Pictures::of_characters))]
-fn of_characters(alloc: Global, category: Category, runs: Items<Run>) -> Picture
+impl Model for Picture {
+    ghost use Rattle.picture.specs.declared.description.Description.{Description};
+    ghost use Rattle.picture.specs.Pictures.{IsAnyPicture};
+
+    ghost Value = { Description };
+
+    ghost view = { λ picture. picture.description };
+
+    ghost invariant = { λ picture. IsAnyPicture picture.description };
+}
+
+/// The picture of these runs.
+#[tactic(auto, unfolding(crate::specs::Pictures::of_form))]
+fn of_form(alloc: Global, runs: Items<Run>) -> Result<Description, PictureFault>
     requires { 2 * total runs < 2 ^ 128 }
-    ensures { result ≡ spec.of_characters category runs }
+    ensures { Gives (λ description. description) fault_of result (or_no_form (spec.of_form runs)) }
 {
-    let size = size_of(runs.as_slice());
-    Picture {
-        category,
-        runs,
-        size,
-        digits: 0,
-        scale: 0,
-        signed: false,
-        places: Items::new(alloc),
-        region: None,
-    }
-}
-
-/// What the form of the runs says.
-fn described(alloc: Global, category: Category, runs: Items<Run>) -> Result<Picture, AllocError>
-    requires bounded { 2 * total runs < 2 ^ 128 }
-    requires form { HasForm category runs }
-    ensures { IfOk result (λ picture. picture ≡ spec.described category runs) }
-{
-    match category {
-        Category::Numeric => of_digits(alloc, category, Suppression::Nothing, runs),
-        Category::NumericEdited => {
-            let by = edited::suppression_of(runs.as_slice());
-            of_digits(alloc, category, by, runs)
-        }
-        _ => Ok(of_characters(alloc, category, runs)),
+    match category_of(runs.as_slice()) {
+        Some(category) => Ok(described(alloc, category, runs)?),
+        None => Err(PictureFault::NoForm),
     }
 }
 
 /// The picture that the text is.
 #[tactic(auto, unfolding(crate::specs::Pictures::picture_of))]
-fn picture_of(alloc: Global, text: &[u8]) -> Result<Picture, PictureFault>
-    ensures { Gives (λ picture. picture) fault_of result (or_no_form (spec.picture_of text.now)) }
+fn picture_of(alloc: Global, text: &[u8]) -> Result<Description, PictureFault>
+    ensures { Gives (λ description. description) fault_of result (or_no_form (spec.picture_of text.now)) }
 {
     let runs = runs_of(alloc, text)?;
-    match category_of(runs.as_slice()) {
-        Some(category) => Ok(described(alloc, category, runs)?),
-        None => Err(PictureFault::NoForm),
+    of_form(alloc, runs)
+}
+
+/// The picture of the runs.
+#[tactic(auto, unfolding(crate::specs::Pictures::picture_from))]
+fn picture_from(alloc: Global, runs: &[Run]) -> Result<Description, PictureFault>
+    ensures { Gives (λ description. description) fault_of result (or_no_form (spec.picture_from runs.now)) }
+{
+    if !are_spelled(runs) {
+        return Err(PictureFault::NoForm);
     }
+    let runs = Items::from_slice(alloc, runs)?;
+    of_form(alloc, runs)
+}
+
+/// The picture that the text is, and the only one.
+fn read_text(alloc: Global, text: &[u8]) -> Result<Description, PictureFault>
+    ensures form { IfOk result (λ picture. IsPicture text.now picture) }
+    ensures only { (picture : Description) → IsPicture text.now picture → IsAnswer picture result }
+    ensures exact { Gives (λ description. description) fault_of result (or_no_form (spec.picture_of text.now)) }
+{
+    picture_of(alloc, text)
+}
+
+/// The picture with these runs, and the only one.
+fn read_runs(alloc: Global, runs: &[Run]) -> Result<Description, PictureFault>
+    ensures form { IfOk result (λ picture. IsOfRuns runs.now picture) }
+    ensures only { (picture : Description) → IsOfRuns runs.now picture → IsAnswer picture result }
+    ensures exact { Gives (λ description. description) fault_of result (or_no_form (spec.picture_from runs.now)) }
+{
+    picture_from(alloc, runs)
 }
 
 impl Picture {
@@ -138,55 +99,101 @@ impl Picture {
         ensures only { (picture : Picture) → IsPicture text.now picture → IsAnswer picture result }
         ensures exact { Gives (λ picture. picture) fault_of result (or_no_form (spec.picture_of text.now)) }
     {
-        picture_of(alloc, text)
+        let description = read_text(alloc, text)?;
+        Ok(Picture { description, alloc })
+    }
+
+    /// The picture with these runs, as an image holds them. Fault 20 where they are no picture's.
+    pub fn from_runs(alloc: Global, runs: &[Run]) -> Result<Picture, PictureFault>
+        // What is answered is a picture, and its runs are these.
+        ensures form { IfOk result (λ picture. IsOfRuns runs.now picture) }
+        // The runs of a picture are answered with it, unless memory runs out.
+        ensures only { (picture : Picture) → IsOfRuns runs.now picture → IsAnswer picture result }
+        ensures exact { Gives (λ picture. picture) fault_of result (or_no_form (spec.picture_from runs.now)) }
+    {
+        let description = read_runs(alloc, runs)?;
+        Ok(Picture { description, alloc })
+    }
+
+    /// What holds of every picture: it is some text's, its digit places and size are bounded, and its places are those
+    /// that editing counts.
+    pub fn laws(&self)
+        ensures form { IsAnyPicture self.now }
+        ensures bounded { IsBounded self.now }
+        ensures editing { IsEditing self.now }
+    {
+        let _ = &self.description;
     }
 
     /// The category of the item.
     pub fn category(&self) -> Category
         ensures { result ≡ self.now.category }
     {
-        self.category
+        self.description.category
     }
 
     /// The size of the item, in characters.
     pub fn size(&self) -> u128
         ensures { result ≡ self.now.size }
     {
-        self.size
+        self.description.size
     }
 
     /// The digit places: 1 to 18 in numeric and numeric edited pictures, else 0.
     pub fn digits(&self) -> u8
-        ensures { result ≡ self.now.digits }
+        ensures value { result ≡ self.now.digits }
+        ensures most { self.now.digits ≤ most_digits }
     {
-        self.digits
+        self.description.digits
     }
 
     /// The digit places after the point.
     pub fn scale(&self) -> u8
-        ensures { result ≡ self.now.scale }
+        ensures value { result ≡ self.now.scale }
+        ensures most { self.now.scale ≤ self.now.digits }
     {
-        self.scale
+        self.description.scale
     }
 
     /// There is an S, a sign, CR or DB.
     pub fn is_signed(&self) -> bool
         ensures { result ≡ self.now.signed }
     {
-        self.signed
+        self.description.signed
     }
 
     /// What each character place of a numeric or numeric edited item shows.
     pub fn places(&self) -> &[Place]
         ensures { result.now ≡ self.now.places }
     {
-        self.places.as_slice()
+        self.description.places.as_slice()
+    }
+
+    /// Where leading zeros are suppressed, if they are.
+    pub fn region(&self) -> Option<Region>
+        ensures { result ≡ self.now.region }
+    {
+        self.description.region
     }
 
     /// The symbols in order.
     pub fn runs(&self) -> &[Run]
         ensures { result.now ≡ self.now.runs }
     {
-        self.runs.as_slice()
+        self.description.runs.as_slice()
+    }
+}
+
+impl Clone for Picture {
+    ghost use Rattle.std.specs.Prelude.{◌≡◌};
+
+    ghost is_clone = { λ picture copy. copy ≡ picture };
+
+    fn clone(&self) -> Result<Picture, AllocError> {
+        let description = self.description.copied(self.alloc)?;
+        Ok(Picture {
+            description,
+            alloc: self.alloc,
+        })
     }
 }

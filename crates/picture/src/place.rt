@@ -15,10 +15,6 @@ use std::alloc::{AllocError, Global};
 /// What one character place of an item shows.
 #[derive(Clone, Copy, Debug, PartialEq, Eq)]
 pub enum Place {
-    /// A letter or a space.
-    Letter,
-    /// Any character.
-    Character,
     /// A digit.
     Digit,
     /// A digit, or the fill character for a leading zero.
@@ -57,8 +53,6 @@ fn place_of(symbol: Symbol, by: Suppression) -> Place
 {
     match symbol {
         _ if by.is_floating() && by.is_by(symbol) => Place::Floating,
-        Symbol::A => Place::Letter,
-        Symbol::Nine => Place::Digit,
         Symbol::B => Place::Insertion(b' '),
         Symbol::Zero => Place::Insertion(b'0'),
         Symbol::Slash => Place::Insertion(b'/'),
@@ -68,7 +62,7 @@ fn place_of(symbol: Symbol, by: Suppression) -> Place
         Symbol::Plus => Place::Plus,
         Symbol::Minus => Place::Minus,
         Symbol::Currency => Place::Currency,
-        _ => Place::Character,
+        _ => Place::Digit,
     }
 }
 

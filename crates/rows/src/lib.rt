@@ -1,4 +1,4 @@
-//! Rows of single calls as tests: source lines, tokens, pictures and decimals, each on values from outside.
+//! Rows of single calls as tests: source lines, tokens and decimals, each on values from outside.
 //! Nothing here is built into the product.
 #![tactic(auto)]
 
@@ -6,8 +6,6 @@
 mod asserted;
 #[cfg(test)]
 mod decimal_rows;
-#[cfg(test)]
-mod picture_rows;
 #[cfg(test)]
 mod source_line_rows;
 #[cfg(test)]

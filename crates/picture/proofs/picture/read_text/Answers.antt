@@ -1,5 +1,5 @@
 use Rattle.picture.proofs.Pictures.{answer_form, answer_only}
-use Rattle.picture.proofs.picture.Picture.read.Goals as goal
+use Rattle.picture.proofs.picture.read_text.Goals as goal
 
 pub returns-clause-form : goal.returns-clause-form
 returns-clause-form c = answer_form c.args.text.now c.picture_of.result c.picture_of.ensures

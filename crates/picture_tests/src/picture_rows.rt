@@ -147,7 +147,7 @@ fn has_region(
     expected: Option<(Suppression, usize, usize)>,
 ) {
     let found = match Picture::read(alloc, text.as_bytes()) {
-        Ok(picture) => match picture.region {
+        Ok(picture) => match picture.region() {
             Some(region) => Some((region.by, region.begin, region.end)),
             None => None,
         },

@@ -4,7 +4,7 @@ use Rattle.picture.specs.Runs.{occurrences}
 use Rattle.picture.specs.Pictures.{scale_of}
 use Rattle.picture.specs.Symbols.{is_floating}
 use Rattle.picture.proofs.Counts.{scale_within}
-use Rattle.picture.proofs.picture.of_digits.Goals as goal
+use Rattle.picture.proofs.description.of_digits.Goals as goal
 
 at_most_one_more : (b : Bool) (n most : ℕ) → n - (if b then 1 else 0) ≤ most → n ≤ most + 1
 at_most_one_more true n most h = omega arith
