@@ -1,0 +1,56 @@
+//! File statements, whatever the files are kept in.
+ghost use Rattle.std.specs.Prelude.{◌≡◌, ◌≤◌, ◌<◌, ◌⊎◌, true, false, ℕ, List, length, IsOk, IfOk, OnErr};
+ghost use Rattle.station.specs.Disk.{Disk, Sector, IsCrashImage};
+ghost use Rattle.records.specs.Files.{Files};
+ghost use Rattle.records.specs.Calls.{StandsFor, Changes, Turns, Rests};
+ghost use Rattle.records.specs.Connector.{Entry, Connector};
+ghost use Rattle.records.specs.FileStep.{file_step, entry_at, area, Suits, needs_no_store, makes_file, has_changed, IsStep, SameConnectors};
+
+use crate::fault::StoreFault;
+use crate::keeps::Keeps;
+use crate::status::Status;
+use crate::verb::Verb;
+use station::Device;
+
+/// Connectors to the files that a program names.
+///
+/// What is said of statuses and files holds on an honest device, of whatever files these stand for there.
+pub trait FileVerbs: Keeps {
+    /// What the program says of its files.
+    ghost entries: { Self → List Entry };
+
+    /// What is kept between two file statements.
+    ghost connectors: { Self → List Connector };
+
+    /// Does one file statement and answers its status: the verb on the file of that number, with the record area and the number in
+    /// the RELATIVE KEY item, 0 where its bytes are no number. It gives no event. After a refusal connectors, area and number are as they were,
+    /// and so are the files, but for a store that is spent.
+    fn perform<D: Device>(
+        &mut self,
+        device: &mut D,
+        file: usize,
+        verb: Verb,
+        bytes: &mut [u8],
+        number: &mut u64,
+    ) -> Result<Status, StoreFault>
+        requires device { Self.needs self.old ≤ D.sectors device.old }
+        requires file { file < length (entries self.old) }
+        requires verb { Suits (entry_at (entries self.old) file) verb }
+        requires bytes { length bytes.old ≡ (entry_at (entries self.old) file).spec.record_length }
+        ensures changes { Changes Self.Keeps D.Device result self.old device.old self.new device.new }
+        ensures entries { entries self.new ≡ entries self.old }
+
+        // A CLOSE, and what a test of the connectors bars, isn't refused, and its step asks nothing of the files.
+        ensures sure { needs_no_store (entries self.old) (connectors self.old) file verb ≡ true → IsOk result }
+        ensures step { (files : Files) → (StandsFor Self.Keeps D.Device self.old device.old files) ⊎ (needs_no_store (entries self.old) (connectors self.old) file verb ≡ true) →
+            IfOk result (λ status. IsStep (connectors self.old) file (file_step (entries self.old) files (connectors self.old) file verb (area bytes.old number.old)) status (connectors self.new) (area bytes.new number.new)) }
+        ensures turns { (files : Files) → StandsFor Self.Keeps D.Device self.old device.old files →
+            Turns Self.Keeps D.Device result (makes_file verb) (entry_at (entries self.old) file).name files
+            (file_step (entries self.old) files (connectors self.old) file verb (area bytes.old number.old)).files self.old device.old self.new device.new }
+        ensures idle { D.is_honest device.old → IfOk result (λ status. has_changed verb status ≡ false → D.state device.new ≡ D.state device.old) }
+        ensures refused { OnErr result (SameConnectors (connectors self.old) (connectors self.new) (area bytes.old number.old) (area bytes.new number.new)) }
+        ensures rests { OnErr result (Rests Self.Keeps D.Device self.old device.old self.new device.new) };
+
+    /// Whatever a crash leaves of a disk holds the files.
+    ghost held: { (verbs : Self) (disk : Disk) (image : List Sector) (files : Files) → Self.stands verbs disk files → IsCrashImage disk image → Self.holds image files };
+}
