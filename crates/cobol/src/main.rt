@@ -3,6 +3,7 @@
 
 mod command;
 mod console;
+mod descriptors;
 mod host_station;
 mod source_file;
 #[cfg(test)]
@@ -11,6 +12,8 @@ mod verdict;
 mod words;
 
 use command::{command, explain};
+use descriptors::hold;
+use source_file::HOST_FILE;
 use std::io;
 use std::process::ExitCode;
 use verdict::Verdict;
@@ -26,6 +29,11 @@ fn words_of(rt: &HostRuntime) -> Result<Vec<String>, Verdict> {
 }
 
 fn main(rt: HostRuntime) -> ExitCode {
+    let Ok(_held) = hold(&rt) else {
+        let verdict = Verdict::Refused(HOST_FILE);
+        explain(&mut rt.stderr(), verdict);
+        return ExitCode::from(verdict.status());
+    };
     match words_of(&rt) {
         Ok(words) => {
             let status = command(

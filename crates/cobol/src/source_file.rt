@@ -7,7 +7,7 @@ use std::rt::Files;
 use std::{fs, io};
 
 /// The number of a host file that can't be read or written.
-const HOST_FILE: u8 = 85;
+pub const HOST_FILE: u8 = 85;
 /// One byte more than a source may have: what follows needn't be read to refuse it.
 const MOST_READ: u64 = 8_000_001;
 

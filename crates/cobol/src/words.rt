@@ -4,6 +4,15 @@ use clap::error::ErrorKind;
 use clap::{Arg, ArgAction, Command, Error};
 use std::alloc::{AllocError, Global};
 
+/// The end of the help.
+const EXIT_STATUSES: &str = "Exit status:
+  0  the program ended
+  1  the source has a fault, which is printed with its line and column
+  2  the command was called wrongly
+  3  the program did something wrong
+  4  something was refused: a file, the device or memory
+  5  the budget of statements was used up";
+
 /// What a command line asks for.
 #[derive(Drop)]
 pub enum Request<'a> {
@@ -31,6 +40,7 @@ fn find_source<'a>(alloc: Global, words: &'a [String]) -> Result<Option<&'a str>
         .action(ArgAction::Set);
     let command = Command::new(alloc, "cobol")
         .about("Compiles a COBOL-85 program and runs it")
+        .after_help(EXIT_STATUSES)
         .version("0.1.0")
         .arg(source)?;
     let matches = command.try_get_matches_from(words)?;
