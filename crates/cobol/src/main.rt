@@ -23,9 +23,7 @@ fn words_of(rt: &HostRuntime) -> Result<Vec<String>, Verdict> {
     let Ok(words) = std::env::args(rt) else {
         return Err(Verdict::NotText);
     };
-    words
-        .collect(rt.alloc())
-        .map_err(|_| Verdict::memory())
+    words.collect(rt.alloc()).map_err(|_| Verdict::memory())
 }
 
 fn main(rt: HostRuntime) -> ExitCode {

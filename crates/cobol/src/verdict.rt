@@ -7,7 +7,6 @@ use run_unit::{CompileError, Ended, Refusal};
 use station::DeviceError;
 use std::fmt;
 
-
 /// How a command ended.
 #[derive(Clone, Copy, Debug, PartialEq, Eq)]
 pub enum Verdict {

@@ -4,10 +4,10 @@ use Rattle.std.specs.Prelude.{Option, Some}
 use Rattle.std.proofs.lemmas.List.Elements.{Contains-append_right}
 use Rattle.station.specs.Disk.{Disk, Sector, settled, IsCrashImage}
 use Rattle.station.specs.State.{State, Event}
-use Rattle.station.specs.Blocks.{Amid, OldOrNew, Old, New, with_all}
+use Rattle.station.specs.Blocks.{CrashLeaves, OldOrNew, Old, New, with_all}
 use Rattle.station.specs.declared.blocks.Block.{Block}
 use Rattle.station.proofs.Crash.{settled_image}
-use Rattle.station.proofs.Puts.{all_spare, with_all_count}
+use Rattle.station.proofs.TwoPhase.{all_same_outside, with_all_count}
 use Rattle.roots.specs.Root.{root_in}
 use Rattle.roots.specs.declared.root.RootSector.TheVariants.{Valid}
 use Rattle.pages.specs.declared.change.Change.{Change}
@@ -21,7 +21,7 @@ use Rattle.pages.proofs.Frame.{SameAt, pages_same, same_maps, newest_same, still
 use Rattle.pages.proofs.Staging.{keeps_used}
 
 -- a crash leaves the map of a volume at rest
-pub at_rest : (v : Volume) (after : Map) (s : State) → IsCommitted v s.disk → Amid s.events (BeforeOrAfter (map_of s.disk.present v) after) s
+pub at_rest : (v : Volume) (after : Map) (s : State) → IsCommitted v s.disk → CrashLeaves s.events (BeforeOrAfter (map_of s.disk.present v) after) s
 at_rest v after s rests = record {
   events = refl;
   images = λ image crash. inl (subst (λ (l : List Sector). Holds l (map_of s.disk.present v)) (sym (settled_image s.disk.present image (subst (λ (d : Disk). IsCrashImage d image) rests.settled crash))) (v, rests.reads, refl));
@@ -41,7 +41,7 @@ module _ (v w : Volume) (base : List Sector) (blocks : List Block) (changes : Li
   all = (enough base v reads).1
 
   keeps : KeepsUsed v base staged
-  keeps = keeps_used v base blocks staged plan.free (all_spare base blocks)
+  keeps = keeps_used v base blocks staged plan.free (all_same_outside base blocks)
 
   valid : root_in marks (length staged) (spells.root.generation % 2) bytes ≡ Valid spells.root
   valid = subst (λ (g : ℕ). root_in marks (length staged) (g % 2) bytes ≡ Valid spells.root) (sym spells.generation) (spells.valid (length staged) (omega (arith, plan.sectors, all, with_all_count base blocks)))
@@ -67,7 +67,7 @@ module _ (v w : Volume) (base : List Sector) (blocks : List Block) (changes : Li
   before_or_after left (Old spares) = inl (still_holds v base left reads (keeps_used v base blocks left plan.free spares))
   before_or_after left (New is) = inr (subst (λ (l : List Sector). Holds l (next_map (map_of base v) changes w.root.catalog)) (sym is) (w, next_reads, next_is))
 
-  pub amid_maps : (seen : List Event) (s : State) → Amid seen (OldOrNew base blocks root bytes) s → Amid seen (BeforeOrAfter (map_of base v) (next_map (map_of base v) changes w.root.catalog)) s
+  pub amid_maps : (seen : List Event) (s : State) → CrashLeaves seen (OldOrNew base blocks root bytes) s → CrashLeaves seen (BeforeOrAfter (map_of base v) (next_map (map_of base v) changes w.root.catalog)) s
   amid_maps seen s amid = record { events = amid.events; images = λ left crash. before_or_after left (amid.images left crash) }
 
   pub now_committed : (d : Disk) → d ≡ settled image → IsCommitted w d
@@ -77,8 +77,8 @@ module _ (v w : Volume) (base : List Sector) (blocks : List Block) (changes : Li
   now_is d is = ap (λ (e : Disk). map_of e.present w) is ∙ next_is
 
   -- the same, with the catalog's page by another name
-  pub amid_maps_as : (page : ℕ) → w.root.catalog ≡ page → (seen : List Event) (s : State) → Amid seen (OldOrNew base blocks root bytes) s → Amid seen (BeforeOrAfter (map_of base v) (next_map (map_of base v) changes page)) s
-  amid_maps_as page is seen s amid = subst (λ (n : ℕ). Amid seen (BeforeOrAfter (map_of base v) (next_map (map_of base v) changes n)) s) is (amid_maps seen s amid)
+  pub amid_maps_as : (page : ℕ) → w.root.catalog ≡ page → (seen : List Event) (s : State) → CrashLeaves seen (OldOrNew base blocks root bytes) s → CrashLeaves seen (BeforeOrAfter (map_of base v) (next_map (map_of base v) changes page)) s
+  amid_maps_as page is seen s amid = subst (λ (n : ℕ). CrashLeaves seen (BeforeOrAfter (map_of base v) (next_map (map_of base v) changes n)) s) is (amid_maps seen s amid)
 
   pub now_is_as : (page : ℕ) → w.root.catalog ≡ page → (d : Disk) → d ≡ settled image → map_of d.present w ≡ next_map (map_of base v) changes page
   now_is_as page is d same = now_is d same ∙ ap (next_map (map_of base v) changes) is

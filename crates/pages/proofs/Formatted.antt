@@ -11,7 +11,7 @@ use Rattle.roots.specs.declared.root.RootSector.{RootSector}
 use Rattle.roots.specs.declared.root.RootSector.TheVariants.{Blank, Valid}
 use Rattle.roots.specs.declared.pair.RootsFault.TheVariants.{ForeignMark}
 use Rattle.roots.specs.declared.pair.Roots.{Roots}
-use Rattle.roots.specs.Root.{root_in, marked, place, is_blank}
+use Rattle.roots.specs.Root.{root_in, marked, mark_index, is_blank}
 use Rattle.roots.specs.Pair.{newest_root}
 use Rattle.pages.specs.Layout.{map_count, newest, marks, root_of, zeros}
 use Rattle.pages.specs.Image.{map_at, map_part, pages_in, Reads, Holds, IsCommitted}
@@ -61,7 +61,7 @@ module _ (base : List Sector) (sectors : ℕ) (bytes : Sector) (all : length bas
   second = get_or-set_other (set base 1 (replicate 4096 0)) 0 1 bytes [] (λ e. omega (arith, e)) ∙ get_or-set_same base 1 (replicate 4096 0) [] (omega (arith, all, least))
 
   blank_there : root_in marks (length image) 1 (sector_at image 1) ≡ Blank
-  blank_there = ap (root_in marks (length image) 1) second ∙ cond-true (is_blank (replicate 4096 0)) Blank (marked (length image) 1 (replicate 4096 0) (place marks (replicate 4096 0))) (all_blank 4096)
+  blank_there = ap (root_in marks (length image) 1) second ∙ cond-true (is_blank (replicate 4096 0)) Blank (marked (length image) 1 (replicate 4096 0) (mark_index marks (replicate 4096 0))) (all_blank 4096)
 
   root_there : root_in marks (length image) 0 (sector_at image 0) ≡ Valid spells.root
   root_there = ap (root_in marks (length image) 0) first ∙ spells.valid (length image) (omega (arith, count))

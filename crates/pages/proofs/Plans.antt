@@ -5,7 +5,7 @@ use Rattle.std.specs.List.{All}
 use Rattle.std.specs.declared.alloc.Global.{Global}
 use Rattle.std.proofs.lemmas.List.{length-replicate}
 use Rattle.std.proofs.lemmas.List.Elements.{All-nil}
-use Rattle.station.specs.Blocks.{AreAt, with_all}
+use Rattle.station.specs.Blocks.{SectorsAre, with_all}
 use Rattle.station.specs.declared.blocks.Block.{Block}
 use Rattle.pages.specs.declared.change.Change.{Change}
 use Rattle.pages.specs.declared.draft.Draft.{Draft}
@@ -27,7 +27,7 @@ started m d sound fresh = record {
     table_count = refl;
     dirty_count = ap length fresh.dirty ∙ length-replicate (length m.maps.items) false;
     unused = sound.unused;
-    free = subst (AreAt (IsFree (volume_of m))) (sym fresh.blocks) (All-nil (λ (b : Block). IsFree (volume_of m) b.sector));
+    free = subst (SectorsAre (IsFree (volume_of m))) (sym fresh.blocks) (All-nil (λ (b : Block). IsFree (volume_of m) b.sector));
     clean = λ page is. refl;
     pages = λ base all reads. ap (λ (l : List Block). pages_in (with_all base l) m.table.items) fresh.blocks;
   };

@@ -5,10 +5,10 @@ use Rattle.std.proofs.lemmas.List.{map-set, set-get_or, ext_get_or, get_or-take,
 use Rattle.std.proofs.lemmas.List.Elements.{All-push, All-contains, All-map, Contains-append_left, Contains-append_right, Contains-get_or}
 use Rattle.std.proofs.lemmas.Bool.{cases_eq, cases_lt, true≢false}
 use Rattle.station.specs.Disk.{Sector, sector_at}
-use Rattle.station.specs.Blocks.{AreAt, with_all}
+use Rattle.station.specs.Blocks.{SectorsAre, with_all}
 use Rattle.station.specs.declared.blocks.Block.{Block}
-use Rattle.station.specs.Blocks.{Spares}
-use Rattle.station.proofs.Puts.{with_all_count, all_spare}
+use Rattle.station.specs.Blocks.{SameOutside}
+use Rattle.station.proofs.TwoPhase.{with_all_count, all_same_outside}
 use Rattle.pages.specs.declared.change.Change.{Change}
 use Rattle.pages.specs.Layout.{words, zeros}
 use Rattle.pages.specs.Image.{map_at, map_part, page_at, pages_in, Volume, Reads, IsFree, KeepsUsed}
@@ -81,7 +81,7 @@ module _ (v : Volume) (maps table : List ℕ) (dirty : List Bool) (blocks : List
   }
 
 -- blocks for free sectors keep the used ones
-pub keeps_used : (v : Volume) (base : List Sector) (blocks : List Block) (image : List Sector) → AreAt (IsFree v) blocks → Spares base blocks image → KeepsUsed v base image
+pub keeps_used : (v : Volume) (base : List Sector) (blocks : List Block) (image : List Sector) → SectorsAre (IsFree v) blocks → SameOutside base blocks image → KeepsUsed v base image
 keeps_used v base blocks image free spares = record { count = spares.count; each = λ s lt. ⊎_elim (λ same. inl same) (λ has. inr (free_at s has)) (spares.each s lt) }
   where
     free_at : (s : ℕ) → Contains (map (λ (b : Block). b.sector) blocks) s → IsFree v s
@@ -117,7 +117,7 @@ module _ (v : Volume) (maps table : List ℕ) (dirty : List Bool) (blocks : List
       here : (base : List Sector) → Reads base v → map_at (with_all base blocks) (get_or maps j 0) ≡ map_part table j
       here base reads =
           let inside : j < length v.root.maps = omega (arith, low, staged.maps_count) in
-          let keeps = keeps_used v base blocks (with_all base blocks) staged.free (all_spare base blocks) in
+          let keeps = keeps_used v base blocks (with_all base blocks) staged.free (all_same_outside base blocks) in
           let same = named_same v base (with_all base blocks) reads keeps (get_or v.root.maps j 0) (Contains-append_left v.root.maps v.table (get_or v.root.maps j 0) (Contains-get_or v.root.maps j 0 inside)) in
           ap (map_at (with_all base blocks)) (mapped.others j (omega arith)) ∙ map_same (with_all base blocks) base (get_or v.root.maps j 0) same ∙ reads.maps.entries j inside
           ∙ sym (clean_part v table dirty j staged.table_count staged.clean is)

@@ -2,7 +2,7 @@
 use Rattle.std.specs.Prelude.{◌≡◌, ◌⊎◌, ◌<◌, ◌≤◌, ◌/◌, Bool, false, ℕ, List, length, slice_index, slice_index_or, Contains}
 use Rattle.std.specs.List.{All}
 use Rattle.station.specs.Disk.{Sector}
-use Rattle.station.specs.Blocks.{AreAt, with_all}
+use Rattle.station.specs.Blocks.{SectorsAre, with_all}
 use Rattle.station.specs.declared.blocks.Block.{Block}
 use Rattle.pages.specs.Image.{Volume, names, IsPlace, NamesOnce, Reads, IsFree, map_at, map_part, pages_in}
 use Rattle.pages.specs.Use.{IsUse, turned}
@@ -25,7 +25,7 @@ pub record IsStaged (v : Volume) (maps table : List ℕ) (dirty : List Bool) (bl
   pub table_count : length table ≡ length v.table
   pub dirty_count : length dirty ≡ length v.root.maps
   pub unused : slice_index table 0 ≡ 0
-  pub free : AreAt (IsFree v) blocks
+  pub free : SectorsAre (IsFree v) blocks
   pub clean : (page : ℕ) → slice_index_or dirty (page / 1024) false ≡ false → slice_index table page ≡ slice_index v.table page
   pub pages : (base : List Sector) → v.root.sectors ≤ length base → Reads base v → pages_in (with_all base blocks) table ≡ changed (pages_in base v.table) changes
 

@@ -1,7 +1,7 @@
 -- The next volume, before it is on the disk.
 use Rattle.std.specs.Prelude.{◌≡◌, ◌≤◌, ◌+◌, List, length}
 use Rattle.station.specs.Disk.{Sector}
-use Rattle.station.specs.Blocks.{AreAt, with_all}
+use Rattle.station.specs.Blocks.{SectorsAre, with_all}
 use Rattle.station.specs.declared.blocks.Block.{Block}
 use Rattle.pages.specs.Image.{Volume, Reads, Maps, IsFree, pages_in}
 use Rattle.pages.specs.Changes.{changed}
@@ -11,6 +11,6 @@ use Rattle.pages.specs.declared.change.Change.{Change}
 pub record IsPlan (v w : Volume) (blocks : List Block) (changes : List Change) : Type 0 where
   pub generation : w.root.generation ≡ v.root.generation + 1
   pub sectors : w.root.sectors ≡ v.root.sectors
-  pub free : AreAt (IsFree v) blocks
+  pub free : SectorsAre (IsFree v) blocks
   pub maps : (base : List Sector) → v.root.sectors ≤ length base → Reads base v → Maps (with_all base blocks) w
   pub pages : (base : List Sector) → v.root.sectors ≤ length base → Reads base v → pages_in (with_all base blocks) w.table ≡ changed (pages_in base v.table) changes

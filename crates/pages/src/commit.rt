@@ -4,7 +4,7 @@ ghost use Rattle.std.specs.List.{All};
 ghost use Rattle.station.specs.State.{SameConsole};
 ghost use Rattle.station.specs.History.{Through};
 ghost use Rattle.station.specs.Failures.{Blames};
-ghost use Rattle.station.specs.Blocks.{Amid};
+ghost use Rattle.station.specs.Blocks.{CrashLeaves};
 ghost use Rattle.pages.specs.Image.{IsCommitted, NamesOnce, map_of};
 ghost use Rattle.pages.specs.Changes.{next_map, touched, BeforeOrAfter};
 ghost use Rattle.pages.specs.Needed.{IsShort};
@@ -16,7 +16,7 @@ use crate::error::PagesError;
 use crate::payload::root_bytes_of;
 use crate::plan::{mark_turns, next_volume};
 use crate::volume::VolumeMap;
-use station::{Device, put};
+use station::{Device, two_phase_write};
 use std::alloc::Global;
 
 /// Puts the volume with these changes, and this page of the catalog's root, on the disk: its blocks, a sync, its root, a sync.
@@ -41,7 +41,7 @@ pub(crate) fn commit_volume<D: Device>(
     // At each moment a crash leaves the map before, or the one after.
     ensures moments { D.is_honest device.old → IsCommitted (volume_of volume.old) (D.state device.old).disk →
         Through (D.history device.old) (D.history device.new) (D.state device.new)
-        (Amid (D.state device.old).events (BeforeOrAfter (map_of (D.state device.old).disk.present (volume_of volume.old))
+        (CrashLeaves (D.state device.old).events (BeforeOrAfter (map_of (D.state device.old).disk.present (volume_of volume.old))
         (next_map (map_of (D.state device.old).disk.present (volume_of volume.old)) changes.now catalog))) }
 
     // After `Ok` it is the one after.
@@ -59,7 +59,7 @@ pub(crate) fn commit_volume<D: Device>(
 {
     let draft = next_volume(alloc, volume, changes, catalog)?;
     let bytes = root_bytes_of(volume);
-    put(
+    two_phase_write(
         device,
         &draft.blocks,
         (volume.generation % 2) as u32,

@@ -5,7 +5,7 @@ ghost use Rattle.station.specs.State.{synced, SameConsole};
 ghost use Rattle.station.specs.History.{Through};
 ghost use Rattle.station.specs.Failures.{Blames};
 ghost use Rattle.station.specs.Opening.{Opening};
-ghost use Rattle.station.specs.Blocks.{Amid};
+ghost use Rattle.station.specs.Blocks.{CrashLeaves};
 ghost use Rattle.pages.specs.Layout.{IsForeign};
 ghost use Rattle.pages.specs.Image.{Map, Holds, IsDamaged, map_of};
 ghost use Rattle.pages.specs.Errors.{Refuses, IsOpenError, IsReadError, Tells};
@@ -380,7 +380,7 @@ impl PageMap {
         // At each moment a crash leaves the map of the last commit, or this one.
         ensures moments { D.is_honest device.old → Agrees self.old (D.state device.old).disk →
             Through (D.history device.old) (D.history device.new) (D.state device.new)
-            (Amid (D.state device.old).events (BeforeOrAfter (map_of (D.state device.old).disk.present (committed_of self.old)) (advanced (map_now self.old (D.state device.old).disk.present)))) }
+            (CrashLeaves (D.state device.old).events (BeforeOrAfter (map_of (D.state device.old).disk.present (committed_of self.old)) (advanced (map_now self.old (D.state device.old).disk.present)))) }
 
         // After `Ok` the disk holds this one.
         ensures agrees { D.is_honest device.old → Agrees self.old (D.state device.old).disk → OnOk result (Agrees self.new (D.state device.new).disk) }

@@ -1,6 +1,6 @@
 //! Rows of single calls on a station in memory: what each answers, what a failure and a stop do, and what a crash leaves.
 use crate::asserted::{holds, same, same_in};
-use station::{Block, Device, DeviceError, MemoryStation, Note, Station, put};
+use station::{Block, Device, DeviceError, MemoryStation, Note, Station, two_phase_write};
 use std::alloc::{AllocError, Global};
 use std::process::Abort;
 
@@ -324,7 +324,7 @@ fn put_all(station: &mut MemoryStation) -> Result<(), DeviceError> {
     if station.count() < 8 {
         return Err(DeviceError::Failed);
     }
-    put(station, &blocks, 1, &filled(9))
+    two_phase_write(station, &blocks, 1, &filled(9))
 }
 
 // Stopped at a call, a put leaves these bytes in the sectors 1, 2 and 3 after a crash by these choices.

@@ -9,7 +9,7 @@ use Rattle.pages.specs.Changes.{changed, touched}
 use Rattle.pages.specs.declared.change.Change.{Change}
 use Rattle.pages.proofs.Edits.{Away, is_only, only_set, same_touched, push_touched, away_touched, touched_at}
 use Rattle.pages.proofs.Staging.{applied_more}
-use Rattle.station.proofs.Puts.{on_ok}
+use Rattle.station.proofs.TwoPhase.{on_ok}
 use Rattle.pages.proofs.Filling.{filled_replaced, filled_pushed, fills_set, fills_pushed, either_way}
 use Rattle.pages.proofs.change.set_change.Goals as goal
 

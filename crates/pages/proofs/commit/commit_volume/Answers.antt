@@ -1,5 +1,5 @@
 use Rattle.std.proofs.Common.{◌≡◌, ◌<◌, ℕ, List, sym, ◌∙◌, ap, subst, arith}
-use Rattle.station.specs.Blocks.{AreAt}
+use Rattle.station.specs.Blocks.{SectorsAre}
 use Rattle.station.specs.declared.blocks.Block.{Block}
 use Rattle.station.proofs.Spans.{stays, weakens}
 use Rattle.pages.specs.Image.{names}
@@ -11,27 +11,27 @@ use Rattle.pages.specs.Volumes.{volume_of}
 use Rattle.pages.proofs.Committed.{at_rest, amid_maps_as, now_committed, now_is_as}
 use Rattle.pages.proofs.commit.commit_volume.Goals as goal
 
-pub put-requires-clause-blocks : goal.put-requires-clause-blocks
-put-requires-clause-blocks g c = subst (AreAt (λ (s : ℕ). s < g.D.Device.sectors c.args.device.now)) (sym c.deref.ensures.value)
+pub two_phase_write-requires-clause-blocks : goal.two_phase_write-requires-clause-blocks
+two_phase_write-requires-clause-blocks g c = subst (SectorsAre (λ (s : ℕ). s < g.D.Device.sectors c.args.device.now)) (sym c.deref.ensures.value)
     (λ k d lt. omega (arith, (c.in_ok-draft.ensures.plan.free k d lt).low, c.requires.sectors))
 
-pub put-requires-clause-root : goal.put-requires-clause-root
-put-requires-clause-root g c = omega (arith, c.requires.sectors, c.requires.sound.least)
+pub two_phase_write-requires-clause-root : goal.two_phase_write-requires-clause-root
+two_phase_write-requires-clause-root g c = omega (arith, c.requires.sectors, c.requires.sound.least)
 
 pub returns-in_err-draft-clause-moments : goal.returns-in_err-draft-clause-moments
 returns-in_err-draft-clause-moments g c = λ honest rests.
     let old = g.D.Device.state c.args.device.now in
     stays (g.D.Device.history c.args.device.now) old _ (at_rest (volume_of c.args.volume.now) (next_map (map_of old.disk.present (volume_of c.args.volume.now)) c.args.changes.now c.args.catalog) old rests)
 
-pub returns-in_err-put-clause-moments : goal.returns-in_err-put-clause-moments
-returns-in_err-put-clause-moments g c = λ honest rests.
+pub returns-in_err-two_phase_write-clause-moments : goal.returns-in_err-two_phase_write-clause-moments
+returns-in_err-two_phase_write-clause-moments g c = λ honest rests.
     let old = g.D.Device.state c.args.device.now in
     let v = volume_of c.args.volume.now in
     let w = volume_of c.next_volume.new.volume in
     let plan : IsPlan v w c.deref.result.now c.args.changes.now = subst (λ (b : List Block). IsPlan v w b c.args.changes.now) (sym c.deref.ensures.value) c.in_ok-draft.ensures.plan in
-    weakens (g.D.Device.history c.args.device.now) (g.D.Device.history c.put.new.device) (g.D.Device.state c.put.new.device) _ _
+    weakens (g.D.Device.history c.args.device.now) (g.D.Device.history c.two_phase_write.new.device) (g.D.Device.state c.two_phase_write.new.device) _ _
     (amid_maps_as v w old.disk.present c.deref.result.now c.args.changes.now c.root_bytes_of-bytes.result rests.reads plan c.root_bytes_of-bytes.ensures c.args.catalog c.in_ok-draft.ensures.next.catalog old.events)
-    (c.put.ensures.moments honest rests.settled)
+    (c.two_phase_write.ensures.moments honest rests.settled)
 
 pub returns-clause-moments : goal.returns-clause-moments
 returns-clause-moments g c = λ honest rests.
@@ -39,9 +39,9 @@ returns-clause-moments g c = λ honest rests.
     let v = volume_of c.args.volume.now in
     let w = volume_of c.next_volume.new.volume in
     let plan : IsPlan v w c.deref.result.now c.args.changes.now = subst (λ (b : List Block). IsPlan v w b c.args.changes.now) (sym c.deref.ensures.value) c.in_ok-draft.ensures.plan in
-    weakens (g.D.Device.history c.args.device.now) (g.D.Device.history c.put.new.device) (g.D.Device.state c.put.new.device) _ _
+    weakens (g.D.Device.history c.args.device.now) (g.D.Device.history c.two_phase_write.new.device) (g.D.Device.state c.two_phase_write.new.device) _ _
     (amid_maps_as v w old.disk.present c.deref.result.now c.args.changes.now c.root_bytes_of-bytes.result rests.reads plan c.root_bytes_of-bytes.ensures c.args.catalog c.in_ok-draft.ensures.next.catalog old.events)
-    (c.put.ensures.moments honest rests.settled)
+    (c.two_phase_write.ensures.moments honest rests.settled)
 
 pub returns-clause-committed : goal.returns-clause-committed
 returns-clause-committed g c = λ honest rests.
@@ -49,7 +49,7 @@ returns-clause-committed g c = λ honest rests.
     let v = volume_of c.args.volume.now in
     let w = volume_of c.next_volume.new.volume in
     let plan : IsPlan v w c.deref.result.now c.args.changes.now = subst (λ (b : List Block). IsPlan v w b c.args.changes.now) (sym c.deref.ensures.value) c.in_ok-draft.ensures.plan in
-    now_committed v w old.disk.present c.deref.result.now c.args.changes.now c.root_bytes_of-bytes.result rests.reads plan c.root_bytes_of-bytes.ensures (g.D.Device.state c.put.new.device).disk (c.in_ok-put.ensures.durable honest)
+    now_committed v w old.disk.present c.deref.result.now c.args.changes.now c.root_bytes_of-bytes.result rests.reads plan c.root_bytes_of-bytes.ensures (g.D.Device.state c.two_phase_write.new.device).disk (c.in_ok-two_phase_write.ensures.durable honest)
 
 pub returns-clause-map : goal.returns-clause-map
 returns-clause-map g c = λ honest rests.
@@ -57,7 +57,7 @@ returns-clause-map g c = λ honest rests.
     let v = volume_of c.args.volume.now in
     let w = volume_of c.next_volume.new.volume in
     let plan : IsPlan v w c.deref.result.now c.args.changes.now = subst (λ (b : List Block). IsPlan v w b c.args.changes.now) (sym c.deref.ensures.value) c.in_ok-draft.ensures.plan in
-    now_is_as v w old.disk.present c.deref.result.now c.args.changes.now c.root_bytes_of-bytes.result rests.reads plan c.root_bytes_of-bytes.ensures c.args.catalog c.in_ok-draft.ensures.next.catalog (g.D.Device.state c.put.new.device).disk (c.in_ok-put.ensures.durable honest)
+    now_is_as v w old.disk.present c.deref.result.now c.args.changes.now c.root_bytes_of-bytes.result rests.reads plan c.root_bytes_of-bytes.ensures c.args.catalog c.in_ok-draft.ensures.next.catalog (g.D.Device.state c.two_phase_write.new.device).disk (c.in_ok-two_phase_write.ensures.durable honest)
 
 pub returns-clause-sound : goal.returns-clause-sound
 returns-clause-sound g c =

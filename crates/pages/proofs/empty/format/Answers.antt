@@ -1,7 +1,7 @@
 use Rattle.std.proofs.Common.{◌∙◌, ℕ, set, ap, subst}
 use Rattle.station.specs.Disk.{settled}
 use Rattle.station.specs.State.{State}
-use Rattle.station.proofs.Puts.{on_ok}
+use Rattle.station.proofs.TwoPhase.{on_ok}
 use Rattle.pages.specs.Empty.{empty_volume}
 use Rattle.pages.specs.Payload.{SpellsRoot}
 use Rattle.pages.proofs.Formatted.{empty_images, empty_committed}

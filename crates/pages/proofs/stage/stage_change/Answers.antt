@@ -1,6 +1,6 @@
 use Rattle.std.proofs.Common.{◌≡◌, ◌<◌, ◌≤◌, ℕ, Bool, true, false, List, length, get_or, ap, subst}
 use Rattle.std.specs.Prelude.{is_some}
-use Rattle.station.proofs.Puts.{on_ok}
+use Rattle.station.proofs.TwoPhase.{on_ok}
 use Rattle.pages.specs.Volumes.{PlacesBlock}
 use Rattle.pages.proofs.Drafts.{page_drafted, release_drafted, placed_in}
 use Rattle.pages.proofs.Taking.{page_counted, release_counted, full_count}

@@ -2,7 +2,7 @@ use Rattle.std.proofs.Common.{◌≡◌, ◌==◌, ◌<◌, ◌≤◌, ℕ, Bool
 use Rattle.std.specs.List.{list_all}
 use Rattle.std.proofs.Common.{rules}
 use Rattle.std.proofs.lemmas.List.{get_or_read}
-use Rattle.station.proofs.Puts.{on_ok}
+use Rattle.station.proofs.TwoPhase.{on_ok}
 use Rattle.pages.specs.Image.{map_part}
 use Rattle.pages.proofs.Drafts.{kept_mapped, blank_mapped, written_mapped, placed_in}
 use Rattle.pages.proofs.Words.{all_zeros}
