@@ -1,0 +1,21 @@
+-- What the laws of references, literals, operands and expressions say.
+use Rattle.std.specs.Prelude.{◌≡◌, ◌<◌, ◌⊎◌, ℕ, List, Ok, Err}
+use Rattle.tokens.specs.declared.token.Token.{Token}
+use Rattle.source_tree.specs.declared.expression.Expression.{Expression}
+use Rattle.grammar.specs.declared.fault.Halt.TheVariants.{TooDeep}
+use Rattle.grammar.specs.Parts.{Part}
+use Rattle.grammar.specs.Reading.{Parser}
+use Rattle.expressions.specs.Expressions.{expression, expression_reader}
+
+-- what is read is spelled
+abbrev pub Spelled : {A : Type 0} → (A → Part) → Parser A → Type 0
+Spelled {A = A} p reader = (one : A) (from rest : List Token) → reader from ≡ Ok (one, rest) → p one from rest
+
+-- what is spelled is read: so no tokens are spelled by two trees, and none end in two ways
+abbrev pub Only : {A : Type 0} → (A → Part) → Parser A → Type 0
+Only {A = A} p reader = (one : A) (from rest : List Token) → p one from rest → reader from ≡ Ok (one, rest)
+
+-- what is spelled to whatever depth is read, but where it is deeper than the reader goes
+abbrev pub OnlyToDepth : Type 0
+OnlyToDepth = (depth depth' : ℕ) (one : Expression) (from rest : List Token) → expression depth' one from rest
+    → (expression_reader depth from ≡ Ok (one, rest)) ⊎ ((depth < depth') × (left : ℕ) × (expression_reader depth from ≡ Err (TooDeep left)))

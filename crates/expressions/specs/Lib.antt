@@ -1,0 +1,9 @@
+pub mod Marks
+pub mod Subscripts
+pub mod References
+pub mod Literals
+pub mod Operands
+pub mod Expressions
+pub mod Nests
+pub mod Laws
+pub use Rattle.grammar.specs.Reading as GrammarReading

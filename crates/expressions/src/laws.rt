@@ -1,0 +1,34 @@
+//! What holds of the rules and their readers: each reader answers what its rule spells, and nothing else.
+
+ghost use Rattle.std.specs.Prelude.{◌≡◌, ℕ};
+ghost use Rattle.expressions.specs.References.{reference as reference_rule, reference_reader};
+ghost use Rattle.expressions.specs.Literals.{literal as literal_rule, literal_reader};
+ghost use Rattle.expressions.specs.Operands.{operand as operand_rule, operand_reader, number_operand as number_rule, number_operand_reader};
+ghost use Rattle.expressions.specs.Expressions.{expression as expression_rule, expression_reader};
+ghost use Rattle.expressions.specs.Laws.{Spelled, Only, OnlyToDepth};
+
+/// References.
+pub fn reference_law()
+    ensures spelled { Spelled reference_rule reference_reader }
+    ensures only { Only reference_rule reference_reader }
+{}
+
+/// Literals and figurative constants.
+pub fn literal_law()
+    ensures spelled { Spelled literal_rule literal_reader }
+    ensures only { Only literal_rule literal_reader }
+{}
+
+/// Operands, and those that are numbers.
+pub fn operand_law()
+    ensures spelled { Spelled operand_rule operand_reader }
+    ensures only { Only operand_rule operand_reader }
+    ensures number_spelled { Spelled number_rule number_operand_reader }
+    ensures number_only { Only number_rule number_operand_reader }
+{}
+
+/// Arithmetic expressions, to each depth.
+pub fn expression_law()
+    ensures spelled { (depth : ℕ) → Spelled (expression_rule depth) (expression_reader depth) }
+    ensures only { OnlyToDepth }
+{}

@@ -1,0 +1,136 @@
+//! What was read, written out again.
+
+use source_tree::{
+    Adjustment, Expression, Figurative, Integer, Literal, LiteralValue, Operand, Operator,
+    QualifiedName, Reference, Sign, Subscript,
+};
+use std::alloc::{AllocError, Global};
+
+/// A number that stands for no expression of these rows.
+pub const DEEPEST: usize = 16;
+
+fn push_bytes(to: &mut String, bytes: &[u8]) -> Result<(), AllocError> {
+    to.push_str(str::from_utf8(bytes).unwrap_or("?"))
+}
+
+fn push_name(to: &mut String, name: &QualifiedName) -> Result<(), AllocError> {
+    push_bytes(to, name.name.characters.as_slice())?;
+    for qualifier in name.qualifiers.as_slice() {
+        to.push_str(".")?;
+        push_bytes(to, qualifier.characters.as_slice())?;
+    }
+    Ok(())
+}
+
+fn push_added(to: &mut String, sign: &str, integer: &Integer) -> Result<(), AllocError> {
+    to.push_str(sign)?;
+    push_bytes(to, integer.digits.as_slice())
+}
+
+fn push_subscript(to: &mut String, subscript: &Subscript) -> Result<(), AllocError> {
+    match subscript {
+        Subscript::Literal(integer) => push_bytes(to, integer.digits.as_slice()),
+        Subscript::Item { item, adjustment } => {
+            push_name(to, item)?;
+            match adjustment {
+                Adjustment::Nothing => Ok(()),
+                Adjustment::Plus(integer) => push_added(to, "+", integer),
+                Adjustment::Minus(integer) => push_added(to, "-", integer),
+            }
+        }
+    }
+}
+
+/// The name, its qualifiers behind points, and each subscript in brackets.
+pub fn push_reference(to: &mut String, reference: &Reference) -> Result<(), AllocError> {
+    push_name(to, &reference.item)?;
+    for subscript in reference.subscripts.as_slice() {
+        to.push_str("[")?;
+        push_subscript(to, subscript)?;
+        to.push_str("]")?;
+    }
+    Ok(())
+}
+
+fn sign(sign: Sign) -> &'static str {
+    match sign {
+        Sign::Unsigned => "",
+        Sign::Plus => "+",
+        Sign::Minus => "-",
+    }
+}
+
+fn figurative(constant: Figurative) -> &'static str {
+    match constant {
+        Figurative::Zero => "ZERO",
+        Figurative::Space => "SPACE",
+        Figurative::HighValue => "HIGH-VALUE",
+        Figurative::LowValue => "LOW-VALUE",
+        Figurative::Quote => "QUOTE",
+    }
+}
+
+/// A number as written, a text in marks, a figurative constant in the singular.
+pub fn push_literal(to: &mut String, literal: &Literal) -> Result<(), AllocError> {
+    match &literal.value {
+        LiteralValue::Numeric(number) => {
+            to.push_str(sign(number.sign))?;
+            push_bytes(to, number.whole.as_slice())?;
+            to.push_str(".")?;
+            push_bytes(to, number.decimals.as_slice())
+        }
+        LiteralValue::Nonnumeric(bytes) => {
+            to.push_str("'")?;
+            push_bytes(to, bytes.as_slice())?;
+            to.push_str("'")
+        }
+        LiteralValue::Figurative(constant) => to.push_str(figurative(*constant)),
+        LiteralValue::All(bytes) => {
+            to.push_str("ALL ")?;
+            push_bytes(to, bytes.as_slice())
+        }
+    }
+}
+
+pub fn push_operand(to: &mut String, operand: &Operand) -> Result<(), AllocError> {
+    match operand {
+        Operand::Item(reference) => push_reference(to, reference),
+        Operand::Literal(literal) => push_literal(to, literal),
+    }
+}
+
+fn operator(operator: Operator) -> &'static str {
+    match operator {
+        Operator::Add => "+",
+        Operator::Subtract => "-",
+        Operator::Multiply => "*",
+        Operator::Divide => "/",
+    }
+}
+
+/// Each node but an operand in parentheses; a negated one behind `~`.
+pub fn push_expression(
+    to: &mut String,
+    expression: &Expression,
+    depth: usize,
+) -> Result<(), AllocError> {
+    if depth == 0 {
+        return to.push_str("?");
+    }
+    match expression {
+        Expression::Operand(operand) => push_operand(to, operand),
+        Expression::Negated(inner) => {
+            to.push_str("~")?;
+            push_expression(to, inner.get(), depth - 1)
+        }
+        Expression::Chain { first, more } => {
+            to.push_str("(")?;
+            push_expression(to, first.get(), depth - 1)?;
+            for (by, one) in more.as_slice() {
+                to.push_str(operator(*by))?;
+                push_expression(to, one, depth - 1)?;
+            }
+            to.push_str(")")
+        }
+    }
+}
