@@ -1,5 +1,5 @@
-//! Rows of `number` and `store`: a number and the bytes in which an item holds it, in hexadecimal. The bytes are those of the
-//! worked rows in `docs/ACCEPTANCE.md`, and else those that GnuCOBOL wrote for the same entry (`cobc -x -std=cobol85 -fixed`).
+//! Rows of `number` and `store`: a number and the bytes in which an item holds it, in hexadecimal, as GnuCOBOL wrote them for the
+//! same entry (`cobc -x -std=cobol85 -fixed`, the item read through its group).
 use crate::asserted::{holds, same_in};
 use crate::calls::{coefficient_in, put_coefficient};
 use items::{Numeric, OperationalSign, Usage};

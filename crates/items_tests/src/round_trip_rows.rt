@@ -38,16 +38,21 @@ fn there_and_back(rt: &impl Abort, item: Numeric, coefficient: i128) {
     same_in(rt, &item, bytes[size], MARK);
 }
 
-/// Zero, one, the greatest, and numbers with a digit of each kind, with the signs that the item can hold.
+/// A number, and its negative where the item can hold it.
+fn with_each_sign(rt: &impl Abort, item: Numeric, magnitude: i128) {
+    assert!(rt; 0 <= magnitude);
+    there_and_back(rt, item, magnitude);
+    if item.is_signed() {
+        there_and_back(rt, item, -magnitude);
+    }
+}
+
+/// Zero, one, the greatest, the least with as many digits, and one with a digit of each kind, below the limit.
 fn numbers_of(rt: &impl Abort, item: Numeric, limit: i128) {
     assert!(rt; 10 <= limit);
-    assert!(rt; limit <= 1_000_000_000_000_000_000);
     let digits = 123_456_789_012_345_678 % limit;
-    for coefficient in [0, 1, limit / 10, digits, limit - 1] {
-        there_and_back(rt, item, coefficient);
-        if item.is_signed() {
-            there_and_back(rt, item, -coefficient);
-        }
+    for magnitude in [0, 1, limit / 10, digits, limit - 1] {
+        with_each_sign(rt, item, magnitude);
     }
 }
 
