@@ -9,13 +9,11 @@ ghost use Rattle.items.specs.Items.{IsOf, IsTaken};
 ghost use Rattle.items.specs.Texts.{characters, characters_in, plain_bytes};
 ghost use Rattle.text_ops.specs.Compare as spec;
 
+use crate::digits::MOST_DIGITS;
 use crate::text_order::{order_beside_character, order_beside_repeated, order_of_texts};
 use decimal18::Dec;
 use items::{DataFault, Figurative, Item, Kind, Numeric, Taken, number};
 use std::cmp::Ordering;
-
-/// The most digits of a number.
-const MOST_DIGITS: usize = 18;
 
 fn is_numeric_item(taken: Taken) -> bool
     ensures { result ≡ spec.is_numeric_item taken }

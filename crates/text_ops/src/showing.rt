@@ -8,11 +8,9 @@ ghost use Rattle.items.specs.Items.{IsOf};
 ghost use Rattle.text_ops.specs.Lengths.{shown_length};
 ghost use Rattle.text_ops.specs.Shown as spec;
 
+use crate::digits::MOST_DIGITS;
 use decimal18::Dec;
 use items::{DataFault, Item, Kind, Numeric, number};
-
-/// The most digits of a number.
-const MOST_DIGITS: usize = 18;
 
 fn sign_character(negative: bool) -> u8
     ensures { result ≡ sign_character negative }

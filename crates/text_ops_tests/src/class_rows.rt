@@ -17,19 +17,19 @@ const TEXTS: [(&[u8], bool, bool, bool, bool); 7] = [
 ];
 
 #[test]
-fn texts(rt: &impl Abort) {
+fn texts(rt: HostRuntime) {
     for row in TEXTS.iter() {
-        let text = item(rt, TEXT, row.0);
-        same_in(rt, row, is_class(Class::Numeric, text, row.0), row.1);
-        same_in(rt, row, is_class(Class::Alphabetic, text, row.0), row.2);
+        let text = item(&rt, TEXT, row.0);
+        same_in(&rt, row, is_class(Class::Numeric, text, row.0), row.1);
+        same_in(&rt, row, is_class(Class::Alphabetic, text, row.0), row.2);
         same_in(
-            rt,
+            &rt,
             row,
             is_class(Class::AlphabeticLower, text, row.0),
             row.3,
         );
         same_in(
-            rt,
+            &rt,
             row,
             is_class(Class::AlphabeticUpper, text, row.0),
             row.4,
@@ -48,27 +48,27 @@ fn is_numeric(rt: &impl Abort, kind: Kind, bytes: &[u8], expected: bool) {
 }
 
 #[test]
-fn separate_signs(rt: &impl Abort) {
+fn separate_signs(rt: HostRuntime) {
     let leading = display(3, 0, OperationalSign::LeadingSeparate);
-    is_numeric(rt, leading, b"+012", true);
-    is_numeric(rt, leading, b"-012", true);
-    is_numeric(rt, leading, b" 012", false);
-    is_numeric(rt, leading, b"0012", false);
-    is_numeric(rt, leading, b"+0 2", false);
+    is_numeric(&rt, leading, b"+012", true);
+    is_numeric(&rt, leading, b"-012", true);
+    is_numeric(&rt, leading, b" 012", false);
+    is_numeric(&rt, leading, b"0012", false);
+    is_numeric(&rt, leading, b"+0 2", false);
     let trailing = display(3, 0, OperationalSign::TrailingSeparate);
-    is_numeric(rt, trailing, b"012+", true);
-    is_numeric(rt, trailing, b"012-", true);
-    is_numeric(rt, trailing, b"012 ", false);
-    is_numeric(rt, trailing, b"0120", false);
+    is_numeric(&rt, trailing, b"012+", true);
+    is_numeric(&rt, trailing, b"012-", true);
+    is_numeric(&rt, trailing, b"012 ", false);
+    is_numeric(&rt, trailing, b"0120", false);
 }
 
 // The bytes of signs and the limits of COMP are this project's own choice.
 #[test]
-fn own_forms(rt: &impl Abort) {
-    is_numeric(rt, display(2, 0, OperationalSign::Trailing), b"0r", true);
-    is_numeric(rt, display(2, 0, OperationalSign::Unsigned), b"0r", false);
-    is_numeric(rt, binary(4, 0), &[0x27, 0x0f], true);
-    is_numeric(rt, binary(4, 0), &[0x27, 0x10], false);
-    is_numeric(rt, packed(3, 0), &[0x01, 0x2d], true);
-    is_numeric(rt, packed(3, 0), &[0x01, 0x2f], false);
+fn own_forms(rt: HostRuntime) {
+    is_numeric(&rt, display(2, 0, OperationalSign::Trailing), b"0r", true);
+    is_numeric(&rt, display(2, 0, OperationalSign::Unsigned), b"0r", false);
+    is_numeric(&rt, binary(4, 0), &[0x27, 0x0f], true);
+    is_numeric(&rt, binary(4, 0), &[0x27, 0x10], false);
+    is_numeric(&rt, packed(3, 0), &[0x01, 0x2d], true);
+    is_numeric(&rt, packed(3, 0), &[0x01, 0x2f], false);
 }

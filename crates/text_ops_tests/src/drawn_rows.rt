@@ -5,7 +5,7 @@ use crate::asserted::same_in;
 use crate::entries::{
     A, AA, AB, B, BA, BB, CC, MOST_CHARACTERS, X, XY, Y, entry, replaced, tallied,
 };
-use crate::reference::inspected;
+use crate::reference::inspect;
 use std::process::Abort;
 use text_ops::{Entry, Fit, Span};
 
@@ -18,6 +18,7 @@ const ENTRIES: usize = 3;
 const CHARACTERS: usize = 12;
 
 /// Numbers that look drawn: a linear congruence of 64 bits, of which the upper half counts.
+#[derive(Drop)]
 struct Draws {
     state: u64,
 }
@@ -91,7 +92,7 @@ impl Draws {
 
 /// Asserts that both count and make the same.
 fn same_as_reference(rt: &impl Abort, entries: &[Entry], subject: &[u8]) {
-    let expected = inspected(entries, subject);
+    let expected = inspect(entries, subject);
     same_in(
         rt,
         &(entries, subject),
@@ -103,13 +104,13 @@ fn same_as_reference(rt: &impl Abort, entries: &[Entry], subject: &[u8]) {
 }
 
 #[test]
-fn drawn(rt: &impl Abort) {
+fn drawn(rt: HostRuntime) {
     let mut draws = Draws { state: 19 };
     for _ in 0..DRAWN {
         let entries: [Entry; ENTRIES] = [draws.entry(), draws.entry(), draws.entry()];
         let used = 1 + draws.below(3) as usize;
         let text = draws.subject();
         let length = draws.below(13) as usize;
-        same_as_reference(rt, &entries[..used], &text[..length]);
+        same_as_reference(&rt, &entries[..used], &text[..length]);
     }
 }

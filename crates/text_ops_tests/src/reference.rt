@@ -89,7 +89,7 @@ fn put(text: &mut [u8; MOST_CHARACTERS], at: usize, bytes: &[u8]) {
     }
 }
 
-pub fn inspected(entries: &[Entry], subject: &[u8]) -> Inspected {
+pub fn inspect(entries: &[Entry], subject: &[u8]) -> Inspected {
     let mut counts = [0; MOST_ENTRIES];
     let mut text = [b' '; MOST_CHARACTERS];
     let mut next = 0;

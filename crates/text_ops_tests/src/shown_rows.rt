@@ -24,25 +24,25 @@ fn shows(rt: &impl Abort, kind: Kind, bytes: &[u8], expected: &[u8]) {
 }
 
 #[test]
-fn numbers(rt: &impl Abort) {
+fn numbers(rt: HostRuntime) {
     shows(
-        rt,
+        &rt,
         display(5, 2, OperationalSign::Trailing),
         b"0015p",
         b"-001.50",
     );
-    shows(rt, display(2, 2, OperationalSign::Unsigned), b"50", b".50");
-    shows(rt, binary(4, 0), &[0x00, 0x07], b"+0007");
-    shows(rt, display(1, 0, OperationalSign::Trailing), b"s", b"-3");
+    shows(&rt, display(2, 2, OperationalSign::Unsigned), b"50", b".50");
+    shows(&rt, binary(4, 0), &[0x00, 0x07], b"+0007");
+    shows(&rt, display(1, 0, OperationalSign::Trailing), b"s", b"-3");
     shows(
-        rt,
+        &rt,
         display(2, 0, OperationalSign::LeadingSeparate),
         b"-00",
         b"+00",
     );
-    shows(rt, packed(3, 3), &[0x01, 0x2d], b"-.012");
+    shows(&rt, packed(3, 3), &[0x01, 0x2d], b"-.012");
     shows(
-        rt,
+        &rt,
         display(18, 0, OperationalSign::Unsigned),
         b"123456789012345678",
         b"123456789012345678",
@@ -50,11 +50,11 @@ fn numbers(rt: &impl Abort) {
 }
 
 #[test]
-fn texts(rt: &impl Abort) {
-    shows(rt, TEXT, b"a b", b"a b");
-    shows(rt, Kind::Group, b"\x00 1", b"\x00 1");
+fn texts(rt: HostRuntime) {
+    shows(&rt, TEXT, b"a b", b"a b");
+    shows(&rt, Kind::Group, b"\x00 1", b"\x00 1");
     shows(
-        rt,
+        &rt,
         Kind::NumericEdited {
             blank_when_zero: false,
         },
@@ -65,9 +65,9 @@ fn texts(rt: &impl Abort) {
 
 // Bytes that are no number are a fault, and nothing is written.
 #[test]
-fn no_number(rt: &impl Abort) {
-    let number = item(rt, display(2, 0, OperationalSign::Unsigned), b"xy");
+fn no_number(rt: HostRuntime) {
+    let number = item(&rt, display(2, 0, OperationalSign::Unsigned), b"xy");
     let mut to = [b'.'; ROOM];
-    holds(rt, shown(number, b"xy", &mut to).is_err());
-    holds(rt, to == [b'.'; ROOM]);
+    holds(&rt, shown(number, b"xy", &mut to).is_err());
+    holds(&rt, to == [b'.'; ROOM]);
 }

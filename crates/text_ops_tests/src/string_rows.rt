@@ -1,6 +1,5 @@
 //! Rows of STRING; GnuCOBOL 3.1.2 was asked for each.
 use crate::asserted::same_in;
-use std::process::Abort;
 use text_ops::{delimited, string_into};
 
 // A sender, its delimiter, and what is sent.
@@ -14,9 +13,9 @@ const SENDERS: [(&[u8], &[u8], &[u8]); 6] = [
 ];
 
 #[test]
-fn senders(rt: &impl Abort) {
+fn senders(rt: HostRuntime) {
     for row in SENDERS.iter() {
-        same_in(rt, row, delimited(row.1, row.0) == row.2, true);
+        same_in(&rt, row, delimited(row.1, row.0) == row.2, true);
     }
 }
 
@@ -35,11 +34,11 @@ const ROWS: [(&[u8], usize, &[u8], usize, bool); 9] = [
 ];
 
 #[test]
-fn receivers(rt: &impl Abort) {
+fn receivers(rt: HostRuntime) {
     for row in ROWS.iter() {
         let mut receiver = [b'.'; 4];
         let (pointer, overflow) = string_into(row.0, row.1, &mut receiver);
-        same_in(rt, row, (pointer, overflow), (row.3, row.4));
-        same_in(rt, row, &receiver[..] == row.2, true);
+        same_in(&rt, row, (pointer, overflow), (row.3, row.4));
+        same_in(&rt, row, &receiver[..] == row.2, true);
     }
 }
