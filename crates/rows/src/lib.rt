@@ -1,11 +1,9 @@
-//! Rows of single calls as tests: source lines, tokens, pictures and decimals, each on values from outside.
+//! Rows of single calls as tests: source lines, tokens and pictures, each on values from outside.
 //! Nothing here is built into the product.
 #![tactic(auto)]
 
 #[cfg(test)]
 mod asserted;
-#[cfg(test)]
-mod decimal_rows;
 #[cfg(test)]
 mod picture_rows;
 #[cfg(test)]
