@@ -1,165 +1,614 @@
-//! Decimal operations, beside the same on plain integers of 128 bits.
+//! Decimal operations on coefficients of at most 9 digits: the calls of `decimal18`, the code in 128 bits that they replaced,
+//! and plain loops over integers of 64 bits that test for overflow, each timed in one run.
 
-ghost use Rattle.std.specs.Prelude.{◌<◌, ◌≤◌, ◌^◌, unsigned_abs};
+ghost use Rattle.std.specs.Prelude.{◌<◌, ◌≤◌, All};
+ghost use Rattle.std.specs.Char.{IsAsciiDigit};
 
+use crate::{plain_decimals, replaced_decimals};
 use decimal18::{Dec, Rounding};
 use std::io;
 use std::time::Instant;
 
-const COUNT: u32 = 1_000_000;
+/// Pairs of operands.
+const COUNT: usize = 1024;
 
-/// The n-th operand: mixed signs, sizes and scales.
-fn operand(n: u32) -> Dec {
-    let coefficient = (n as i128) * 1_234_567 - 600_000_000_000;
-    Dec::new(coefficient, (n % 7) as u8)
+/// How often the pairs are gone through in one timing.
+const PASSES: u32 = 2000;
+
+/// Timings of a body, of which the least counts.
+const TIMINGS: u32 = 5;
+
+/// Digits and decimals of the receiver.
+const DIGITS: u8 = 15;
+
+const DECIMALS: u8 = 2;
+
+/// Digits of a text.
+const TEXT: usize = 18;
+
+/// The same operands for each body.
+#[derive(Drop)]
+struct Operands {
+    left: [Dec; COUNT],
+    right: [Dec; COUNT],
+    replaced_left: [replaced_decimals::Number; COUNT],
+    replaced_right: [replaced_decimals::Number; COUNT],
+    plain_left: [plain_decimals::Number; COUNT],
+    plain_right: [plain_decimals::Number; COUNT],
 }
 
-/// Keeps a measured value from being dropped.
-fn checksum(sum: u64, value: Dec) -> u64 {
+/// One operand: its sign, its coefficient without it, and its scale.
+#[derive(Clone, Copy)]
+struct Operand {
+    negative: bool,
+    magnitude: u32,
+    scale: u8,
+}
+
+impl Operand {
+    /// The n-th operand: a mixed sign, up to 9 digits, and a scale of 0 to 6 or of 2.
+    fn at(n: usize, mixed: bool) -> Operand
+        ensures { result.scale ≤ 6 }
+    {
+        let hash = (n as u64).wrapping_mul(2_654_435_761);
+        let magnitude = (hash % 1_000_000_000) as u32;
+        let negative = hash / 1_000_000_000 % 2 == 1;
+        let scale = if mixed {
+            (hash / 7 % 7) as u8
+        } else {
+            DECIMALS
+        };
+        Operand {
+            negative,
+            magnitude,
+            scale,
+        }
+    }
+
+    fn decimal(&self) -> Dec
+        requires { self.now.scale ≤ 6 }
+    {
+        Dec::from_parts(self.negative, self.magnitude as u128, self.scale)
+    }
+
+    fn replaced(&self) -> replaced_decimals::Number {
+        let positive = self.magnitude as i128;
+        let coefficient = if self.negative { -positive } else { positive };
+        replaced_decimals::Number {
+            coefficient,
+            scale: self.scale,
+        }
+    }
+
+    fn plain(&self) -> plain_decimals::Number {
+        let positive = self.magnitude as i64;
+        let coefficient = if self.negative { -positive } else { positive };
+        plain_decimals::Number {
+            coefficient,
+            scale: self.scale,
+        }
+    }
+}
+
+impl Operands {
+    fn new(mixed: bool) -> Operands {
+        let one = Operand::at(1, mixed);
+        let mut operands = Operands {
+            left: [one.decimal(); COUNT],
+            right: [one.decimal(); COUNT],
+            replaced_left: [one.replaced(); COUNT],
+            replaced_right: [one.replaced(); COUNT],
+            plain_left: [one.plain(); COUNT],
+            plain_right: [one.plain(); COUNT],
+        };
+        for n in 0..COUNT {
+            operands.set(n, &Operand::at(n + 1, mixed), &Operand::at(n + 5000, mixed));
+        }
+        operands
+    }
+
+    fn set(&mut self, n: usize, left: &Operand, right: &Operand)
+        requires n { n < 1024 }
+        requires left { left.now.scale ≤ 6 }
+        requires right { right.now.scale ≤ 6 }
+    {
+        self.left[n] = left.decimal();
+        self.right[n] = right.decimal();
+        self.replaced_left[n] = left.replaced();
+        self.replaced_right[n] = right.replaced();
+        self.plain_left[n] = left.plain();
+        self.plain_right[n] = right.plain();
+    }
+
+    /// Sets the first pair anew, so that no pass is the one before.
+    fn disturb(&mut self, n: u64) {
+        let one = Operand::at((n % 1000) as usize, false);
+        self.set(0, &one, &one);
+    }
+}
+
+/// Keeps a value from being dropped.
+fn told(sum: u64, value: Dec) -> u64 {
     sum.wrapping_add(value.scale() as u64)
         .wrapping_add(value.is_negative() as u64)
 }
 
-fn sums() -> u64 {
-    let mut sum = 0;
-    for n in 0..COUNT {
-        if let Ok(value) = operand(n).add(operand(COUNT - n)) {
-            sum = checksum(sum, value);
-        }
-    }
-    sum
+fn told_replaced(sum: u64, value: replaced_decimals::Number) -> u64 {
+    sum.wrapping_add(value.scale as u64)
+        .wrapping_add((value.coefficient < 0) as u64)
 }
 
-fn products() -> u64 {
-    let mut sum = 0;
-    for n in 0..COUNT {
-        if let Ok(value) = operand(n).mul(operand(COUNT - n)) {
-            sum = checksum(sum, value);
-        }
-    }
-    sum
+fn told_plain(sum: u64, value: plain_decimals::Number) -> u64 {
+    sum.wrapping_add(value.scale as u64)
+        .wrapping_add((value.coefficient < 0) as u64)
 }
 
-fn quotients() -> u64 {
-    let mut sum = 0;
-    for n in 0..COUNT {
-        if let Ok(value) = operand(n).div(operand(COUNT - n)) {
-            sum = checksum(sum, value);
-        }
-    }
-    sum
-}
-
-fn receivers() -> u64 {
-    let mut sum = 0;
-    for n in 0..COUNT {
-        if let Ok(value) = operand(n).fit(15, 2, Rounding::Rounded) {
-            sum = checksum(sum, value);
-        }
-    }
-    sum
-}
-
-fn comparisons() -> u64 {
+fn sums(operands: &Operands) -> u64 {
     let mut sum = 0u64;
     for n in 0..COUNT {
-        if operand(n) < operand(COUNT - n) {
-            sum = sum.wrapping_add(1);
+        let a = operands.left[n];
+        let b = operands.right[n];
+        if let Ok(value) = a.add(b) {
+            sum = told(sum, value);
         }
     }
     sum
 }
 
-/// What the operands and the checksum cost alone.
-fn operands() -> u64 {
-    let mut sum = 0;
+fn replaced_sums(operands: &Operands) -> u64 {
+    let mut sum = 0u64;
     for n in 0..COUNT {
-        sum = checksum(sum, operand(n));
-        sum = checksum(sum, operand(COUNT - n));
+        let a = operands.replaced_left[n];
+        let b = operands.replaced_right[n];
+        if let Some(value) = replaced_decimals::sum(a, b) {
+            sum = told_replaced(sum, value);
+        }
     }
     sum
 }
 
-fn plain_sums() -> u64 {
+fn plain_sums(operands: &Operands) -> u64 {
     let mut sum = 0u64;
     for n in 0..COUNT {
-        let left = operand(n).coefficient();
-        let right = operand(COUNT - n).coefficient();
-        sum = sum.wrapping_add((left.wrapping_add(right) < 0) as u64);
+        let a = operands.plain_left[n];
+        let b = operands.plain_right[n];
+        if let Some(value) = plain_decimals::sum(a, b) {
+            sum = told_plain(sum, value);
+        }
     }
     sum
 }
 
-fn plain_products() -> u64 {
+fn differences(operands: &Operands) -> u64 {
     let mut sum = 0u64;
     for n in 0..COUNT {
-        let left = operand(n).coefficient();
-        let right = operand(COUNT - n).coefficient();
-        sum = sum.wrapping_add((left.wrapping_mul(right) < 0) as u64);
+        let a = operands.left[n];
+        let b = operands.right[n];
+        if let Ok(value) = a.sub(b) {
+            sum = told(sum, value);
+        }
+    }
+    sum
+}
+
+fn replaced_differences(operands: &Operands) -> u64 {
+    let mut sum = 0u64;
+    for n in 0..COUNT {
+        let a = operands.replaced_left[n];
+        let b = operands.replaced_right[n];
+        if let Some(value) = replaced_decimals::difference(a, b) {
+            sum = told_replaced(sum, value);
+        }
+    }
+    sum
+}
+
+fn plain_differences(operands: &Operands) -> u64 {
+    let mut sum = 0u64;
+    for n in 0..COUNT {
+        let a = operands.plain_left[n];
+        let b = operands.plain_right[n];
+        if let Some(value) = plain_decimals::difference(a, b) {
+            sum = told_plain(sum, value);
+        }
+    }
+    sum
+}
+
+fn products(operands: &Operands) -> u64 {
+    let mut sum = 0u64;
+    for n in 0..COUNT {
+        let a = operands.left[n];
+        let b = operands.right[n];
+        if let Ok(value) = a.mul(b) {
+            sum = told(sum, value);
+        }
+    }
+    sum
+}
+
+fn replaced_products(operands: &Operands) -> u64 {
+    let mut sum = 0u64;
+    for n in 0..COUNT {
+        let a = operands.replaced_left[n];
+        let b = operands.replaced_right[n];
+        if let Some(value) = replaced_decimals::product(a, b) {
+            sum = told_replaced(sum, value);
+        }
+    }
+    sum
+}
+
+fn plain_products(operands: &Operands) -> u64 {
+    let mut sum = 0u64;
+    for n in 0..COUNT {
+        let a = operands.plain_left[n];
+        let b = operands.plain_right[n];
+        if let Some(value) = plain_decimals::product(a, b) {
+            sum = told_plain(sum, value);
+        }
+    }
+    sum
+}
+
+fn quotients(operands: &Operands) -> u64 {
+    let mut sum = 0u64;
+    for n in 0..COUNT {
+        let a = operands.left[n];
+        let b = operands.right[n];
+        if let Ok(value) = a.div(b) {
+            sum = told(sum, value);
+        }
+    }
+    sum
+}
+
+fn replaced_quotients(operands: &Operands) -> u64 {
+    let mut sum = 0u64;
+    for n in 0..COUNT {
+        let a = operands.replaced_left[n];
+        let b = operands.replaced_right[n];
+        if let Some(value) = replaced_decimals::quotient(a, b) {
+            sum = told_replaced(sum, value);
+        }
+    }
+    sum
+}
+
+fn plain_quotients(operands: &Operands) -> u64 {
+    let mut sum = 0u64;
+    for n in 0..COUNT {
+        let a = operands.plain_left[n];
+        let b = operands.plain_right[n];
+        if let Some(value) = plain_decimals::quotient(a, b) {
+            sum = told_plain(sum, value);
+        }
+    }
+    sum
+}
+
+fn fits(operands: &Operands) -> u64 {
+    let mut sum = 0u64;
+    for n in 0..COUNT {
+        let a = operands.left[n];
+        if let Ok(value) = a.fit(DIGITS, DECIMALS, Rounding::Rounded) {
+            sum = told(sum, value);
+        }
+    }
+    sum
+}
+
+fn replaced_fits(operands: &Operands) -> u64 {
+    let mut sum = 0u64;
+    for n in 0..COUNT {
+        let a = operands.replaced_left[n];
+        if let Some(value) = replaced_decimals::fitted(a, DIGITS, DECIMALS) {
+            sum = told_replaced(sum, value);
+        }
+    }
+    sum
+}
+
+fn plain_fits(operands: &Operands) -> u64 {
+    let mut sum = 0u64;
+    for n in 0..COUNT {
+        let a = operands.plain_left[n];
+        if let Some(value) = plain_decimals::fitted(a, DIGITS, DECIMALS) {
+            sum = told_plain(sum, value);
+        }
+    }
+    sum
+}
+
+fn cuts(operands: &Operands) -> u64 {
+    let mut sum = 0u64;
+    for n in 0..COUNT {
+        let a = operands.left[n];
+        sum = told(sum, a.cut(DIGITS, DECIMALS, Rounding::Truncated));
+    }
+    sum
+}
+
+fn replaced_cuts(operands: &Operands) -> u64 {
+    let mut sum = 0u64;
+    for n in 0..COUNT {
+        let a = operands.replaced_left[n];
+        sum = told_replaced(sum, replaced_decimals::low_digits(a, DIGITS, DECIMALS));
+    }
+    sum
+}
+
+fn plain_cuts(operands: &Operands) -> u64 {
+    let mut sum = 0u64;
+    for n in 0..COUNT {
+        let a = operands.plain_left[n];
+        if let Some(value) = plain_decimals::low_digits(a, DIGITS, DECIMALS) {
+            sum = told_plain(sum, value);
+        }
+    }
+    sum
+}
+
+fn orders(operands: &Operands) -> u64 {
+    let mut sum = 0u64;
+    for n in 0..COUNT {
+        let a = operands.left[n];
+        let b = operands.right[n];
+        sum = sum.wrapping_add((a < b) as u64);
+    }
+    sum
+}
+
+fn replaced_orders(operands: &Operands) -> u64 {
+    let mut sum = 0u64;
+    for n in 0..COUNT {
+        let a = operands.replaced_left[n];
+        let b = operands.replaced_right[n];
+        sum = sum.wrapping_add(replaced_decimals::is_less(a, b) as u64);
+    }
+    sum
+}
+
+fn plain_orders(operands: &Operands) -> u64 {
+    let mut sum = 0u64;
+    for n in 0..COUNT {
+        let a = operands.plain_left[n];
+        let b = operands.plain_right[n];
+        if let Some(less) = plain_decimals::is_less(a, b) {
+            sum = sum.wrapping_add(less as u64);
+        }
+    }
+    sum
+}
+
+fn texts(operands: &Operands) -> u64 {
+    let mut sum = 0u64;
+    let mut bytes = [0; TEXT];
+    for n in 0..COUNT {
+        operands.left[n].digits_into(&mut bytes);
+        sum = sum.wrapping_add(bytes[TEXT - 1] as u64);
+    }
+    sum
+}
+
+fn replaced_texts(operands: &Operands) -> u64 {
+    let mut sum = 0u64;
+    let mut bytes = [0; TEXT];
+    for n in 0..COUNT {
+        replaced_decimals::write_digits(operands.replaced_left[n], &mut bytes);
+        sum = sum.wrapping_add(bytes[TEXT - 1] as u64);
+    }
+    sum
+}
+
+fn plain_texts(operands: &Operands) -> u64 {
+    let mut sum = 0u64;
+    let mut bytes = [0; TEXT];
+    for n in 0..COUNT {
+        plain_decimals::write_digits(operands.plain_left[n], &mut bytes);
+        sum = sum.wrapping_add(bytes[TEXT - 1] as u64);
+    }
+    sum
+}
+
+/// The digits that are read: they differ from pass to pass.
+fn text_of(operands: &Operands) -> &'static [u8]
+    ensures { All IsAsciiDigit result.now }
+{
+    if operands.left[0].is_negative() {
+        b"000000001234567890"
+    } else {
+        b"000000000987654321"
+    }
+}
+
+fn numbers(operands: &Operands) -> u64 {
+    let text = text_of(operands);
+    let mut sum = 0u64;
+    for n in 0..COUNT {
+        if let Ok(value) = Dec::from_digits(n % 2 == 0, text, DECIMALS) {
+            sum = told(sum, value);
+        }
+    }
+    sum
+}
+
+fn replaced_numbers(operands: &Operands) -> u64 {
+    let text = text_of(operands);
+    let mut sum = 0u64;
+    for n in 0..COUNT {
+        if let Some(value) = replaced_decimals::from_digits(n % 2 == 0, text, DECIMALS) {
+            sum = told_replaced(sum, value);
+        }
+    }
+    sum
+}
+
+fn plain_numbers(operands: &Operands) -> u64 {
+    let text = text_of(operands);
+    let mut sum = 0u64;
+    for n in 0..COUNT {
+        if let Some(value) = plain_decimals::from_digits(n % 2 == 0, text, DECIMALS) {
+            sum = told_plain(sum, value);
+        }
     }
     sum
 }
 
 /// What is measured.
 #[derive(Clone, Copy)]
-enum Measurement {
-    Operands,
-    Sums,
-    Products,
-    Quotients,
-    Receivers,
-    Comparisons,
-    PlainSums,
-    PlainProducts,
+enum Operation {
+    Sum,
+    Difference,
+    Product,
+    Quotient,
+    Fit,
+    Cut,
+    Order,
+    Text,
+    Digits,
 }
 
-const ALL: [Measurement; 8] = [
-    Measurement::Operands,
-    Measurement::Sums,
-    Measurement::Products,
-    Measurement::Quotients,
-    Measurement::Receivers,
-    Measurement::Comparisons,
-    Measurement::PlainSums,
-    Measurement::PlainProducts,
+const ALL: [Operation; 9] = [
+    Operation::Sum,
+    Operation::Difference,
+    Operation::Product,
+    Operation::Quotient,
+    Operation::Fit,
+    Operation::Cut,
+    Operation::Order,
+    Operation::Text,
+    Operation::Digits,
 ];
 
-impl Measurement {
+/// Who does it.
+#[derive(Clone, Copy)]
+enum Body {
+    Now,
+    Replaced,
+    Plain,
+}
+
+impl Operation {
     fn name(self) -> &'static str {
         match self {
-            Measurement::Operands => "operands alone",
-            Measurement::Sums => "add",
-            Measurement::Products => "mul",
-            Measurement::Quotients => "div",
-            Measurement::Receivers => "fit",
-            Measurement::Comparisons => "<",
-            Measurement::PlainSums => "add of plain i128",
-            Measurement::PlainProducts => "mul of plain i128",
+            Operation::Sum => "add",
+            Operation::Difference => "sub",
+            Operation::Product => "mul",
+            Operation::Quotient => "div",
+            Operation::Fit => "fit",
+            Operation::Cut => "cut",
+            Operation::Order => "<",
+            Operation::Text => "digits_into, of which the last byte is read",
+            Operation::Digits => "from_digits, of a text that the compiler knows",
         }
     }
 
-    fn run(self) -> u64 {
+    fn now(self, operands: &Operands) -> u64 {
         match self {
-            Measurement::Operands => operands(),
-            Measurement::Sums => sums(),
-            Measurement::Products => products(),
-            Measurement::Quotients => quotients(),
-            Measurement::Receivers => receivers(),
-            Measurement::Comparisons => comparisons(),
-            Measurement::PlainSums => plain_sums(),
-            Measurement::PlainProducts => plain_products(),
+            Operation::Sum => sums(operands),
+            Operation::Difference => differences(operands),
+            Operation::Product => products(operands),
+            Operation::Quotient => quotients(operands),
+            Operation::Fit => fits(operands),
+            Operation::Cut => cuts(operands),
+            Operation::Order => orders(operands),
+            Operation::Text => texts(operands),
+            Operation::Digits => numbers(operands),
         }
+    }
+
+    fn replaced(self, operands: &Operands) -> u64 {
+        match self {
+            Operation::Sum => replaced_sums(operands),
+            Operation::Difference => replaced_differences(operands),
+            Operation::Product => replaced_products(operands),
+            Operation::Quotient => replaced_quotients(operands),
+            Operation::Fit => replaced_fits(operands),
+            Operation::Cut => replaced_cuts(operands),
+            Operation::Order => replaced_orders(operands),
+            Operation::Text => replaced_texts(operands),
+            Operation::Digits => replaced_numbers(operands),
+        }
+    }
+
+    fn plain(self, operands: &Operands) -> u64 {
+        match self {
+            Operation::Sum => plain_sums(operands),
+            Operation::Difference => plain_differences(operands),
+            Operation::Product => plain_products(operands),
+            Operation::Quotient => plain_quotients(operands),
+            Operation::Fit => plain_fits(operands),
+            Operation::Cut => plain_cuts(operands),
+            Operation::Order => plain_orders(operands),
+            Operation::Text => plain_texts(operands),
+            Operation::Digits => plain_numbers(operands),
+        }
+    }
+
+    fn run(self, body: Body, operands: &Operands) -> u64 {
+        match body {
+            Body::Now => self.now(operands),
+            Body::Replaced => self.replaced(operands),
+            Body::Plain => self.plain(operands),
+        }
+    }
+
+    /// Tenths of a nanosecond an operation: the least of several timings.
+    fn tenths(
+        self,
+        rt: &HostRuntime,
+        body: Body,
+        operands: &mut Operands,
+        sum: &mut u64,
+    ) -> io::Result<u128> {
+        let mut least = u128::MAX;
+        for _ in 0..TIMINGS {
+            let start = Instant::now(rt)?;
+            for _ in 0..PASSES {
+                operands.disturb(*sum);
+                *sum = sum.wrapping_add(self.run(body, operands));
+            }
+            least = least.min(start.elapsed(rt)?.as_nanos());
+        }
+        Ok(least.saturating_mul(10) / (PASSES as u128 * COUNT as u128))
     }
 }
 
-/// Each operation on a million pairs, in milliseconds.
+/// Each operation by each body, on pairs of one scale and of several.
 pub fn measure(rt: &HostRuntime) -> io::Result<()> {
-    for measurement in ALL {
-        let start = Instant::now(rt)?;
-        let sum = measurement.run();
-        let milliseconds = start.elapsed(rt)?.as_millis();
-        let name = measurement.name();
-        println!(rt; "{name}: {milliseconds} ms for {COUNT} (checksum {sum})")?;
+    println!(rt;
+        "a Dec takes {} bytes, an Option of one {}",
+        size_of::<Dec>(),
+        size_of::<Option<Dec>>()
+    )?;
+    let mut sum = 0u64;
+    for mixed in [false, true] {
+        let mut operands = Operands::new(mixed);
+        println!(rt;
+            "{}: nanoseconds an operation, now, replaced and plain",
+            if mixed {
+                "scales 0 to 6"
+            } else {
+                "both of scale 2"
+            }
+        )?;
+        for operation in ALL {
+            let now = operation.tenths(rt, Body::Now, &mut operands, &mut sum)?;
+            let replaced = operation.tenths(rt, Body::Replaced, &mut operands, &mut sum)?;
+            let plain = operation.tenths(rt, Body::Plain, &mut operands, &mut sum)?;
+            println!(rt;
+                "{}: {}.{}, {}.{}, {}.{}",
+                operation.name(),
+                now / 10,
+                now % 10,
+                replaced / 10,
+                replaced % 10,
+                plain / 10,
+                plain % 10
+            )?;
+        }
     }
+    println!(rt; "checksum {sum}")?;
     Ok(())
 }

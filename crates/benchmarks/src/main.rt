@@ -2,6 +2,8 @@
 #![tactic(auto)]
 
 mod decimals;
+mod plain_decimals;
+mod replaced_decimals;
 mod sources;
 mod sparse;
 mod texts;

@@ -4,12 +4,15 @@ use decimal18::{Dec, Rounding, Size};
 use std::cmp::Ordering;
 use std::process::Abort;
 
-type Number = (i128, u8);
+/// A coefficient and a scale.
+pub type Number = (i128, u8);
 
 const TEN_TO_38: u128 = 100_000_000_000_000_000_000_000_000_000_000_000_000;
 
 // The greatest coefficient: 38 nines.
 const MOST: i128 = 99_999_999_999_999_999_999_999_999_999_999_999_999;
+
+const TEN_TO_35: i128 = 100_000_000_000_000_000_000_000_000_000_000_000;
 
 const TEN_TO_36: i128 = 1_000_000_000_000_000_000_000_000_000_000_000_000;
 
@@ -19,7 +22,8 @@ const TEN_TO_18: i128 = 1_000_000_000_000_000_000;
 
 const NINES: i128 = 999_999_999_999_999_999;
 
-fn dec(rt: &impl Abort, number: Number) -> Dec {
+/// The number, whose coefficient and scale are asserted to be within their limits.
+pub fn dec(rt: &impl Abort, number: Number) -> Dec {
     assert!(rt; number.0.unsigned_abs() < TEN_TO_38);
     assert!(rt; number.1 <= 18);
     Dec::new(number.0, number.1)
@@ -33,7 +37,8 @@ fn told_by(rt: &impl Abort, answer: Result<Dec, Size>) -> Dec {
     }
 }
 
-fn told(answer: Result<Dec, Size>) -> Option<Number> {
+/// The coefficient and the scale of what a call answered, and nothing for a size error.
+pub fn told(answer: Result<Dec, Size>) -> Option<Number> {
     match answer {
         Ok(number) => Some((number.coefficient(), number.scale())),
         Err(_) => None,
@@ -288,21 +293,23 @@ fn receivers(rt: HostRuntime) {
     }
 }
 
-// Dividend, divisor, the decimals of the quotient's receiver, the quotient cut to these, and the remainder.
-const REMAINDERS: [(Number, Number, u8, Number, Number); 4] = [
+// Dividend, divisor, the decimals of the quotient's receiver, the quotient cut to these with all its whole digits, and the
+// remainder: the dividend less the product of that and the divisor.
+const REMAINDERS: [(Number, Number, u8, Number, Number); 6] = [
     ((17, 0), (3, 0), 0, (5, 0), (2, 0)),
     ((-17, 0), (3, 0), 0, (-5, 0), (-2, 0)),
     ((17, 0), (-3, 0), 0, (-5, 0), (2, 0)),
     ((100, 0), (7, 0), 1, (142, 1), (6, 1)),
+    ((-100, 0), (7, 0), 1, (-142, 1), (-6, 1)),
+    // the quotient has 17 decimals, fewer than its receiver, and keeps all its whole digits
+    ((999, 0), (1, 18), 18, (999 * TEN_TO_35, 17), (0, 18)),
 ];
 
 #[test]
 fn remainders(rt: HostRuntime) {
     for (one, two, scale, quotient, remainder) in REMAINDERS.iter() {
         let (dividend, divisor) = (dec(&rt, *one), dec(&rt, *two));
-        let scale = *scale;
-        assert!(rt; scale <= 18);
-        let cut = told_by(&rt, dividend.div(divisor)).cut(38, scale, Rounding::Truncated);
+        let cut = told_by(&rt, dividend.div(divisor)).truncated(*scale);
         same(&rt, told(Ok(cut)), Some(*quotient));
         same(
             &rt,

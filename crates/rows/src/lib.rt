@@ -1,11 +1,9 @@
-//! Rows of single calls as tests: source lines, tokens and decimals, each on values from outside.
+//! Rows of single calls as tests: source lines and tokens, each on values from outside.
 //! Nothing here is built into the product.
 #![tactic(auto)]
 
 #[cfg(test)]
 mod asserted;
-#[cfg(test)]
-mod decimal_rows;
 #[cfg(test)]
 mod source_line_rows;
 #[cfg(test)]
