@@ -5,6 +5,7 @@ use Rattle.station.specs.declared.device.Device.{Ghosts as Devices}
 use Rattle.records.specs.declared.fault.StoreFault.{StoreFault}
 use Rattle.records.specs.declared.keeps.Keeps.{Ghosts as Stores}
 use Rattle.records.specs.Calls.{StandsFor, Turns}
+use Rattle.records.proofs.Calls.{passed_on}
 use Rattle.records.specs.declared.file_spec.Organization.{Organization}
 use Rattle.records.specs.declared.file_spec.Organization.TheVariants.{Sequential, Relative, Indexed}
 use Rattle.records.specs.declared.key.KeyOfReference.TheVariants.{Prime}
@@ -144,3 +145,9 @@ gave s d {T} x y is_new name before after old device new device' result was turn
   sound = λ is. absurd cc;
   room = λ is. absurd cc;
 }
+
+-- a refusal in place of another
+pub passed : {S : Type 0} (s : Stores S) {D : Type 0} (d : Devices D) {T U : Type 0} (fault : StoreFault) (is_new : Bool) (name : List ℕ) (before after : Files) (old : S) (device : D) (new : S) (device' : D) (result : Result T StoreFault) (told : Result U StoreFault) → result ≡ Err fault → told ≡ Err fault
+    → Turns s d result is_new name before after old device new device' → Turns s d told is_new name before after old device new device'
+passed s d {T} {U} fault is_new name before after old device new device' result told was is turns =
+    subst (λ (r : Result U StoreFault). Turns s d r is_new name before after old device new device') (sym is) (passed_on s d {T} {U} fault is_new name before after old device new device' result was turns)

@@ -204,9 +204,9 @@ not_close Delete other = refl
 not_close (Start relation key count) other = refl
 
 pub needs_one : (o : Option Status) (b : Bool) → o ≡ None → b ≡ false → (is_some o || b) ≡ true → ⊥
-needs_one None false none no is = cc
-needs_one None true none no is = cc
-needs_one (Some status) b none no is = cc
+needs_one None false none shut is = cc
+needs_one None true none shut is = cc
+needs_one (Some status) b none shut is = cc
 
 pub length_entries : (all : List Linked) → length (entries_of all) ≡ length all
 length_entries [] = refl

@@ -28,31 +28,31 @@ pub returns-in-InputOutput-clause-linked : goal.returns-in-InputOutput-clause-li
 returns-in-InputOutput-clause-linked g c = λ files stands bytes number.
     let s = c.args.select.now in
     let none = absent_is _ (spec_of s.file) (sym c.in-Absent.is ∙ c.in_ok-there.ensures.presence files stands) in
-    on_ok c.open_new.result (λ linked. inr (subst (λ (f : Files). IsLinked f s c.open_new.new.link) (sym (absent_makes s files (connector_of (spec_of s.file) c.args.link.now) (area bytes number) c.args.mode c.in-InputOutput.is none c.if-select.true)) (linked files))) c.open_new.ensures.linked
+    on_ok c.open_new-in-InputOutput.result (λ linked. inr (subst (λ (f : Files). IsLinked f s c.open_new-in-InputOutput.new.link) (sym (absent_makes s files (connector_of (spec_of s.file) c.args.link.now) (area bytes number) c.args.mode c.in-InputOutput.is none c.if-select.true)) (linked files))) c.open_new-in-InputOutput.ensures.linked
 
 pub returns-in-InputOutput-clause-turns : goal.returns-in-InputOutput-clause-turns
 returns-in-InputOutput-clause-turns g c = λ files stands bytes number.
     let s = c.args.select.now in
     let none = absent_is _ (spec_of s.file) (sym c.in-Absent.is ∙ c.in_ok-there.ensures.presence files stands) in
     let same = absent_makes s files (connector_of (spec_of s.file) c.args.link.now) (area bytes number) c.args.mode c.in-InputOutput.is none c.if-select.true in
-    subst (λ (after : Files). Turns g.T.Keeps g.D.Device c.open_new.result true s.file.name.items files after c.args.store.now c.args.device.now c.open_new.new.store c.open_new.new.device) (sym same)
-    (after_reads g.T.Keeps g.D.Device c.find.result c.args.store.now c.args.device.now c.find.new.self c.find.new.device c.find.ensures.reads c.open_new.result true s.file.name.items files _ c.open_new.new.store c.open_new.new.device stands.honest
-    (c.open_new.ensures.turns files (c.find.ensures.reads.still_there files stands)))
+    subst (λ (after : Files). Turns g.T.Keeps g.D.Device c.open_new-in-InputOutput.result true s.file.name.items files after c.args.store.now c.args.device.now c.open_new-in-InputOutput.new.store c.open_new-in-InputOutput.new.device) (sym same)
+    (after_reads g.T.Keeps g.D.Device c.find.result c.args.store.now c.args.device.now c.find.new.self c.find.new.device c.find.ensures.reads c.open_new-in-InputOutput.result true s.file.name.items files _ c.open_new-in-InputOutput.new.store c.open_new-in-InputOutput.new.device stands.honest
+    (c.open_new-in-InputOutput.ensures.turns files (c.find.ensures.reads.still_there files stands)))
 
 pub returns-in-Extend-clause-linked : goal.returns-in-Extend-clause-linked
 returns-in-Extend-clause-linked g c = λ files stands bytes number.
     let s = c.args.select.now in
     let none = absent_is _ (spec_of s.file) (sym c.in-Absent.is ∙ c.in_ok-there.ensures.presence files stands) in
-    on_ok c.open_new.result (λ linked. inr (subst (λ (f : Files). IsLinked f s c.open_new.new.link) (sym (absent_extends s files (connector_of (spec_of s.file) c.args.link.now) (area bytes number) c.args.mode c.in-Extend.is none c.if-select.true)) (linked files))) c.open_new.ensures.linked
+    on_ok c.open_new-in-Extend.result (λ linked. inr (subst (λ (f : Files). IsLinked f s c.open_new-in-Extend.new.link) (sym (absent_extends s files (connector_of (spec_of s.file) c.args.link.now) (area bytes number) c.args.mode c.in-Extend.is none c.if-select.true)) (linked files))) c.open_new-in-Extend.ensures.linked
 
 pub returns-in-Extend-clause-turns : goal.returns-in-Extend-clause-turns
 returns-in-Extend-clause-turns g c = λ files stands bytes number.
     let s = c.args.select.now in
     let none = absent_is _ (spec_of s.file) (sym c.in-Absent.is ∙ c.in_ok-there.ensures.presence files stands) in
     let same = absent_extends s files (connector_of (spec_of s.file) c.args.link.now) (area bytes number) c.args.mode c.in-Extend.is none c.if-select.true in
-    subst (λ (after : Files). Turns g.T.Keeps g.D.Device c.open_new.result true s.file.name.items files after c.args.store.now c.args.device.now c.open_new.new.store c.open_new.new.device) (sym same)
-    (after_reads g.T.Keeps g.D.Device c.find.result c.args.store.now c.args.device.now c.find.new.self c.find.new.device c.find.ensures.reads c.open_new.result true s.file.name.items files _ c.open_new.new.store c.open_new.new.device stands.honest
-    (c.open_new.ensures.turns files (c.find.ensures.reads.still_there files stands)))
+    subst (λ (after : Files). Turns g.T.Keeps g.D.Device c.open_new-in-Extend.result true s.file.name.items files after c.args.store.now c.args.device.now c.open_new-in-Extend.new.store c.open_new-in-Extend.new.device) (sym same)
+    (after_reads g.T.Keeps g.D.Device c.find.result c.args.store.now c.args.device.now c.find.new.self c.find.new.device c.find.ensures.reads c.open_new-in-Extend.result true s.file.name.items files _ c.open_new-in-Extend.new.store c.open_new-in-Extend.new.device stands.honest
+    (c.open_new-in-Extend.ensures.turns files (c.find.ensures.reads.still_there files stands)))
 
 pub returns-in-Different : goal.returns-in-Different
 returns-in-Different g c =
@@ -64,7 +64,7 @@ returns-in-Different g c =
       step = λ files stands bytes number. ended _ _ FileDiffers _ _ (differs s files (connector_of (spec_of s.file) l) (area bytes number) c.args.mode c.in_default.not-Output (sym c.in-Different.is ∙ c.in_ok-there.ensures.presence files stands)) refl refl refl;
       turns = λ files stands bytes number. subst (λ (after : Files). Turns g.T.Keeps g.D.Device (Ok FileDiffers) true s.file.name.items files after c.args.store.now c.args.device.now c.find.new.self c.find.new.device)
           (sym (ap (λ (t : Step). t.files) (differs s files (connector_of (spec_of s.file) l) (area bytes number) c.args.mode c.in_default.not-Output (sym c.in-Different.is ∙ c.in_ok-there.ensures.presence files stands))))
-          (reads_turns g.T.Keeps g.D.Device (Ok FileDiffers) c.args.store.now c.args.device.now c.find.new.self c.find.new.device reads (g.T.Store.held c.args.store.now) true s.file.name.items files stands (λ is. absurd cc));
+          (reads_turns g.T.Keeps g.D.Device (Ok FileDiffers) c.args.store.now c.args.device.now c.find.new.self c.find.new.device reads (g.met.T.Store.held c.args.store.now) true s.file.name.items files stands (λ is. absurd cc));
       linked = λ files stands bytes number. inl refl;
       link = record {
         key = c.requires.link.key;
@@ -89,7 +89,7 @@ returns-else-select g c =
       step = λ files stands bytes number. ended _ _ FileMissing _ _ (misses s files (connector_of (spec_of s.file) l) (area bytes number) c.args.mode c.in_default.not-Output (absent_is _ (spec_of s.file) (sym c.in-Absent.is ∙ c.in_ok-there.ensures.presence files stands)) c.if-select.false) refl refl refl;
       turns = λ files stands bytes number. subst (λ (after : Files). Turns g.T.Keeps g.D.Device (Ok FileMissing) true s.file.name.items files after c.args.store.now c.args.device.now c.find.new.self c.find.new.device)
           (sym (ap (λ (t : Step). t.files) (misses s files (connector_of (spec_of s.file) l) (area bytes number) c.args.mode c.in_default.not-Output (absent_is _ (spec_of s.file) (sym c.in-Absent.is ∙ c.in_ok-there.ensures.presence files stands)) c.if-select.false)))
-          (reads_turns g.T.Keeps g.D.Device (Ok FileMissing) c.args.store.now c.args.device.now c.find.new.self c.find.new.device reads (g.T.Store.held c.args.store.now) true s.file.name.items files stands (λ is. absurd cc));
+          (reads_turns g.T.Keeps g.D.Device (Ok FileMissing) c.args.store.now c.args.device.now c.find.new.self c.find.new.device reads (g.met.T.Store.held c.args.store.now) true s.file.name.items files stands (λ is. absurd cc));
       linked = λ files stands bytes number. inl refl;
       link = record {
         key = c.requires.link.key;
@@ -111,14 +111,14 @@ returns-in-Input g c =
     let reads = looked g.T.Keeps g.D.Device c.find.result SuccessAbsent c.args.store.now c.args.device.now c.find.new.self c.find.new.device c.find.ensures.reads in
     record {
       changes = reads_changes g.T.Keeps g.D.Device (Ok SuccessAbsent) c.args.store.now c.args.device.now c.find.new.self c.find.new.device reads;
-      step = λ files stands bytes number. ended _ _ SuccessAbsent _ _ (reads_absent s files (connector_of (spec_of s.file) l) (area bytes number) c.args.mode c.in-Input.is (absent_is _ (spec_of s.file) (sym c.in-Absent.is ∙ c.in_ok-there.ensures.presence files stands)) c.if-select.true) refl c.begin.ensures.connector refl;
+      step = λ files stands bytes number. ended _ _ SuccessAbsent _ _ (reads_absent s files (connector_of (spec_of s.file) l) (area bytes number) c.args.mode c.in-Input.is (absent_is _ (spec_of s.file) (sym c.in-Absent.is ∙ c.in_ok-there.ensures.presence files stands)) c.if-select.true) refl c.begin-in-Input.ensures.connector refl;
       turns = λ files stands bytes number. subst (λ (after : Files). Turns g.T.Keeps g.D.Device (Ok SuccessAbsent) true s.file.name.items files after c.args.store.now c.args.device.now c.find.new.self c.find.new.device)
           (sym (ap (λ (t : Step). t.files) (reads_absent s files (connector_of (spec_of s.file) l) (area bytes number) c.args.mode c.in-Input.is (absent_is _ (spec_of s.file) (sym c.in-Absent.is ∙ c.in_ok-there.ensures.presence files stands)) c.if-select.true)))
-          (reads_turns g.T.Keeps g.D.Device (Ok SuccessAbsent) c.args.store.now c.args.device.now c.find.new.self c.find.new.device reads (g.T.Store.held c.args.store.now) true s.file.name.items files stands (λ is. absurd cc));
+          (reads_turns g.T.Keeps g.D.Device (Ok SuccessAbsent) c.args.store.now c.args.device.now c.find.new.self c.find.new.device reads (g.met.T.Store.held c.args.store.now) true s.file.name.items files stands (λ is. absurd cc));
       linked = λ files stands bytes number.
           let none = absent_is _ (spec_of s.file) (sym c.in-Absent.is ∙ c.in_ok-there.ensures.presence files stands) in
-          inr (subst (λ (f : Files). IsLinked f s c.begin.new.link) (sym (ap (λ (t : Step). t.files) (reads_absent s files (connector_of (spec_of s.file) l) (area bytes number) c.args.mode c.in-Input.is (absent_is _ (spec_of s.file) (sym c.in-Absent.is ∙ c.in_ok-there.ensures.presence files stands)) c.if-select.true))) (Gone c.begin.ensures.absent (c.begin.ensures.mode ∙ ap (λ (m : OpenMode). Some m) c.in-Input.is) none));
-      link = c.begin.ensures.link;
+          inr (subst (λ (f : Files). IsLinked f s c.begin-in-Input.new.link) (sym (ap (λ (t : Step). t.files) (reads_absent s files (connector_of (spec_of s.file) l) (area bytes number) c.args.mode c.in-Input.is (absent_is _ (spec_of s.file) (sym c.in-Absent.is ∙ c.in_ok-there.ensures.presence files stands)) c.if-select.true))) (Gone c.begin-in-Input.ensures.absent (c.begin-in-Input.ensures.mode ∙ ap (λ (m : OpenMode). Some m) c.in-Input.is) none));
+      link = c.begin-in-Input.ensures.link;
       idle = λ honest no. reads.only.still honest;
       same = tt;
       rests = tt;

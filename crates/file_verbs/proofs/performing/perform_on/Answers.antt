@@ -22,7 +22,7 @@ returns-in-Some g c =
     let old = c.args.linked.now in
     record {
       does = as_verb c.args.verb ReadNext c.in-ReadNext.is
-          (reads_do g.T.Keeps g.D.Device ReadNext c.read_next.result c.args.store.now c.args.device.now c.read_next.new.store c.read_next.new.device old _ _ _ (g.T.Store.held c.args.store.now) c.read_next.ensures.reads refl
+          (reads_do g.T.Keeps g.D.Device ReadNext c.read_next.result c.args.store.now c.args.device.now c.read_next.new.store c.read_next.new.device old _ _ _ (g.met.T.Store.held c.args.store.now) c.read_next.ensures.reads refl
           (next_open old (subst (May old) c.in-ReadNext.is c.requires.may)) c.read_next.ensures.step c.read_next.ensures.damaged c.read_next.ensures.mode c.read_next.ensures.absent c.read_next.ensures.same c.read_next.ensures.area
           (next_stays old (area c.args.bytes.now c.args.number.now)));
     }
@@ -32,7 +32,7 @@ returns-in-Read g c =
     let old = c.args.linked.now in
     record {
       does = as_verb c.args.verb (Read c.in-Read.key) c.in-Read.is
-          (reads_do g.T.Keeps g.D.Device (Read c.in-Read.key) c.read_by_key.result c.args.store.now c.args.device.now c.read_by_key.new.store c.read_by_key.new.device old _ _ _ (g.T.Store.held c.args.store.now) c.read_by_key.ensures.reads refl
+          (reads_do g.T.Keeps g.D.Device (Read c.in-Read.key) c.read_by_key.result c.args.store.now c.args.device.now c.read_by_key.new.store c.read_by_key.new.device old _ _ _ (g.met.T.Store.held c.args.store.now) c.read_by_key.ensures.reads refl
           (read_open old c.in-Read.key (subst (May old) c.in-Read.is c.requires.may)) c.read_by_key.ensures.step c.read_by_key.ensures.damaged c.read_by_key.ensures.mode c.read_by_key.ensures.absent c.read_by_key.ensures.same c.read_by_key.ensures.area
           (read_stays old (area c.args.bytes.now c.args.number.now) c.in-Read.key));
     }
@@ -76,7 +76,7 @@ returns-in-Start g c =
     let verb = Start c.in-Start.relation c.in-Start.key c.in-Start.count in
     record {
       does = as_verb c.args.verb verb c.in-Start.is
-          (reads_do g.T.Keeps g.D.Device verb c.start.result c.args.store.now c.args.device.now c.start.new.store c.start.new.device old _ _ _ (g.T.Store.held c.args.store.now) c.start.ensures.reads refl
+          (reads_do g.T.Keeps g.D.Device verb c.start.result c.args.store.now c.args.device.now c.start.new.store c.start.new.device old _ _ _ (g.met.T.Store.held c.args.store.now) c.start.ensures.reads refl
           (start_open old c.in-Start.relation c.in-Start.key c.in-Start.count (subst (May old) c.in-Start.is c.requires.may)) c.start.ensures.step c.start.ensures.damaged c.start.ensures.mode c.start.ensures.absent c.start.ensures.same (err_any c.start.result refl)
           (start_stays old (area c.args.bytes.now c.args.number.now) c.in-Start.relation c.in-Start.key c.in-Start.count));
     }

@@ -4,6 +4,7 @@ use Rattle.records.specs.declared.status.Status.{Status}
 use Rattle.records.specs.declared.status.Status.TheVariants.{Success}
 use Rattle.records.specs.declared.verb.Verb.{Verb}
 use Rattle.records.specs.declared.verb.Verb.TheVariants.{Close}
+use Rattle.records.specs.Calls.{StandsFor}
 use Rattle.records.specs.Connector.{Entry, Connector}
 use Rattle.records.specs.Steps.{Step, step}
 use Rattle.records.specs.FileStep.{area, barred_at, is_close, makes_file, file_step, Suits, IsStep}
@@ -49,7 +50,7 @@ returns-in-Some-clause-turns g c = λ files stands.
             (still_of old new c.forget_read.ensures.select files c.forget_read.ensures.mode c.forget_read.ensures.absent) stands.there.1,
       );
     })
-    (λ image crash. g.T.Store.held c.args.self.now.store _ image files stands.there.0 crash)
+    (λ image crash. g.met.T.Store.held c.args.self.now.store _ image files stands.there.0 crash)
 
 pub returns-in-Close-clause-entries : goal.returns-in-Close-clause-entries
 returns-in-Close-clause-entries g c =
@@ -89,7 +90,7 @@ returns-in-Close-clause-turns g c = λ files stands.
             (λ linked is. absurd (shut_of old new c.close.ensures.select files c.close.ensures.shut is)) stands.there.1,
       );
     })
-    (λ image crash. g.T.Store.held c.args.self.now.store _ image files stands.there.0 crash)
+    (λ image crash. g.met.T.Store.held c.args.self.now.store _ image files stands.there.0 crash)
 
 pub perform_on-requires : goal.perform_on-requires
 perform_on-requires g c =
@@ -136,7 +137,7 @@ returns g c =
           (λ is. needs_one (barred_at (entries_of all) (connectors_of all) c.args.file c.args.verb) (is_close c.args.verb) none other is) known;
       turns = λ files stands.
           let linked = subst (OpenLinked files) here (linked_at files all c.args.file old lt stands.there.1) in
-          let down = record { honest = stands.honest; there = stands.there.0 } in
+          let down : StandsFor g.T.Keeps g.D.Device store device files = record { honest = stands.honest; there = stands.there.0 } in
           turns_over g.T.Keeps g.D.Device r store device store' device' (makes_file c.args.verb) (name_of old) _ files (step_of c.args.verb files old a).files _
           (ap (λ (e : Entry). e.name) (entry_here all c.args.file old lt here))
           (ap (λ (t : Step). t.files) (own_step_is all c.args.file old lt here files a c.args.verb none))
