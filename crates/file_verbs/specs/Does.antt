@@ -1,0 +1,35 @@
+-- What a verb does on its file, where no test of the connectors bars it.
+use Rattle.std.specs.Prelude.{◌≡◌, Bool, false, List, Result, IfOk, OnOk, OnErr}
+use Rattle.station.specs.declared.device.Device.{Ghosts as Devices}
+use Rattle.records.specs.declared.fault.StoreFault.{StoreFault}
+use Rattle.records.specs.declared.keeps.Keeps.{Ghosts as Stores}
+use Rattle.records.specs.declared.status.Status.{Status}
+use Rattle.records.specs.declared.verb.Verb.{Verb}
+use Rattle.records.specs.Files.{Files}
+use Rattle.records.specs.Calls.{StandsFor, Changes, Turns, Rests}
+use Rattle.records.specs.Connector.{Area}
+use Rattle.records.specs.Steps.{Step, step}
+use Rattle.records.specs.FileStep.{makes_file, has_changed}
+use Rattle.file_verbs.specs.Links.{Ends}
+use Rattle.file_verbs.specs.Connections.{entry, connector, name_of, OpenLinked}
+use Rattle.file_verbs.specs.declared.linked.Linked.{Linked}
+
+abbrev pub step_of : Verb → Files → Linked → Area → Step
+step_of verb files one area = step (entry one) files (connector one) area verb
+
+-- no one sees a difference
+pub record IsSame (old new : Linked) (area left : Area) : Type 0 where
+  pub connector_is : connector new ≡ connector old
+  pub absent_is : new.link.is_absent ≡ old.link.is_absent
+  pub area_is : left ≡ area
+
+module _ {S : Type 0} (s : Stores S) {D : Type 0} (d : Devices D) where
+  pub record Does (verb : Verb) (result : Result Status StoreFault) (store : S) (device : D) (store' : S) (device' : D) (old new : Linked) (area left : Area) : Type 0 where
+    pub changes : Changes s d result store device store' device'
+    pub select : new.select ≡ old.select
+    pub step : (files : Files) → StandsFor s d store device files → OpenLinked files old → IfOk result (λ status. Ends (step_of verb files old area) status (connector new) left)
+    pub linked : (files : Files) → StandsFor s d store device files → OpenLinked files old → OnOk result (OpenLinked (step_of verb files old area).files new)
+    pub turns : (files : Files) → StandsFor s d store device files → OpenLinked files old → Turns s d result (makes_file verb) (name_of old) files (step_of verb files old area).files store device store' device'
+    pub idle : d.is_honest device → IfOk result (λ status. has_changed verb status ≡ false → d.state device' ≡ d.state device)
+    pub same : OnErr result (IsSame old new area left)
+    pub rests : OnErr result (Rests s d store device store' device')

@@ -1,0 +1,108 @@
+//! Rows that fit what the record area or the RELATIVE KEY item names.
+ghost use Rattle.std.specs.Prelude.{◌≡◌, ◌≢◌, ◌≤◌, Err, length, take, drop, IfOk, OnOk};
+ghost use Rattle.records.specs.Rows.{place_of};
+ghost use Rattle.records.specs.Files.{File, Files};
+ghost use Rattle.records.specs.Calls.{StandsFor, Reads};
+ghost use Rattle.records.specs.Stores.{Has, IsKey, key_length, spec_of};
+ghost use Rattle.records.specs.Steps.{side_of, if_fits, named};
+ghost use Rattle.records.specs.FileStep.{area};
+ghost use Rattle.file_verbs.specs.Links.{IsTold, fitting_row, number_of};
+
+use crate::keys::{key_bytes, key_value};
+use records::{FileSpec, Found, KeyOfReference, Organization, Relation, Side, Store, StoreFault};
+use station::Device;
+use std::cmp::Ordering;
+
+/// From where on a row is sought.
+fn side_for(organization: Organization, relation: Relation) -> Side
+    ensures { result ≡ side_of organization relation }
+{
+    match relation {
+        Relation::Greater => match organization {
+            Organization::Sequential => Side::After,
+            Organization::Relative => Side::After,
+            Organization::Indexed(_) => Side::Beyond,
+        },
+        _ => Side::From,
+    }
+}
+
+/// The first row from a place on may lie behind it. It is equal where the bytes that are named, or the numbers, are.
+fn is_fitting(
+    organization: Organization,
+    relation: Relation,
+    value: &[u8],
+    number: u64,
+    row_value: &[u8],
+    row_number: u64,
+) -> bool
+    requires { length value.now ≤ length row_value.now }
+    ensures { result ≡ if_fits organization relation (record { value = value.now; number = number }) (record { value = row_value.now; number = row_number }) }
+{
+    match relation {
+        Relation::Equal => match organization {
+            Organization::Indexed(_) => match row_value[..value.len()].cmp(value) {
+                Ordering::Greater => false,
+                _ => true,
+            },
+            _ => match row_value.cmp(value).then(row_number.cmp(&number)) {
+                Ordering::Greater => false,
+                _ => true,
+            },
+        },
+        _ => true,
+    }
+}
+
+/// The number of the place that is named: keys have none.
+fn number_named(organization: Organization, number: u64) -> u64
+    ensures { result ≡ number_of organization number }
+{
+    match organization {
+        Organization::Indexed(_) => 0,
+        _ => number,
+    }
+}
+
+/// Seeks the first row that fits `count` bytes of a key in the record area, or the number.
+pub(crate) fn seek_fitting<T: Store, D: Device>(
+    store: &mut T,
+    device: &mut D,
+    file: &FileSpec,
+    sought: &mut [u8],
+    relation: Relation,
+    key: KeyOfReference,
+    count: u16,
+    bytes: &[u8],
+    number: u64,
+) -> Result<Option<Found>, StoreFault>
+    requires device { T.needs store.old ≤ D.sectors device.old }
+    requires key { IsKey (spec_of file.now) key }
+    requires count { count ≤ key_length (spec_of file.now) key }
+    requires sought { length sought.old ≡ file.now.record_length }
+    requires bytes { length bytes.now ≡ file.now.record_length }
+    ensures reads { Reads T.Keeps D.Device result store.old device.old store.new device.new }
+    ensures found { (files : Files) (held : File) → StandsFor T.Keeps D.Device store.old device.old files → Has files file.now held →
+        IfOk result (λ answer. IsTold (spec_of file.now) key held.rows sought.new (fitting_row (spec_of file.now) relation key (named (spec_of file.now) file.now.organization key count (area bytes.now number)) held.rows) answer) }
+    ensures damaged { (files : Files) (held : File) → StandsFor T.Keeps D.Device store.old device.old files → Has files file.now held → result ≢ Err StoreFault.Damaged }
+{
+    let value = key_bytes(file, key, count, bytes);
+    let from = number_named(file.organization, number);
+    let side = side_for(file.organization, relation);
+    let Some(found) = store.seek(device, file, key, side, value, from, sought)? else {
+        return Ok(None);
+    };
+    let row_value = key_value(file, key, sought);
+    if is_fitting(
+        file.organization,
+        relation,
+        value,
+        from,
+        row_value,
+        found.number,
+    ) {
+        Ok(Some(found))
+    } else {
+        Ok(None)
+    }
+}
