@@ -7,7 +7,7 @@ use Rattle.std.proofs.Math.Seq.{map-set_same}
 use Rattle.station.specs.Disk.{Disk, Sector, IsCrashImage}
 use Rattle.station.specs.State.{State}
 use Rattle.station.specs.History.{Through}
-use Rattle.station.specs.Blocks.{Amid}
+use Rattle.station.specs.Blocks.{CrashLeaves}
 use Rattle.station.specs.declared.device.Device.{Ghosts as Devices}
 use Rattle.records.specs.declared.fault.StoreFault.{StoreFault}
 use Rattle.records.specs.declared.keeps.Keeps.{Ghosts as Stores}
@@ -159,7 +159,7 @@ module _ {S S' : Type 0} (s : Stores S) {s' : Stores S'} {D : Type 0} (d : Devic
   }
 
   pub turns_over : (is_new : Bool) (name name' : List ℕ) (before after after' : Files) → name' ≡ name → after' ≡ after → OnOk result (s.stands new (d.state device').disk after → s'.stands new' (d.state device').disk after)
-      → (Through (d.history device) (d.history device') (d.state device') (Amid (d.state device).events (Either s.holds before after)) → Through (d.history device) (d.history device') (d.state device') (Amid (d.state device).events (Either s'.holds before after)))
+      → (Through (d.history device) (d.history device') (d.state device') (CrashLeaves (d.state device).events (Either s.holds before after)) → Through (d.history device) (d.history device') (d.state device') (CrashLeaves (d.state device).events (Either s'.holds before after)))
       → (s.lacks_room old is_new name before after → s'.lacks_room old' is_new name before after)
       → Turns s d result is_new name before after old device new device' → Turns s' d result is_new name' before after' old' device new' device'
   turns_over is_new name name' before after after' named files lift moments lacks turns =

@@ -3,7 +3,7 @@ use Rattle.std.specs.Prelude.{Ok, Some}
 use Rattle.records.specs.declared.status.Status.TheVariants.{SuccessAbsent, FileMissing, FileDiffers}
 use Rattle.records.specs.declared.verb.OpenMode.{OpenMode}
 use Rattle.records.specs.Steps.{Step}
-use Rattle.station.proofs.Puts.{on_ok}
+use Rattle.station.proofs.TwoPhase.{on_ok}
 use Rattle.records.specs.Files.{Files}
 use Rattle.records.specs.Stores.{spec_of}
 use Rattle.records.specs.Calls.{Turns}

@@ -5,6 +5,6 @@
 #[cfg(test)]
 mod asserted;
 #[cfg(test)]
-mod source_line_rows;
+mod source_line_tests;
 #[cfg(test)]
-mod token_rows;
+mod token_tests;
