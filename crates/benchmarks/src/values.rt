@@ -51,7 +51,9 @@ fn plain_number(bytes: &[u8; 18]) -> Option<u64> {
         if !byte.is_ascii_digit() {
             return None;
         }
-        number = number.wrapping_mul(10).wrapping_add(u64::from(*byte - b'0'));
+        number = number
+            .wrapping_mul(10)
+            .wrapping_add(u64::from(*byte - b'0'));
     }
     Some(number)
 }

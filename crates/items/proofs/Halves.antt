@@ -1,5 +1,5 @@
 -- Halves of bytes: two digits a byte.
-use Rattle.std.proofs.Common.{◌≡◌, ℕ, zero, suc, ◌+◌, ◌-◌, ◌*◌, ◌/◌, ◌%◌, ◌<◌, ◌≤◌, ◌^◌, ◌⊎◌, inl, inr, Bool, true, false, ◌&&◌, List, [], ◌∷◌, ◌++◌, map, length, take, drop, get_or, set, ℤ, Option, Some, None, nat_eq, if◌then◌else◌, refl, ap, sym, ◌∙◌, arith, subst}
+use Rattle.std.proofs.Common.{◌≡◌, ℕ, zero, suc, ◌+◌, ◌-◌, ◌*◌, ◌/◌, ◌%◌, ◌<◌, ◌≤◌, ◌^◌, ◌⊎◌, inl, inr, Bool, true, false, ◌&&◌, List, [], ◌∷◌, ◌++◌, length, take, drop, get_or, set, ℤ, Option, Some, None, nat_eq, if◌then◌else◌, refl, ap, sym, ◌∙◌, arith, subst}
 use Rattle.std.proofs.lemmas.List.{at_drop_more, drop-set, map-append, length-set, append_assoc, length-take-le}
 use Rattle.std.proofs.lemmas.Bool.{and_left, and_right, eq-eqb, ne_eqb, lt-leb}
 use Rattle.std.proofs.lemmas.Nat.{pow-add}

@@ -1,5 +1,5 @@
 -- Binary numbers: two's complement in 2, 4 or 8 bytes.
-use Rattle.std.proofs.Common.{◌≡◌, ℕ, zero, suc, ◌+◌, ◌-◌, ◌*◌, ◌/◌, ◌%◌, ◌<◌, ◌≤◌, ◌^◌, ◌⊎◌, inl, inr, Bool, true, false, ℤ, pos, negsuc, ◌-ℤ◌, unsigned_abs, List, [], ◌∷◌, ◌++◌, length, drop, nat_le, if◌then◌else◌, FitsSigned, to_z, of_z, w16, w32, w64, refl, ap, sym, ◌∙◌, arith, subst}
+use Rattle.std.proofs.Common.{◌≡◌, ℕ, suc, ◌-◌, ◌*◌, ◌/◌, ◌<◌, ◌≤◌, ◌^◌, ◌⊎◌, inl, inr, ℤ, pos, negsuc, ◌-ℤ◌, unsigned_abs, List, [], ◌++◌, length, drop, nat_le, if◌then◌else◌, FitsSigned, to_z, of_z, w16, w32, w64, refl, ap, sym, ◌∙◌, arith}
 use Rattle.std.proofs.lemmas.Int.{to_z-of_z, ints, fits_signed_from_abs}
 use Rattle.std.proofs.lemmas.List.{drop_all, append-nil}
 use Rattle.std.proofs.lemmas.Bool.{le-leb, lt-leb, cases_lt}

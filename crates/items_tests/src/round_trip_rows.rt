@@ -77,6 +77,7 @@ fn each_usage_digits_and_scale(rt: HostRuntime) {
     for usage in USAGES.iter() {
         let mut limit = 1;
         for digits in 1..19 {
+            assert!(&rt; 0 < limit);
             assert!(&rt; limit < 1_000_000_000_000_000_000);
             limit *= 10;
             scales(&rt, *usage, digits, limit);

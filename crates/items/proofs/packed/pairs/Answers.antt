@@ -1,4 +1,4 @@
-use Rattle.std.proofs.Common.{◌≡◌, ◌+◌, ◌*◌, ◌<◌, ◌≤◌, ◌^◌, ap, sym, ◌∙◌, drop, arith}
+use Rattle.std.proofs.Common.{◌+◌, ◌*◌, ◌<◌, ◌^◌, ap, sym, ◌∙◌, drop, arith}
 use Rattle.decimal18.specs.Digits.{digits_behind}
 use Rattle.items.proofs.Bounds.{hundreds_below}
 use Rattle.items.proofs.Halves.{shown, no_pair, none_of, digits_next, number_next, bound_next}

@@ -1,4 +1,4 @@
-use Rattle.std.proofs.Common.{◌≡◌, ◌+◌, ◌-◌, ◌*◌, ◌/◌, ◌%◌, ◌∷◌, [], List, ℕ, replicate, length, ap, ◌∙◌, arith}
+use Rattle.std.proofs.Common.{◌≡◌, ◌+◌, ◌*◌, ◌/◌, ◌%◌, ◌∷◌, [], replicate, length, ap, ◌∙◌, arith}
 use Rattle.items.specs.Packed.{joined, digit_halves, sign_half}
 use Rattle.items.proofs.Halves.{put_last}
 use Rattle.items.proofs.packed.put_packed.Goals as goal

@@ -1,4 +1,4 @@
-use Rattle.std.proofs.Common.{rules, ◌<◌, ◌≤◌, ◌^◌, unsigned_abs, FitsSigned, w64, sym, ◌∙◌, subst, ℤ, arith}
+use Rattle.std.proofs.Common.{rules, ◌<◌, ◌^◌, unsigned_abs, FitsSigned, w64, sym, ◌∙◌, subst, ℤ, arith}
 use Rattle.std.specs.Int.{w128}
 use Rattle.std.proofs.Math.Facts.{to_z-of_z}
 use Rattle.std.proofs.lemmas.Int.{fits_signed_from_abs}

@@ -1,4 +1,4 @@
-use Rattle.std.proofs.Common.{◌≡◌, ◌+◌, ◌-◌, ◌<◌, ◌++◌, take, length}
+use Rattle.std.proofs.Common.{◌≡◌, ◌-◌, ◌<◌, ◌++◌, take, length}
 use Rattle.items.specs.Texts.{repeated}
 use Rattle.items.proofs.Repeats.{to_come}
 use Rattle.items.proofs.text.put_repeated.Given as goal
