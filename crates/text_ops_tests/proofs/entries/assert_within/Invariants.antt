@@ -4,4 +4,4 @@ use Rattle.text_ops.specs.declared.entry.Entry.{Entry}
 use Rattle.text_ops_tests.proofs.entries.assert_within.Given as goal
 
 abbrev pub invariant-loop-entry : goal.invariant-loop-entry
-invariant-loop-entry l = (k : ℕ) (d : Entry) → k < l.entry-index → IsEntry l.size (slice_index_or l.entries k d)
+invariant-loop-entry g l = (k : ℕ) (d : Entry) → k < l.entry-index → IsEntry l.size (slice_index_or l.entries k d)
