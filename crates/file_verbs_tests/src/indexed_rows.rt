@@ -1,6 +1,8 @@
 //! Indexed files.
 use crate::bench::{Said, bench, gives, key, play, says};
-use records::{Access, AlternateKey, KeyOfReference, OpenMode, Organization, Relation, Verb};
+use records::{
+    Access, AlternateKey, KeyOfReference, KeyPlace, OpenMode, Organization, Relation, Verb,
+};
 
 const INPUT: Verb = Verb::Open(OpenMode::Input);
 
@@ -13,12 +15,18 @@ const BY_KEY: Verb = Verb::Read(KeyOfReference::Prime);
 const BY_ALTERNATE: Verb = Verb::Read(KeyOfReference::Alternate(0));
 
 const UNIQUE: &[AlternateKey] = &[AlternateKey {
-    place: key(1, 1),
+    place: KeyPlace {
+        offset: 1,
+        length: 1,
+    },
     duplicates: false,
 }];
 
 const DUPLICATES: &[AlternateKey] = &[AlternateKey {
-    place: key(1, 1),
+    place: KeyPlace {
+        offset: 1,
+        length: 1,
+    },
     duplicates: true,
 }];
 

@@ -1,16 +1,24 @@
 //! A random walk over three files, beside the plain model.
 use crate::bench::{Bench, Said, bench, key, perform};
 use crate::model::{Kind, Model, Statement};
-use records::{Access, AlternateKey, KeyOfReference, OpenMode, Organization, Relation, Verb};
+use records::{
+    Access, AlternateKey, KeyOfReference, KeyPlace, OpenMode, Organization, Relation, Verb,
+};
 use std::process::Abort;
 
 const UNIQUE: &[AlternateKey] = &[AlternateKey {
-    place: key(1, 1),
+    place: KeyPlace {
+        offset: 1,
+        length: 1,
+    },
     duplicates: false,
 }];
 
 const DUPLICATES: &[AlternateKey] = &[AlternateKey {
-    place: key(1, 1),
+    place: KeyPlace {
+        offset: 1,
+        length: 1,
+    },
     duplicates: true,
 }];
 
