@@ -150,4 +150,4 @@ gave s d {T} x y is_new name before after old device new device' result was turn
 pub passed : {S : Type 0} (s : Stores S) {D : Type 0} (d : Devices D) {T U : Type 0} (fault : StoreFault) (is_new : Bool) (name : List ℕ) (before after : Files) (old : S) (device : D) (new : S) (device' : D) (result : Result T StoreFault) (told : Result U StoreFault) → result ≡ Err fault → told ≡ Err fault
     → Turns s d result is_new name before after old device new device' → Turns s d told is_new name before after old device new device'
 passed s d {T} {U} fault is_new name before after old device new device' result told was is turns =
-    subst (λ (r : Result U StoreFault). Turns s d r is_new name before after old device new device') (sym is) (passed_on s d {T} {U} fault is_new name before after old device new device' result was turns)
+    subst (λ (r : Result U StoreFault). Turns s d r is_new name before after old device new device') (sym is) (passed_on s d {T = T} {U = U} fault is_new name before after old device new device' result was turns)
