@@ -152,7 +152,7 @@ module _ {S : Type 0} (s : Stores S) {D : Type 0} (d : Devices D) (verb : Verb) 
         (subst (λ (t : Select). IsLinked files t new.link) (sym select) (same_absent files old.select old.link new.link absent mode (linked opened))));
     turns = λ files stands linked. subst (λ (f : Files). Turns s d result (makes_file verb) (name_of old) files f store device store' device') (stays files)
         (reads_turns s d result store device store' device' reads held (makes_file verb) (name_of old) files stands (sound files stands (linked opened)));
-    idle = λ honest. if_any (λ status. has_changed verb status ≡ false → d.state device' ≡ d.state device) result (λ status no. reads.only.still honest);
+    idle = λ honest. if_any (λ status. has_changed verb status ≡ false → d.state device' ≡ d.state device) result (λ status no. reads.only.state honest);
     same = err_both result same area_same (λ link area_is. record {
       connector_is = ap (λ (t : Select). connector_of (spec_of t.file) new.link) select ∙ link.connector;
       absent_is = link.absent;

@@ -74,7 +74,7 @@ returns-in-Different g c =
         written_length = c.requires.link.written_length;
         last = c.requires.link.last;
       };
-      idle = λ honest no. reads.only.still honest;
+      idle = λ honest no. reads.only.state honest;
       same = tt;
       rests = tt;
     }
@@ -99,7 +99,7 @@ returns-else-select g c =
         written_length = c.requires.link.written_length;
         last = c.requires.link.last;
       };
-      idle = λ honest no. reads.only.still honest;
+      idle = λ honest no. reads.only.state honest;
       same = tt;
       rests = tt;
     }
@@ -119,7 +119,7 @@ returns-in-Input g c =
           let none = absent_is _ (spec_of s.file) (sym c.in-Absent.is ∙ c.in_ok-there.ensures.presence files stands) in
           inr (subst (λ (f : Files). IsLinked f s c.begin-in-Input.new.link) (sym (ap (λ (t : Step). t.files) (reads_absent s files (connector_of (spec_of s.file) l) (area bytes number) c.args.mode c.in-Input.is (absent_is _ (spec_of s.file) (sym c.in-Absent.is ∙ c.in_ok-there.ensures.presence files stands)) c.if-select.true))) (Gone c.begin-in-Input.ensures.absent (c.begin-in-Input.ensures.mode ∙ ap (λ (m : OpenMode). Some m) c.in-Input.is) none));
       link = c.begin-in-Input.ensures.link;
-      idle = λ honest no. reads.only.still honest;
+      idle = λ honest no. reads.only.state honest;
       same = tt;
       rests = tt;
     }
