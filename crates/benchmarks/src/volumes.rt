@@ -109,19 +109,32 @@ fn release_pages(map: &mut PageMap, device: &mut SparseDevice, count: u32) -> Re
     map.commit(device)
 }
 
-/// A page of the front is released, and two page numbers are taken, time after time.
+/// A page is released, and two page numbers are taken.
+fn reuse_page(map: &mut PageMap, page: u32) -> Result<(), PagesError>
+    requires { IsOpen map.old }
+    ensures open { IsOpen map.new }
+    ensures sectors { sectors_of map.new ≡ sectors_of map.old }
+{
+    if page == 0 {
+        return Ok(());
+    }
+    if map.page_count() <= page as usize {
+        return Ok(());
+    }
+    map.release(page)?;
+    map.allocate()?;
+    map.allocate()?;
+    Ok(())
+}
+
+/// So it is done with the pages of the front, one after the other.
 fn reuse_pages(map: &mut PageMap, count: u32) -> Result<(), PagesError>
     requires { IsOpen map.old }
     ensures open { IsOpen map.new }
     ensures sectors { sectors_of map.new ≡ sectors_of map.old }
 {
     for n in 0..count {
-        let page = n.saturating_add(1);
-        if (page as usize) < map.page_count() {
-            map.release(page)?;
-            map.allocate()?;
-            map.allocate()?;
-        }
+        reuse_page(map, n.saturating_add(1))?;
     }
     Ok(())
 }
