@@ -31,7 +31,9 @@ fn main(rt: HostRuntime) -> io::Result<()> {
         }
     }
     if !named {
-        println!(rt; "measurements: sources, memory, decimals, values, texts, volumes, releases, trees")?;
+        println!(rt;
+            "measurements: sources, memory, decimals, values, texts, volumes, releases, trees"
+        )?;
     }
     Ok(())
 }

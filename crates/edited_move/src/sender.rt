@@ -11,8 +11,8 @@ ghost use Rattle.edited_move.specs.Moves as spec;
 
 use decimal18::Dec;
 use items::{
-    DataFault, Item, Kind, Numeric, OperationalSign, Taken, Usage, number, put_digits,
-    put_justified, put_padded, put_repeated,
+    DataFault, Item, Kind, Numeric, OperationalSign, Taken, Usage, number, put_justified,
+    put_padded, put_repeated,
 };
 
 /// The digits that a number has at the most.
@@ -126,7 +126,7 @@ fn put_number(item: Numeric, from: &[u8], right: bool, bytes: &mut [u8]) -> Resu
     };
     let mut digits = [0; MOST_DIGITS];
     let text = &mut digits[..item.digits as usize];
-    put_digits(value.magnitude() as u64, text);
+    value.digits_into(text);
     put_text(right, text, bytes);
     Ok(())
 }

@@ -132,9 +132,10 @@ module _ (old bytes : List ℕ) (n m : ℕ) (first : 1 ≤ n) (le : n ≤ m) whe
   arrivals_given [] [] raised all = tt
   arrivals_given [] (arrival ∷ arrivals) raised all = tt
   arrivals_given (key ∷ keys) [] raised all = tt
-  arrivals_given (key ∷ keys) (arrival ∷ arrivals) raised all =
-      (cond_both (changes old bytes key) n arrival (IsArrival m) (λ is. (first, raised (any_of (changes old bytes key) (list_any (λ key. changes old bytes key) keys) is))) (λ _. (all.0.0, omega (arith, le, all.0.1))),
-      arrivals_given keys arrivals (λ is. raised (any_rest (changes old bytes key) (list_any (λ key. changes old bytes key) keys) is)) all.1)
+  arrivals_given (key ∷ keys) (arrival ∷ arrivals) raised all = (
+    cond_both (changes old bytes key) n arrival (IsArrival m) (λ is. (first, raised (any_of (changes old bytes key) (list_any (λ key. changes old bytes key) keys) is))) (λ _. (all.0.0, omega (arith, le, all.0.1))),
+    arrivals_given keys arrivals (λ is. raised (any_rest (changes old bytes key) (list_any (λ key. changes old bytes key) keys) is)) all.1,
+  )
 
   pub arrivals_long : (keys : List AlternateKey) (arrivals : List ℕ) → length arrivals ≡ length keys → length (arrivals_after old bytes n keys arrivals) ≡ length keys
   arrivals_long [] [] is = refl

@@ -24,7 +24,11 @@ pub fn write_blocks_through<D: Device>(device: &mut D, blocks: &[Block]) -> Resu
 }
 
 /// Writes a sector, which is durable at `Ok`.
-pub fn write_through<D: Device>(device: &mut D, sector: u32, bytes: &[u8; 4096]) -> Result<(), DeviceError>
+pub fn write_through<D: Device>(
+    device: &mut D,
+    sector: u32,
+    bytes: &[u8; 4096],
+) -> Result<(), DeviceError>
     requires { sector < D.sectors device.old }
     ensures only { OnlyWrites D.Device (IsErr result) device.old device.new }
     ensures durable { D.is_honest device.old → OnOk result ((D.state device.new).disk ≡ settled (slice_set (D.state device.old).disk.present sector bytes.now)) }
