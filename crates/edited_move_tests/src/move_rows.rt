@@ -16,36 +16,31 @@ const UNSIGNED: Usage = Usage::Display(OperationalSign::Unsigned);
 
 const TRAILING: Usage = Usage::Display(OperationalSign::Trailing);
 
-const fn text(length: u32) -> Item {
-    Item {
-        kind: Kind::Alphanumeric { justified: false },
-        length,
-    }
+macro_rules! text {
+    ($length:expr) => {
+        Item { kind: Kind::Alphanumeric { justified: false }, length: $length }
+    };
 }
 
-const fn justified(length: u32) -> Item {
-    Item {
-        kind: Kind::Alphanumeric { justified: true },
-        length,
-    }
+macro_rules! justified {
+    ($length:expr) => {
+        Item { kind: Kind::Alphanumeric { justified: true }, length: $length }
+    };
 }
 
-const fn group(length: u32) -> Item {
-    Item {
-        kind: Kind::Group,
-        length,
-    }
+macro_rules! group {
+    ($length:expr) => {
+        Item { kind: Kind::Group, length: $length }
+    };
 }
 
-const fn number(digits: u8, scale: u8, usage: Usage, length: u32) -> Item {
-    Item {
-        kind: Kind::Numeric(Numeric {
-            digits,
-            scale,
-            usage,
-        }),
-        length,
-    }
+macro_rules! number {
+    ($digits:expr, $scale:expr, $usage:expr, $length:expr) => {
+        Item {
+            kind: Kind::Numeric(Numeric { digits: $digits, scale: $scale, usage: $usage }),
+            length: $length,
+        }
+    };
 }
 
 /// Asserts that the item has 1 to 18 digits, its decimals among them.
@@ -79,125 +74,140 @@ type Row = (Item, Taken, &'static [u8], Option<&'static [u8]>);
 const MOVES: [Row; 27] = [
     // the point is aligned and both ends are cut
     (
-        number(3, 1, UNSIGNED, 3),
-        Taken::Item(number(5, 2, UNSIGNED, 5)),
+        number!(3, 1, UNSIGNED, 3),
+        Taken::Item(number!(5, 2, UNSIGNED, 5)),
         b"12345",
         Some(b"234"),
     ),
     // characters from the left, or with JUSTIFIED from the right
-    (text(3), Taken::Item(text(5)), b"ABCDE", Some(b"ABC")),
-    (justified(3), Taken::Item(text(5)), b"ABCDE", Some(b"CDE")),
-    (justified(4), Taken::Item(text(2)), b"AB", Some(b"  AB")),
-    (text(5), Taken::Item(text(2)), b"AB", Some(b"AB   ")),
+    (text!(3), Taken::Item(text!(5)), b"ABCDE", Some(b"ABC")),
+    (justified!(3), Taken::Item(text!(5)), b"ABCDE", Some(b"CDE")),
+    (justified!(4), Taken::Item(text!(2)), b"AB", Some(b"  AB")),
+    (text!(5), Taken::Item(text!(2)), b"AB", Some(b"AB   ")),
     // a number gives its digits without sign
     (
-        text(3),
-        Taken::Item(number(1, 0, TRAILING, 1)),
+        text!(3),
+        Taken::Item(number!(1, 0, TRAILING, 1)),
         b"w",
         Some(b"7  "),
     ),
     (
-        text(5),
-        Taken::Item(number(4, 0, Usage::Binary { signed: true }, 2)),
+        text!(5),
+        Taken::Item(number!(4, 0, Usage::Binary { signed: true }, 2)),
         b"\xff\xd6",
         Some(b"0042 "),
     ),
     (
-        text(5),
-        Taken::Item(number(3, 0, Usage::Packed { signed: true }, 2)),
+        text!(5),
+        Taken::Item(number!(3, 0, Usage::Packed { signed: true }, 2)),
         b"\x01\x7c",
         Some(b"017  "),
     ),
     // without S the absolute value
     (
-        number(3, 0, UNSIGNED, 3),
-        Taken::Item(number(1, 0, TRAILING, 1)),
+        number!(3, 0, UNSIGNED, 3),
+        Taken::Item(number!(1, 0, TRAILING, 1)),
         b"w",
         Some(b"007"),
     ),
     (
-        number(3, 0, TRAILING, 3),
-        Taken::Item(number(1, 0, TRAILING, 1)),
+        number!(3, 0, TRAILING, 3),
+        Taken::Item(number!(1, 0, TRAILING, 1)),
         b"w",
         Some(b"00w"),
     ),
     (
-        number(3, 0, Usage::Display(OperationalSign::LeadingSeparate), 4),
-        Taken::Item(number(1, 0, TRAILING, 1)),
+        number!(3, 0, Usage::Display(OperationalSign::LeadingSeparate), 4),
+        Taken::Item(number!(1, 0, TRAILING, 1)),
         b"w",
         Some(b"-007"),
     ),
     (
-        number(3, 0, Usage::Packed { signed: true }, 2),
-        Taken::Item(number(1, 0, TRAILING, 1)),
+        number!(3, 0, Usage::Packed { signed: true }, 2),
+        Taken::Item(number!(1, 0, TRAILING, 1)),
         b"w",
         Some(b"\x00\x7d"),
     ),
     (
-        number(4, 0, Usage::Binary { signed: true }, 2),
-        Taken::Item(number(1, 0, TRAILING, 1)),
+        number!(4, 0, Usage::Binary { signed: true }, 2),
+        Taken::Item(number!(1, 0, TRAILING, 1)),
         b"r",
         Some(b"\xff\xfe"),
     ),
     // characters are an unsigned integer
     (
-        number(3, 0, UNSIGNED, 3),
-        Taken::Item(text(2)),
+        number!(3, 0, UNSIGNED, 3),
+        Taken::Item(text!(2)),
         b"12",
         Some(b"012"),
     ),
     (
-        number(3, 1, UNSIGNED, 3),
-        Taken::Item(text(2)),
+        number!(3, 1, UNSIGNED, 3),
+        Taken::Item(text!(2)),
         b"12",
         Some(b"120"),
     ),
-    (number(3, 0, UNSIGNED, 3), Taken::Item(text(2)), b"1 ", None),
-    (number(3, 0, UNSIGNED, 3), Taken::Item(text(2)), b"  ", None),
-    (text(3), Taken::Item(number(2, 0, UNSIGNED, 2)), b"xy", None),
     (
-        number(3, 0, UNSIGNED, 3),
-        Taken::Item(number(2, 0, UNSIGNED, 2)),
+        number!(3, 0, UNSIGNED, 3),
+        Taken::Item(text!(2)),
+        b"1 ",
+        None,
+    ),
+    (
+        number!(3, 0, UNSIGNED, 3),
+        Taken::Item(text!(2)),
+        b"  ",
+        None,
+    ),
+    (
+        text!(3),
+        Taken::Item(number!(2, 0, UNSIGNED, 2)),
+        b"xy",
+        None,
+    ),
+    (
+        number!(3, 0, UNSIGNED, 3),
+        Taken::Item(number!(2, 0, UNSIGNED, 2)),
         b"xy",
         None,
     ),
     // figurative constants and ALL
     (
-        number(3, 0, UNSIGNED, 3),
+        number!(3, 0, UNSIGNED, 3),
         Taken::Figurative(Figurative::Zero),
         b"",
         Some(b"000"),
     ),
     (
-        text(3),
+        text!(3),
         Taken::Figurative(Figurative::Quote),
         b"",
         Some(b"\"\"\""),
     ),
     (
-        justified(3),
+        justified!(3),
         Taken::Figurative(Figurative::Space),
         b"",
         Some(b"   "),
     ),
-    (text(3), Taken::All, b"AB", Some(b"ABA")),
-    (justified(7), Taken::All, b"AB", Some(b"ABABABA")),
+    (text!(3), Taken::All, b"AB", Some(b"ABA")),
+    (justified!(7), Taken::All, b"AB", Some(b"ABABABA")),
     // groups are copied
     (
-        group(4),
-        Taken::Item(number(2, 0, TRAILING, 2)),
+        group!(4),
+        Taken::Item(number!(2, 0, TRAILING, 2)),
         b"1r",
         Some(b"1r  "),
     ),
     (
-        number(3, 0, UNSIGNED, 3),
-        Taken::Item(group(2)),
+        number!(3, 0, UNSIGNED, 3),
+        Taken::Item(group!(2)),
         b"AB",
         Some(b"AB "),
     ),
     (
-        justified(7),
-        Taken::Item(group(5)),
+        justified!(7),
+        Taken::Item(group!(5)),
         b"12   ",
         Some(b"  12   "),
     ),
@@ -282,28 +292,28 @@ const EDITED_MOVES: [EditedRow; 15] = [
     (
         "XXBX/X",
         Kind::AlphanumericEdited,
-        Taken::Item(text(4)),
+        Taken::Item(text!(4)),
         b"ABCD",
         Some(b"AB C/D"),
     ),
     (
         "XXBX/X",
         Kind::AlphanumericEdited,
-        Taken::Item(text(1)),
+        Taken::Item(text!(1)),
         b"A",
         Some(b"A   / "),
     ),
     (
         "XXBXX/X",
         Kind::AlphanumericEdited,
-        Taken::Item(text(5)),
+        Taken::Item(text!(5)),
         b"ABCDE",
         Some(b"AB CD/E"),
     ),
     (
         "XXBX/X",
         Kind::AlphanumericEdited,
-        Taken::Item(number(4, 0, UNSIGNED, 4)),
+        Taken::Item(number!(4, 0, UNSIGNED, 4)),
         b"1000",
         Some(b"10 0/0"),
     ),
@@ -317,7 +327,7 @@ const EDITED_MOVES: [EditedRow; 15] = [
     (
         "XXBX/X",
         Kind::AlphanumericEdited,
-        Taken::Item(group(5)),
+        Taken::Item(group!(5)),
         b"12   ",
         Some(b"12    "),
     ),
@@ -332,44 +342,44 @@ const EDITED_MOVES: [EditedRow; 15] = [
     (
         "0XB(2)A",
         Kind::AlphanumericEdited,
-        Taken::Item(text(2)),
+        Taken::Item(text!(2)),
         b"XY",
         Some(b"0X  Y"),
     ),
     (
         "XXBX/X",
         Kind::AlphanumericEdited,
-        Taken::Item(number(2, 0, UNSIGNED, 2)),
+        Taken::Item(number!(2, 0, UNSIGNED, 2)),
         b"xy",
         None,
     ),
     (
         "ZZ9",
         BLANK,
-        Taken::Item(number(4, 0, UNSIGNED, 4)),
+        Taken::Item(number!(4, 0, UNSIGNED, 4)),
         b"1000",
         Some(b"   "),
     ),
     (
         "ZZ9",
         EDITED,
-        Taken::Item(number(4, 0, UNSIGNED, 4)),
+        Taken::Item(number!(4, 0, UNSIGNED, 4)),
         b"1000",
         Some(b"  0"),
     ),
-    ("ZZ9", BLANK, Taken::Item(text(2)), b"10", Some(b" 10")),
+    ("ZZ9", BLANK, Taken::Item(text!(2)), b"10", Some(b" 10")),
     (
         "ZZ9",
         EDITED,
-        Taken::Item(number(4, 0, Usage::Binary { signed: true }, 2)),
+        Taken::Item(number!(4, 0, Usage::Binary { signed: true }, 2)),
         b"\xff\xd6",
         Some(b" 42"),
     ),
-    ("ZZ9", EDITED, Taken::Item(text(2)), b"1 ", None),
+    ("ZZ9", EDITED, Taken::Item(text!(2)), b"1 ", None),
     (
         "ZZ9CR",
         EDITED,
-        Taken::Item(number(1, 0, TRAILING, 1)),
+        Taken::Item(number!(1, 0, TRAILING, 1)),
         b"u",
         Some(b"  5CR"),
     ),
