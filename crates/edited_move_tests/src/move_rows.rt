@@ -422,7 +422,7 @@ fn edited_row_holds(rt: &impl Abort, alloc: Global, row: &EditedRow) {
         panic!(rt; "no picture");
     };
     let mut bytes = [BEFORE; ROOM];
-    let size = (picture.size() as usize).min(ROOM);
+    let size = picture.size().min(ROOM as u128) as usize;
     let receiver = Item {
         kind,
         length: size as u32,
