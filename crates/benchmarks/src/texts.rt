@@ -56,7 +56,7 @@ fn compared(one: &[u8], other: &mut [u8], turns: usize, plain: bool) -> u64 {
             *last = (turn % 256) as u8;
         }
         let is_less = if plain {
-            one.cmp(other) == Ordering::Less
+            *one < *other
         } else {
             is_less(one, other)
         };
