@@ -34,7 +34,7 @@ abbrev pub display : Place → List Literal → Bool → Statement
 display place operands advancing = roll-Statement (record { place = place; verb = verb.Text (text_as.Display operands advancing) })
 
 abbrev pub stop_run : Place → Statement
-stop_run place = roll-Statement (record { place = place; verb = verb.Ending ending.StopRun (record {}) })
+stop_run place = roll-Statement (record { place = place; verb = verb.Ending ending.StopRun })
 
 -- with this budget, on 30 July 1926
 abbrev with : ℕ → Given

@@ -1,5 +1,6 @@
 pub mod Given
 pub mod State
 pub mod Display
+pub mod Performing
 pub mod Meaning
 pub use Rattle.station.specs.State as Events
