@@ -116,7 +116,10 @@ impl Held {
         let KeyOfReference::Alternate(i) = key else {
             return self.prime(row.number, &row.bytes);
         };
-        match (self.alternates.get(i as usize), row.arrivals.get(i as usize)) {
+        match (
+            self.alternates.get(i as usize),
+            row.arrivals.get(i as usize),
+        ) {
             (Some(alternate), Some(arrival)) => Place {
                 value: part(alternate.place, &row.bytes),
                 number: *arrival,

@@ -3,12 +3,28 @@
 #![tactic(auto)]
 
 #[cfg(test)]
-mod held;
+mod changing_tests;
 #[cfg(test)]
-mod probe_tests;
+mod clause_tests;
+#[cfg(test)]
+mod held;
 #[cfg(test)]
 mod memory_store;
 #[cfg(test)]
+mod mode_tests;
+#[cfg(test)]
+mod model;
+#[cfg(test)]
+mod opening_tests;
+#[cfg(test)]
+mod reading_tests;
+#[cfg(test)]
+mod refusal_tests;
+#[cfg(test)]
 mod run;
+#[cfg(test)]
+mod tables;
+#[cfg(test)]
+mod walk_tests;
 #[cfg(test)]
 mod words;

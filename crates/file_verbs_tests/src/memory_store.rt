@@ -2,12 +2,10 @@
 //!
 //! It meets the contract of stores and claims no file: no disk is such that it stands for files there. So what it answers is judged by
 //! the tests alone, and it doesn't touch its device.
-ghost use Rattle.std.specs.Prelude.{◌≡◌};
+ghost use Rattle.std.specs.Prelude.{◌≡◌, true};
 
 use crate::held::{Held, Place};
-use records::{
-    FileSpec, Found, Keeps, KeyOfReference, Outcome, Presence, Side, Store, StoreFault,
-};
+use records::{FileSpec, Found, Keeps, KeyOfReference, Outcome, Presence, Side, Store, StoreFault};
 use station::Device;
 use std::alloc::{AllocError, Global};
 
@@ -44,7 +42,12 @@ impl Shelf {
         Ok(())
     }
 
-    fn insert(&mut self, file: &FileSpec, number: u64, bytes: &[u8]) -> Result<Outcome, AllocError> {
+    fn insert(
+        &mut self,
+        file: &FileSpec,
+        number: u64,
+        bytes: &[u8],
+    ) -> Result<Outcome, AllocError> {
         let alloc = self.alloc;
         match self.held_mut(file) {
             None => Ok(Outcome::Missing),

@@ -50,18 +50,38 @@ fn file_spec(
 
 /// What a program says of a file: its name, its shape, whether it is OPTIONAL, and the digits of its RELATIVE KEY item.
 #[derive(Clone, Copy, Debug)]
-pub struct Said {
+pub struct Clauses {
     pub shape: Shape,
     pub is_optional: bool,
     pub key_digits: Option<u8>,
 }
 
 /// Not OPTIONAL, without RELATIVE KEY.
-pub fn said(shape: Shape) -> Said {
-    Said {
+pub fn said(shape: Shape) -> Clauses {
+    Clauses {
         shape,
         is_optional: false,
         key_digits: None,
+    }
+}
+
+/// What a program says of a file of this name, with records of so many bytes.
+pub fn selected(
+    rt: &impl Abort,
+    alloc: Global,
+    name: &[u8],
+    clauses: Clauses,
+    record_length: u16,
+) -> Select {
+    let spec = file_spec(alloc, name, clauses.shape.organization, record_length);
+    let Ok(Some(file)) = spec else {
+        panic!(rt; "no file {name:?}");
+    };
+    Select {
+        file,
+        access: clauses.shape.access,
+        optional: clauses.is_optional,
+        key_digits: clauses.key_digits,
     }
 }
 
@@ -88,24 +108,15 @@ impl Run {
     }
 
     /// One more connector, to a file of this name, with records of so many bytes.
-    pub fn connect(&mut self, rt: &impl Abort, name: &[u8], said: Said, record_length: u16) {
-        let spec = file_spec(self.alloc, name, said.shape.organization, record_length);
-        let Ok(Some(file)) = spec else {
-            panic!(rt; "no file {name:?}");
-        };
-        let select = Select {
-            file,
-            access: said.shape.access,
-            optional: said.is_optional,
-            key_digits: said.key_digits,
-        };
+    pub fn connect(&mut self, rt: &impl Abort, name: &[u8], clauses: Clauses, record_length: u16) {
+        let select = selected(rt, self.alloc, name, clauses, record_length);
         assert!(rt; self.connectors.add(select).is_ok());
     }
 
     /// One connector, to a file that isn't there.
-    pub fn one(rt: &impl Abort, alloc: Global, said: Said) -> Run {
+    pub fn one(rt: &impl Abort, alloc: Global, clauses: Clauses) -> Run {
         let mut run = Run::new(rt, alloc, 0);
-        run.connect(rt, b"FILE", said, 5);
+        run.connect(rt, b"FILE", clauses, 5);
         run
     }
 
@@ -134,6 +145,17 @@ impl Run {
                 assert_eq!(rt; number, step.number_left, "{step:?}");
             }
             Err(fault) => panic!(rt; "{fault:?} at {step:?}"),
+        }
+    }
+
+    /// Does a file statement over a record of so many dashes, up to eight, and tells its status.
+    pub fn status(&mut self, rt: &impl Abort, file: usize, verb: Verb, length: usize) -> [u8; 2] {
+        let mut record = *b"--------";
+        let mut number = 0;
+        assert!(rt; length <= 8);
+        match self.does(rt, file, verb, &mut record[..length], &mut number) {
+            Ok(status) => status.bytes(),
+            Err(fault) => panic!(rt; "{fault:?}"),
         }
     }
 

@@ -38,6 +38,16 @@ pub struct Shape {
     pub access: Access,
 }
 
+impl Shape {
+    /// Whether it is an indexed file.
+    pub fn has_keys(self) -> bool {
+        match self.organization {
+            Organization::Indexed(_) => true,
+            _ => false,
+        }
+    }
+}
+
 /// One statement, with the record area and the number in the RELATIVE KEY item before and after it.
 #[derive(Clone, Copy, Debug)]
 pub struct Step {
@@ -62,13 +72,7 @@ pub fn told(verb: Verb, record: &[u8; 5], number: u64, status: &[u8; 2]) -> Step
 }
 
 /// A statement that brings this record and this number, from an area of question marks.
-pub fn brings(
-    verb: Verb,
-    number: u64,
-    status: &[u8; 2],
-    left: &[u8; 5],
-    number_left: u64,
-) -> Step {
+pub fn brings(verb: Verb, number: u64, status: &[u8; 2], left: &[u8; 5], number_left: u64) -> Step {
     Step {
         verb,
         record: *b"?????",
