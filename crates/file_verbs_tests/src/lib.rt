@@ -28,3 +28,5 @@ mod tables;
 mod walk_tests;
 #[cfg(test)]
 mod words;
+#[cfg(test)]
+mod worked_tests;
