@@ -35,8 +35,8 @@ fn two_files<T: Store + Drop>(
 #[test]
 fn accepted(rt: HostRuntime) {
     let alloc = rt.alloc();
-    let one = selected(&rt, alloc, b"ONE", said(SEQUENTIAL), 5);
-    let two = selected(&rt, alloc, b"TWO", said(SEQUENTIAL), 6);
+    let one = selected(&rt, alloc, b"ONE", said(SEQUENTIAL), 5, &[]);
+    let two = selected(&rt, alloc, b"TWO", said(SEQUENTIAL), 6, &[]);
     match two_files(alloc, MemoryStore::new(alloc, 0), one, two) {
         Err(fault) => panic!(rt; "{fault:?}"),
         Ok(all) => {

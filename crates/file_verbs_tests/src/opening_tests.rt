@@ -1,11 +1,11 @@
 //! Rows of OPEN and CLOSE: 00, 05, 35, 39, 41 and 42.
-use crate::run::{Clauses, INDEXED, Run, said};
+use crate::run::{Clauses, INDEXED, REPEATED_KEY, Run, UNIQUE_KEY, said};
 use crate::tables::{SEQUENTIAL, indexed, relative, shapes};
 use crate::words::{
     CLOSE, NEXT, OPEN_EXTEND, OPEN_I_O, OPEN_INPUT, OPEN_OUTPUT, READ, REPEATED, START, Shape,
     WRITE, brings, plain, reads, told,
 };
-use records::{Access, KeyPlace, OpenMode, Organization, Verb};
+use records::{Access, AlternateKey, KeyPlace, OpenMode, Organization, Verb};
 use std::alloc::Global;
 use std::process::Abort;
 
@@ -203,6 +203,40 @@ fn another_file(rt: HostRuntime) {
     differs(&rt, rt.alloc(), Organization::Indexed(longer), 5);
     differs(&rt, rt.alloc(), Organization::Indexed(elsewhere), 5);
     differs(&rt, rt.alloc(), INDEXED, 6);
+}
+
+// One alternate key fewer, one with DUPLICATES that has none, and one at another place.
+#[test]
+fn another_alternate_key(rt: HostRuntime) {
+    let with_duplicates = AlternateKey {
+        place: UNIQUE_KEY.place,
+        duplicates: true,
+    };
+    let elsewhere = AlternateKey {
+        place: KeyPlace {
+            offset: 4,
+            length: 1,
+        },
+        duplicates: true,
+    };
+    let shape = indexed(Access::Dynamic);
+    let mut run = Run::one(&rt, rt.alloc(), said(shape));
+    run.connect_with(&rt, b"FILE", said(shape), 5, &[UNIQUE_KEY]);
+    run.connect_with(
+        &rt,
+        b"FILE",
+        said(shape),
+        5,
+        &[with_duplicates, REPEATED_KEY],
+    );
+    run.connect_with(&rt, b"FILE", said(shape), 5, &[UNIQUE_KEY, elsewhere]);
+    run.passes(&rt, &[plain(OPEN_OUTPUT, b"00"), plain(CLOSE, b"00")]);
+    for number in 1..4usize {
+        run.takes(&rt, number, plain(OPEN_INPUT, b"39"));
+        run.takes(&rt, number, plain(OPEN_I_O, b"39"));
+        run.takes(&rt, number, plain(CLOSE, b"42"));
+    }
+    run.passes(&rt, &[plain(OPEN_INPUT, b"00")]);
 }
 
 // A file is open by one of two SELECTs that name it.

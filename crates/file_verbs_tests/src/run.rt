@@ -17,7 +17,7 @@ pub const INDEXED: Organization = Organization::Indexed(KeyPlace {
     length: 2,
 });
 
-const UNIQUE_KEY: AlternateKey = AlternateKey {
+pub const UNIQUE_KEY: AlternateKey = AlternateKey {
     place: KeyPlace {
         offset: 2,
         length: 1,
@@ -25,7 +25,7 @@ const UNIQUE_KEY: AlternateKey = AlternateKey {
     duplicates: false,
 };
 
-const REPEATED_KEY: AlternateKey = AlternateKey {
+pub const REPEATED_KEY: AlternateKey = AlternateKey {
     place: KeyPlace {
         offset: 3,
         length: 1,
@@ -33,19 +33,26 @@ const REPEATED_KEY: AlternateKey = AlternateKey {
     duplicates: true,
 };
 
+static BOTH_KEYS: [AlternateKey; 2] = [UNIQUE_KEY, REPEATED_KEY];
+
 fn file_spec(
     alloc: Global,
     name: &[u8],
     organization: Organization,
     record_length: u16,
+    alternates: &[AlternateKey],
 ) -> Result<Option<FileSpec>, AllocError> {
-    let mut alternates = Vec::new(alloc);
-    if let Organization::Indexed(_) = organization {
-        alternates.push(UNIQUE_KEY)?;
-        alternates.push(REPEATED_KEY)?;
-    }
     let name = Vec::from_slice(alloc, name)?;
+    let alternates = Vec::from_slice(alloc, alternates)?;
     Ok(FileSpec::new(name, organization, record_length, alternates))
+}
+
+// The alternate keys of an indexed file.
+fn alternates_of(organization: Organization) -> &'static [AlternateKey] {
+    match organization {
+        Organization::Indexed(_) => &BOTH_KEYS,
+        _ => &BOTH_KEYS[..0],
+    }
 }
 
 /// What a program says of a file: its name, its shape, whether it is OPTIONAL, and the digits of its RELATIVE KEY item.
@@ -72,8 +79,10 @@ pub fn selected(
     name: &[u8],
     clauses: Clauses,
     record_length: u16,
+    alternates: &[AlternateKey],
 ) -> Select {
-    let spec = file_spec(alloc, name, clauses.shape.organization, record_length);
+    let organization = clauses.shape.organization;
+    let spec = file_spec(alloc, name, organization, record_length, alternates);
     let Ok(Some(file)) = spec else {
         panic!(rt; "no file {name:?}");
     };
@@ -109,7 +118,20 @@ impl Run {
 
     /// One more connector, to a file of this name, with records of so many bytes.
     pub fn connect(&mut self, rt: &impl Abort, name: &[u8], clauses: Clauses, record_length: u16) {
-        let select = selected(rt, self.alloc, name, clauses, record_length);
+        let alternates = alternates_of(clauses.shape.organization);
+        self.connect_with(rt, name, clauses, record_length, alternates);
+    }
+
+    /// The same, with these alternate keys.
+    pub fn connect_with(
+        &mut self,
+        rt: &impl Abort,
+        name: &[u8],
+        clauses: Clauses,
+        record_length: u16,
+        alternates: &[AlternateKey],
+    ) {
+        let select = selected(rt, self.alloc, name, clauses, record_length, alternates);
         assert!(rt; self.connectors.add(select).is_ok());
     }
 
