@@ -1,14 +1,12 @@
 -- One of several connectors changes, and its file.
-use Rattle.std.proofs.Common.{◌≡◌, ◌<◌, Bool, true, false, ◌&&◌, cond, ℕ, zero, suc, List, [], ◌∷◌, ◌++◌, length, map, get_or, set, Option, Some, None, refl, sym, ◌∙◌, ap, subst, arith, if◌then◌else◌}
-use Rattle.std.specs.Prelude.{is_some}
+use Rattle.std.proofs.Common.{◌≡◌, ◌<◌, Bool, true, false, ◌&&◌, ℕ, zero, suc, List, [], ◌∷◌, ◌++◌, length, get_or, set, refl, sym, ◌∙◌, ap, subst, arith, if◌then◌else◌}
 use Rattle.std.specs.List.{AllByRecursion}
 use Rattle.std.specs.Ordering.{is_eq, ordering_reverse}
 use Rattle.std.specs.declared.cmp.Ordering.{Ordering}
 use Rattle.std.specs.declared.cmp.Ordering.TheVariants.{Less, Equal, Greater}
 use Rattle.std.proofs.lemmas.Cmp.{nat_list_cmp_total}
 use Rattle.records.specs.Rows.{same_bytes, bytes_cmp}
-use Rattle.records.specs.Files.{File, Files, file_at}
-use Rattle.records.specs.Stores.{Has}
+use Rattle.records.specs.Files.{Files, file_at}
 use Rattle.records.specs.Tests.{is_name_open}
 use Rattle.file_verbs.specs.declared.linked.Linked.{Linked}
 use Rattle.file_verbs.specs.Links.{IsLinked, There, Gone}

@@ -26,17 +26,17 @@ use Rattle.records.specs.Steps as steps
 use Rattle.records.specs.Steps.{Step}
 use Rattle.std.proofs.lemmas.Bool.{cond_both}
 use Rattle.file_verbs.proofs.Stepped as stepped
-use Rattle.records.specs.Stores.{Has, spec_of, key_length}
+use Rattle.records.specs.Stores.{spec_of, key_length}
 use Rattle.records.specs.Calls.{StandsFor, Reads, Changes, Turns, Rests}
-use Rattle.records.specs.Connector.{Connector, Area, entry_of}
-use Rattle.records.specs.Tests.{is_sequential, may_read, may_write, may_change, unless, then_unless, barred}
+use Rattle.records.specs.Connector.{Area}
+use Rattle.records.specs.Tests.{is_sequential, may_read, may_write, may_change, unless, then_unless}
 use Rattle.records.specs.FileStep.{makes_file, has_changed}
 use Rattle.records.proofs.Calls.{reads_changes, reads_rests, reads_turns}
 use Rattle.file_verbs.specs.declared.link.Link.{Link}
 use Rattle.file_verbs.specs.declared.linked.Linked.{Linked}
 use Rattle.file_verbs.specs.Links.{IsLinked, There, Gone, Ends, SameLink, connector_of}
-use Rattle.file_verbs.specs.Connections.{entry, connector, name_of, is_open, OpenLinked, May}
-use Rattle.file_verbs.specs.Does.{Does, IsSame, step_of}
+use Rattle.file_verbs.specs.Connections.{entry, connector, name_of, is_open, May}
+use Rattle.file_verbs.specs.Does.{Does, step_of}
 
 -- the tests that passed
 pub unless_none : (b : Bool) (status : Status) → unless b status ≡ None → b ≡ true

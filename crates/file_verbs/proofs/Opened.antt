@@ -1,9 +1,8 @@
 -- OPEN, from what the store tells of a file to the files after it.
-use Rattle.std.proofs.Common.{◌≡◌, Bool, true, false, cond, ℕ, List, Option, Some, None, refl, sym, ◌∙◌, ap, subst, if◌then◌else◌}
-use Rattle.records.specs.declared.answer.Presence.{Presence}
+use Rattle.std.proofs.Common.{◌≡◌, Bool, true, false, cond, Option, Some, None, refl, sym, ◌∙◌, ap, subst}
 use Rattle.records.specs.declared.answer.Presence.TheVariants.{Absent, Different, Present}
 use Rattle.records.specs.declared.select.Select.{Select}
-use Rattle.std.specs.Prelude.{Result, Ok, Err}
+use Rattle.std.specs.Prelude.{Result, Ok}
 use Rattle.station.specs.declared.device.Device.{Ghosts as Devices}
 use Rattle.records.specs.declared.fault.StoreFault.{StoreFault}
 use Rattle.records.specs.declared.keeps.Keeps.{Ghosts as Stores}
@@ -16,7 +15,7 @@ use Rattle.records.specs.declared.verb.OpenMode.TheVariants.{Input, Output, Inpu
 use Rattle.records.specs.declared.verb.Verb.TheVariants.{Open}
 use Rattle.records.specs.Spec.{Spec, same_spec}
 use Rattle.records.specs.Files.{File, Files, file_at, with_file, empty_file, presence}
-use Rattle.records.specs.Stores.{Has, spec_of}
+use Rattle.records.specs.Stores.{spec_of}
 use Rattle.records.specs.Connector.{Connector, Area, entry_of}
 use Rattle.records.specs.Steps.{Step, step, open_there, open_absent, ends, opens}
 use Rattle.records.proofs.Maps.{specs_same}

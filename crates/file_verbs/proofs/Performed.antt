@@ -4,8 +4,7 @@ use Rattle.std.specs.Prelude.{◌||◌, ◌⊎◌, Result, Ok, Err, OnOk, OnErr,
 use Rattle.std.specs.List.{AllByRecursion}
 use Rattle.std.proofs.lemmas.List.{append-nil, map-set, get_or-map}
 use Rattle.std.proofs.Math.Seq.{map-set_same}
-use Rattle.station.specs.Disk.{Disk, Sector, IsCrashImage}
-use Rattle.station.specs.State.{State}
+use Rattle.station.specs.Disk.{Sector, IsCrashImage}
 use Rattle.station.specs.History.{Through}
 use Rattle.station.specs.Blocks.{CrashLeaves}
 use Rattle.station.specs.declared.device.Device.{Ghosts as Devices}
@@ -14,12 +13,11 @@ use Rattle.records.specs.declared.keeps.Keeps.{Ghosts as Stores}
 use Rattle.records.specs.declared.select.Select.{Select}
 use Rattle.records.specs.declared.status.Status.{Status}
 use Rattle.records.specs.declared.status.Status.TheVariants.{AlreadyOpen}
-use Rattle.records.specs.declared.key.KeyOfReference.{KeyOfReference}
 use Rattle.records.specs.declared.verb.OpenMode.{OpenMode}
 use Rattle.records.specs.declared.verb.Verb.{Verb}
 use Rattle.records.specs.declared.verb.Verb.TheVariants.{Open, Close, ReadNext, Read, Write, Rewrite, Delete, Start}
 use Rattle.records.specs.Rows.{same_bytes}
-use Rattle.records.specs.Files.{File, Files, file_at, with_file, empty_file}
+use Rattle.records.specs.Files.{File, Files, file_at, with_file}
 use Rattle.records.specs.Stores.{Either}
 use Rattle.records.specs.Calls.{StandsFor, Changes, Turns, Rests}
 use Rattle.records.specs.Tests.{barred, unless, is_name_open}
@@ -29,7 +27,7 @@ use Rattle.records.specs.Steps.{Step, step}
 use Rattle.records.specs.FileStep.{entry_at, connector_at, no_entry, barred_at, own_step, file_step, is_close, IsStep}
 use Rattle.records.proofs.Maps.{others_stay, same_itself}
 use Rattle.file_verbs.specs.declared.linked.Linked.{Linked}
-use Rattle.file_verbs.specs.Links.{IsLinked, There, Gone, Ends}
+use Rattle.file_verbs.specs.Links.{IsLinked, Ends}
 use Rattle.file_verbs.specs.Connections.{entry, connector, entries_of, connectors_of, is_open, name_of, OpenLinked, AllApart, AreLinked, May}
 use Rattle.file_verbs.proofs.Stepped as stepped
 use Rattle.file_verbs.proofs.Doing.{unless_none, same_absent, own_spec, change_open, next_open, read_open, start_open, write_open}

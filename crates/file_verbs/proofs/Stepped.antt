@@ -1,21 +1,18 @@
 -- The files after a step: those before, or those with another file under the own name.
-use Rattle.std.proofs.Common.{◌≡◌, ℕ, Bool, true, false, cond, List, Option, Some, None, refl, sym, ◌∙◌, ap, if◌then◌else◌}
+use Rattle.std.proofs.Common.{◌≡◌, ℕ, Bool, true, false, cond, List, Option, Some, None, refl, ◌∙◌, if◌then◌else◌}
 use Rattle.std.specs.Prelude.{◌||◌, ◌+◌, filter}
-use Rattle.std.specs.List.{list_any}
 use Rattle.std.proofs.lemmas.Bool.{cond_both}
 use Rattle.records.specs.declared.answer.Outcome.TheVariants.{Taken}
 use Rattle.records.specs.declared.key.KeyOfReference.{KeyOfReference}
 use Rattle.records.specs.declared.verb.OpenMode.{OpenMode}
 use Rattle.records.specs.declared.verb.OpenMode.TheVariants.{Input, Output, InputOutput, Extend}
-use Rattle.records.specs.declared.verb.Relation.TheVariants.{Equal}
-use Rattle.records.specs.declared.verb.Verb.{Verb}
-use Rattle.records.specs.declared.verb.Verb.TheVariants.{Open, Close, ReadNext, Read, Write, Rewrite, Delete, Start}
-use Rattle.records.specs.Spec.{Spec, same_spec}
+use Rattle.records.specs.declared.verb.Verb.TheVariants.{Open, Write, Rewrite, Delete}
+use Rattle.records.specs.Spec.{same_spec}
 use Rattle.records.specs.Rows.{Row, Pair, named_pair}
 use Rattle.records.specs.Order.{Bound}
 use Rattle.records.specs.Files.{File, Files, with_file, empty_file}
-use Rattle.records.specs.Changes.{Changed, inserted, replaced, replaced_row, removed, removed_row, has_prime, new_row, with_row, is_taken, is_duplicate, unchanged, done, row_at, without, in_place, changes, changed_row}
-use Rattle.records.specs.Stores.{is_change, files_after, key_length}
+use Rattle.records.specs.Changes.{Changed, inserted, replaced, replaced_row, removed, removed_row, has_prime, new_row, with_row, is_taken, is_duplicate, unchanged, done, row_at, without, changes}
+use Rattle.records.specs.Stores.{is_change, files_after}
 use Rattle.records.specs.Connector.{Entry, Connector, Area}
 use Rattle.records.specs.Steps as steps
 use Rattle.records.specs.Steps.{Step}

@@ -1,8 +1,7 @@
 -- READ and START, from what the store tells to the step of the table.
-use Rattle.std.proofs.Common.{◌≡◌, ◌<◌, ℕ, Bool, true, false, ◌&&◌, List, [], length, take, drop, Option, Some, None, refl, sym, ◌∙◌, ap, subst, if◌then◌else◌}
+use Rattle.std.proofs.Common.{◌≡◌, ℕ, Bool, true, false, ◌&&◌, List, [], take, drop, Option, Some, None, refl, sym, ◌∙◌, ap, if◌then◌else◌}
 use Rattle.std.specs.Prelude.{unwrap_or, is_some}
 use Rattle.std.specs.Option.{option_map}
-use Rattle.records.specs.declared.file_spec.Organization.{Organization}
 use Rattle.records.specs.declared.key.KeyOfReference.{KeyOfReference}
 use Rattle.records.specs.declared.key.Side.{Side}
 use Rattle.records.specs.declared.key.Side.TheVariants.{From, After}
@@ -13,17 +12,16 @@ use Rattle.records.specs.declared.status.Status.TheVariants.{Success, SuccessDup
 use Rattle.records.specs.declared.verb.Relation.{Relation}
 use Rattle.records.specs.declared.verb.Relation.TheVariants.{Equal}
 use Rattle.records.specs.declared.verb.Verb.TheVariants.{ReadNext, Read, Start}
-use Rattle.records.specs.Spec.{Spec}
-use Rattle.records.specs.Rows.{Row, Pair, part, place_of, pair_under, prime_pair, named_pair}
+use Rattle.records.specs.Rows.{Row, Pair, part, place_of, pair_under, named_pair}
 use Rattle.records.specs.Order.{Bound, sought, found, is_repeated}
 use Rattle.records.specs.Files.{File, Files, file_at}
 use Rattle.records.specs.Stores.{Has, IsKey, key_length, spec_of, bound, record_of}
 use Rattle.records.specs.Connector.{Connector, Area, entry_of}
-use Rattle.records.specs.Steps.{Step, step, rows_in, next_from, read_next, read_found, stands_at, takes, fitting, first_fitting, side_of, named, is_relative, is_too_long, number_after, ends_nowhere}
+use Rattle.records.specs.Steps.{Step, step, rows_in, next_from, read_next, read_found, stands_at, takes, fitting, first_fitting, side_of, named, is_relative, is_too_long, ends_nowhere}
 use Rattle.records.specs.FileStep.{area}
 use Rattle.file_verbs.specs.declared.link.Link.{Link}
-use Rattle.file_verbs.specs.Links.{IsLinked, There, Gone, Ends, IsTold, if_fitting, fitting_row, connector_of}
-use Rattle.file_verbs.proofs.Told.{told_no_row, told_row, pair_is, prime_is, relative_is}
+use Rattle.file_verbs.specs.Links.{IsLinked, There, Gone, Ends, if_fitting, fitting_row, connector_of}
+use Rattle.file_verbs.proofs.Told.{pair_is, prime_is, relative_is}
 
 -- which row was told of
 pub no_row : {A B : Type 0} (f : A → B) (o : Option A) → None ≡ option_map f o → o ≡ None

@@ -1,8 +1,8 @@
 -- What the store tells of a row that was sought, and the row that fits.
-use Rattle.std.proofs.Common.{◌≡◌, ◌≤◌, ◌+◌, ◌<◌, Bool, true, false, ◌&&◌, cond, ℕ, zero, suc, ◌==◌, List, [], ◌∷◌, length, take, drop, refl, sym, ◌∙◌, ap, subst, arith, nat_le}
+use Rattle.std.proofs.Common.{◌≡◌, ◌≤◌, Bool, true, false, ◌&&◌, cond, ℕ, zero, suc, ◌==◌, List, [], length, take, drop, refl, sym, ◌∙◌, ap, subst, arith, nat_le}
 use Rattle.std.specs.Prelude.{Option, Some, None, unwrap_or}
 use Rattle.std.specs.Option.{option_map}
-use Rattle.std.proofs.lemmas.Bool.{eqb-true, cond-true, cond-false}
+use Rattle.std.proofs.lemmas.Bool.{eqb-true}
 use Rattle.records.specs.declared.file_spec.AlternateKey.{AlternateKey}
 use Rattle.records.specs.declared.file_spec.Organization.{Organization}
 use Rattle.records.specs.declared.file_spec.Organization.TheVariants.{Sequential, Relative, Indexed}
@@ -15,7 +15,6 @@ use Rattle.records.specs.Rows.{Row, Pair, part, place_of, pair_under, numbered, 
 use Rattle.records.specs.Order.{Bound, sought, found}
 use Rattle.records.specs.declared.key.Side.{Side}
 use Rattle.records.specs.Stores.{IsKey, key_length, record_of, bound}
-use Rattle.records.specs.Connector.{Area}
 use Rattle.records.specs.Steps.{named, if_fits, side_of, is_relative}
 use Rattle.records.specs.FileStep.{area}
 use Rattle.file_verbs.specs.Links.{IsTold, if_fitting, fitting_row, number_of}

@@ -1,5 +1,5 @@
 -- What a verb does on its file, where no test of the connectors bars it.
-use Rattle.std.specs.Prelude.{◌≡◌, Bool, false, List, Result, IfOk, OnOk, OnErr}
+use Rattle.std.specs.Prelude.{◌≡◌, false, Result, IfOk, OnOk, OnErr}
 use Rattle.station.specs.declared.device.Device.{Ghosts as Devices}
 use Rattle.records.specs.declared.fault.StoreFault.{StoreFault}
 use Rattle.records.specs.declared.keeps.Keeps.{Ghosts as Stores}

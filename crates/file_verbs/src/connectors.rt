@@ -67,10 +67,15 @@ impl<T: Store> FileVerbs for Connectors<T> {
 }
 
 impl<T: Store> Connectors<T> {
-    /// Connectors to no files.
+    ghost use Rattle.station.specs.Disk.{Disk};
+    ghost use Rattle.file_verbs.specs.Over.{IsOver, IsWider};
+
+    /// Connectors to no files. They stand for the files that the store stands for.
     pub fn new(alloc: Global, store: T) -> Connectors<T>
-        ensures entries { entries_of result.links.items ≡ [] }
-        ensures store { result.store ≡ store }
+        ensures entries { ⟦<Connectors<T> as FileVerbs>⟧.entries result ≡ [] }
+        ensures connectors { ⟦<Connectors<T> as FileVerbs>⟧.connectors result ≡ [] }
+        ensures over { IsOver T.Keeps ⟦<Connectors<T> as Keeps>⟧ store result }
+        ensures stands { (disk : Disk) (files : Files) → T.stands store disk files → ⟦<Connectors<T> as Keeps>⟧.stands result disk files }
     {
         Connectors {
             alloc,
@@ -79,13 +84,12 @@ impl<T: Store> Connectors<T> {
         }
     }
 
-    /// Makes a connector to one more file, which is closed, and all the room that it needs from then on.
+    /// Makes a connector to one more file, which is closed, and all the room that it needs from then on. A refusal changes nothing.
     pub fn add(&mut self, select: Select) -> Result<(), StoreFault>
-        ensures entries { OnOk result (entries_of self.new.links.items ≡ entries_of self.old.links.items ++ entry_of select ∷ []) }
-        ensures connectors { OnOk result (connectors_of self.new.links.items ≡ connectors_of self.old.links.items ++ closed ∷ []) }
-        ensures linked { OnOk result ((files : Files) → AreLinked files self.old.links.items → AreLinked files self.new.links.items) }
-        ensures store { self.new.store ≡ self.old.store }
-        ensures same { OnErr result (self.new.links.items ≡ self.old.links.items) }
+        ensures entries { OnOk result (⟦<Connectors<T> as FileVerbs>⟧.entries self.new ≡ ⟦<Connectors<T> as FileVerbs>⟧.entries self.old ++ entry_of select ∷ []) }
+        ensures connectors { OnOk result (⟦<Connectors<T> as FileVerbs>⟧.connectors self.new ≡ ⟦<Connectors<T> as FileVerbs>⟧.connectors self.old ++ closed ∷ []) }
+        ensures wider { IsWider ⟦<Connectors<T> as Keeps>⟧ self.old self.new }
+        ensures same { OnErr result ((⟦<Connectors<T> as FileVerbs>⟧.entries self.new ≡ ⟦<Connectors<T> as FileVerbs>⟧.entries self.old) × (⟦<Connectors<T> as FileVerbs>⟧.connectors self.new ≡ ⟦<Connectors<T> as FileVerbs>⟧.connectors self.old)) }
         ensures memory { IsOkUnless result StoreFault.Memory }
     {
         let linked = new_linked(self.alloc, select)?;
@@ -95,10 +99,10 @@ impl<T: Store> Connectors<T> {
 
     /// Whether there is a file of this number which the verb suits, with records of that many bytes.
     pub fn accepts(&self, file: usize, verb: Verb, record_length: usize) -> bool
-        ensures exact { result ≡ is_accepted (entries_of self.now.links.items) file verb record_length }
-        ensures file { result ≡ true → file < length (entries_of self.now.links.items) }
-        ensures verb { result ≡ true → Suits (entry_at (entries_of self.now.links.items) file) verb }
-        ensures record_length { result ≡ true → record_length ≡ (entry_at (entries_of self.now.links.items) file).spec.record_length }
+        ensures exact { result ≡ is_accepted (⟦<Connectors<T> as FileVerbs>⟧.entries self.now) file verb record_length }
+        ensures file { result ≡ true → file < length (⟦<Connectors<T> as FileVerbs>⟧.entries self.now) }
+        ensures verb { result ≡ true → Suits (entry_at (⟦<Connectors<T> as FileVerbs>⟧.entries self.now) file) verb }
+        ensures record_length { result ≡ true → record_length ≡ (entry_at (⟦<Connectors<T> as FileVerbs>⟧.entries self.now) file).spec.record_length }
     {
         if file < self.links.len() {
             let linked = &self.links[file];

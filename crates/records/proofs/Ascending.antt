@@ -1,13 +1,13 @@
 -- Rows ascend, and stay so.
-use Rattle.std.proofs.Common.{◌≡◌, ◌<◌, Bool, true, false, not, ◌||◌, cond, ℕ, zero, suc, List, [], ◌∷◌, length, map, get_or, refl, sym, ◌∙◌, ap, subst, arith}
-use Rattle.std.specs.Prelude.{Option, Some, None, filter}
+use Rattle.std.proofs.Common.{◌≡◌, ◌<◌, Bool, true, false, ◌||◌, cond, ℕ, zero, suc, List, [], ◌∷◌, length, map, get_or, refl, ◌∙◌, ap, arith}
+use Rattle.std.specs.Prelude.{Option, Some, filter}
 use Rattle.std.specs.List.{AllByRecursion, list_any}
 use Rattle.std.specs.List.Sorted.{IsStrictlySortedBy}
-use Rattle.std.specs.Ordering.{is_lt, is_eq, is_gt, nat_cmp, ordering_reverse}
+use Rattle.std.specs.Ordering.{is_lt, is_eq, is_gt, ordering_reverse}
 use Rattle.std.specs.Cmp.{IsTotalOrder}
 use Rattle.std.specs.declared.cmp.Ordering.{Ordering}
 use Rattle.std.specs.declared.cmp.Ordering.TheVariants.{Less, Equal, Greater}
-use Rattle.std.proofs.lemmas.Bool.{cond-true, cond-false, cond_both}
+use Rattle.std.proofs.lemmas.Bool.{cond_both}
 use Rattle.std.proofs.lemmas.Cmp.{then_total, on_total, nat_cmp_total, nat_list_cmp_total, tied_itself}
 use Rattle.std.proofs.lemmas.Map.Keys.{sorted_head, sorted_tail}
 use Rattle.records.specs.declared.file_spec.Organization.{Organization}
@@ -15,7 +15,7 @@ use Rattle.records.specs.declared.key.KeyOfReference.TheVariants.{Prime}
 use Rattle.records.specs.Spec.{Spec}
 use Rattle.records.specs.Rows.{Row, Pair, pair_cmp, prime_pair}
 use Rattle.records.specs.Order.{Bound, is_behind, lesser, least, sought}
-use Rattle.records.specs.Changes.{is_at, row_at, with_row, without}
+use Rattle.records.specs.Changes.{is_at, row_at, with_row}
 use Rattle.records.specs.Laws.{first_of, RowsAscend}
 
 pub pair_total : IsTotalOrder pair_cmp

@@ -1,24 +1,23 @@
 -- The files after a change are files.
-use Rattle.std.proofs.Common.{◌≡◌, ◌<◌, ◌≤◌, ◌+◌, Bool, true, false, not, ◌||◌, ◌&&◌, cond, ℕ, zero, suc, List, [], ◌∷◌, length, map, refl, sym, ◌∙◌, ap, subst, arith}
+use Rattle.std.proofs.Common.{◌≡◌, ◌<◌, ◌≤◌, ◌+◌, Bool, true, false, not, ◌||◌, cond, ℕ, suc, List, [], ◌∷◌, length, map, refl, sym, ◌∙◌, ap, subst, arith}
 use Rattle.std.specs.Prelude.{Option, Some, None, filter, unwrap_or}
 use Rattle.std.specs.List.{AllByRecursion, list_any}
 use Rattle.std.specs.List.Sorted.{IsStrictlySortedBy}
 use Rattle.std.specs.Ordering.{is_lt, is_eq, nat_cmp, ordering_then, ordering_reverse}
 use Rattle.std.specs.declared.cmp.Ordering.{Ordering}
 use Rattle.std.specs.declared.cmp.Ordering.TheVariants.{Less, Equal, Greater}
-use Rattle.std.proofs.lemmas.Bool.{cond-true, cond-false, cond_both}
+use Rattle.std.proofs.lemmas.Bool.{cond_both}
 use Rattle.std.proofs.lemmas.Cmp.{nat_list_cmp_total}
 use Rattle.std.proofs.lemmas.Map.Keys.{sorted_head, sorted_tail}
 use Rattle.records.specs.declared.file_spec.AlternateKey.{AlternateKey}
 use Rattle.records.specs.declared.file_spec.Organization.{Organization}
 use Rattle.records.specs.declared.file_spec.Organization.TheVariants.{Sequential, Relative, Indexed}
-use Rattle.records.specs.declared.answer.Outcome.TheVariants.{Taken, Missing, Done}
+use Rattle.records.specs.declared.answer.Outcome.TheVariants.{Taken}
 use Rattle.records.specs.Spec.{Spec, is_spec, is_name}
 use Rattle.records.specs.Rows.{Row, Pair, bytes_cmp, same_bytes, pair_cmp, prime_pair, named_pair}
 use Rattle.records.specs.Files.{File, Files, Named, IsByte, IsArrival, IsRowNumber, IsRow, IsFile, IsNamed, AreFiles, names, empty_file, file_at, with_file}
 use Rattle.records.specs.Changes.{Changed, is_at, row_at, with_row, in_place, without, inserted, has_prime, new_row, new_number, is_taken, is_duplicate, unchanged, done, replaced, replaced_row, removed, removed_row, changes, changed_row, arrivals_after}
 use Rattle.records.specs.Stores.{IsNumber, is_change, files_after}
-use Rattle.records.specs.Laws.{RowsAscend}
 use Rattle.records.proofs.Ascending.{all_filter, or_false, all_with_row, ascend_with_row, ascend_filter}
 use Rattle.records.proofs.Maps.{bytes_same}
 

@@ -1,4 +1,4 @@
-use Rattle.std.proofs.Common.{◌≡◌, true, false, refl, sym, ◌∙◌, ap, subst, List, ℕ, inl, inr}
+use Rattle.std.proofs.Common.{true, refl, sym, ◌∙◌, ap, subst, inl, inr}
 use Rattle.std.specs.Prelude.{Ok, Some}
 use Rattle.records.specs.declared.status.Status.TheVariants.{SuccessAbsent, FileMissing, FileDiffers}
 use Rattle.records.specs.declared.verb.OpenMode.{OpenMode}

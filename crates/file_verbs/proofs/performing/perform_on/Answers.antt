@@ -1,4 +1,4 @@
-use Rattle.std.proofs.Common.{◌≡◌, refl, sym, ap, subst, ℕ}
+use Rattle.std.proofs.Common.{refl, ap, subst, ℕ}
 use Rattle.records.specs.declared.verb.Verb.TheVariants.{Open, ReadNext, Read, Write, Rewrite, Delete, Start}
 use Rattle.records.specs.FileStep.{area}
 use Rattle.file_verbs.specs.Connections.{May}

@@ -1,10 +1,8 @@
-use Rattle.std.proofs.Common.{rules, ◌≡◌, true, false, refl, sym, ◌∙◌, ap, subst, List, ℕ, take, drop}
+use Rattle.std.proofs.Common.{◌≡◌, refl, ◌∙◌, ap, subst}
 use Rattle.std.specs.Prelude.{Some, None, Option}
 use Rattle.std.proofs.lemmas.List.{with_items_is}
 use Rattle.std.specs.Vec.{with_items}
 use Rattle.records.specs.declared.status.Status.TheVariants.{NotFound, Success}
-use Rattle.records.specs.declared.key.Side.TheVariants.{From}
-use Rattle.records.specs.Rows.{part, place_of}
 use Rattle.records.specs.declared.answer.Found.{Found}
 use Rattle.records.specs.Stores.{spec_of}
 use Rattle.file_verbs.specs.Links.{IsTold, connector_of}

@@ -1,4 +1,4 @@
-use Rattle.std.proofs.Common.{◌≡◌, true, false, refl, sym, ◌∙◌, ap, subst, List, ℕ}
+use Rattle.std.proofs.Common.{◌≡◌, false, refl, sym, ◌∙◌, ap, subst}
 use Rattle.records.specs.Files.{Files}
 use Rattle.records.specs.Stores.{spec_of}
 use Rattle.records.specs.Calls.{Turns}

@@ -1,5 +1,4 @@
-use Rattle.std.proofs.Common.{◌≡◌, true, false, refl, sym, ◌∙◌, ap, List, ℕ}
-use Rattle.std.specs.Prelude.{None, Some}
+use Rattle.std.proofs.Common.{◌≡◌, true, false, sym, ◌∙◌, ap, List, ℕ}
 use Rattle.records.specs.Rows.{Pair}
 use Rattle.records.specs.Stores.{spec_of}
 use Rattle.records.specs.Steps.{named, if_fits}

@@ -1,6 +1,5 @@
-use Rattle.std.proofs.Common.{◌≡◌, true, false, refl, sym, ◌∙◌, ap, subst, List, ℕ}
+use Rattle.std.proofs.Common.{◌≡◌, false, ◌∙◌, ap, subst}
 use Rattle.records.specs.Files.{Files}
-use Rattle.records.specs.Stores.{spec_of}
 use Rattle.records.specs.Calls.{Turns}
 use Rattle.std.specs.Prelude.{Result, Err}
 use Rattle.std.proofs.lemmas.Result.{err_from_is_err_and}

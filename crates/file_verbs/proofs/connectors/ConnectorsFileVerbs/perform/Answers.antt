@@ -1,17 +1,15 @@
-use Rattle.std.proofs.Common.{◌≡◌, ◌<◌, ◌≤◌, ◌||◌, Bool, true, false, None, Some, length, get_or, List, ℕ, refl, sym, ◌∙◌, ap, subst, inl, inr, arith}
+use Rattle.std.proofs.Common.{◌≡◌, ◌<◌, None, Some, List, ℕ, refl, sym, ◌∙◌, ap, subst}
 use Rattle.std.specs.Prelude.{is_some, slice_set}
-use Rattle.records.specs.declared.status.Status.{Status}
 use Rattle.records.specs.declared.status.Status.TheVariants.{Success}
 use Rattle.records.specs.declared.verb.Verb.{Verb}
-use Rattle.records.specs.declared.verb.Verb.TheVariants.{Close}
 use Rattle.records.specs.Calls.{StandsFor}
 use Rattle.records.specs.Connector.{Entry, Connector}
 use Rattle.records.specs.Steps.{Step, step}
 use Rattle.records.specs.FileStep.{area, barred_at, is_close, makes_file, file_step, Suits, IsStep}
-use Rattle.file_verbs.specs.Connections.{entry, connector, entries_of, connectors_of, name_of, is_open, OpenLinked}
+use Rattle.file_verbs.specs.Connections.{entry, connector, entries_of, connectors_of, name_of, OpenLinked}
 use Rattle.file_verbs.specs.declared.linked.Linked.{Linked}
 use Rattle.file_verbs.specs.Links.{Ends}
-use Rattle.file_verbs.specs.Does.{IsSame, step_of}
+use Rattle.file_verbs.specs.Does.{step_of}
 use Rattle.file_verbs.proofs.Connected.{linked_at}
 use Rattle.file_verbs.proofs.Performed.{entry_here, entries_same, barred_step, own_step_is, barred_here, may_of, is_step, barred_is_step, same_connectors, still_all, all_after, still_of, shut_of, still_turns, changes_over, turns_over, rests_over, not_close, needs_one, length_entries, ok_map, err_both, if_ok, known_step}
 use Rattle.file_verbs.proofs.Doing.{err_map}
