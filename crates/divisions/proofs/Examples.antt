@@ -15,6 +15,7 @@ use Rattle.source_tree.specs.declared.program.Program.{Program}
 use Rattle.source_tree.proofs.Examples.{display, stop_run, hello, hello_bytes}
 use Rattle.tokens.specs.Reserved.{same_word}
 use Rattle.grammar.specs.Reading as read
+use Rattle.expressions.specs.Literals as literals
 use Rattle.statements.specs.Display as display_rule
 use Rattle.statements.specs.StopRun as stop_run_rule
 use Rattle.statements.specs.Reading as statements
@@ -56,7 +57,7 @@ show_tokens line =
 
 -- every step of reading, so that a program's tree is computed
 unfoldable computing : Unit {0}
-unfolding r.program r.identification r.procedure r.body r.opening r.sentences r.any_sentences r.paragraph r.paragraphs r.any_paragraphs r.ending r.end_program same_word read.after_word read.past_word read.expect read.skip read.left_out read.period read.heading read.nothing read.here read.one_token read.name read.literal read.several_from read.several read.any display_rule.after_no_advancing display_rule.display_reader stop_run_rule.stop_run_reader statements.statements statements.verb statements.line statements.statement statements.sentence
+unfolding r.program r.identification r.procedure r.body r.opening r.sentences r.any_sentences r.paragraph r.paragraphs r.any_paragraphs r.ending r.end_program same_word read.after_word read.past_word read.expect read.skip read.left_out read.period read.heading read.nothing read.here read.one_token read.name literals.literal_reader literals.all_literal_reader read.several_from read.several read.any display_rule.after_no_advancing display_rule.display_reader stop_run_rule.stop_run_reader statements.statements statements.verb statements.line statements.statement statements.sentence
 computing = tt
 
 -- the six lines of HELLO

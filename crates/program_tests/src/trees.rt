@@ -12,7 +12,7 @@ const HEADER: &str =
     "       IDENTIFICATION DIVISION.\n       PROGRAM-ID. HELLO.\n       PROCEDURE DIVISION.\n";
 
 /// What comes after the three lines of `HEADER`, and its tree as `shape` writes it.
-const TREES: [(&str, &str); 18] = [
+const TREES: [(&str, &str); 20] = [
     // HELLO in its six lines, with END PROGRAM, and with another name there
     (
         "       MAIN-PARA.\n           DISPLAY \"HELLO\".\n           STOP RUN.\n",
@@ -70,6 +70,15 @@ const TREES: [(&str, &str); 18] = [
         "           display 1 no advancing stop run.\n",
         "HELLO|.D1-@4:12S@4:35",
     ),
+    // figurative constants, in singular and plural, and ALL with a literal
+    (
+        "           DISPLAY ZERO ZEROS ZEROES SPACE SPACES QUOTE QUOTES.\n",
+        "HELLO|.D7+@4:12",
+    ),
+    (
+        "           DISPLAY HIGH-VALUES LOW-VALUE ALL \"AB\" NO ADVANCING.\n",
+        "HELLO|.D3-@4:12",
+    ),
     // PERFORM with statements in it, and in one another: each END-PERFORM ends the innermost
     (
         "           PERFORM DISPLAY 1 DISPLAY 2 END-PERFORM STOP RUN.\n",
@@ -86,7 +95,7 @@ const TREES: [(&str, &str); 18] = [
 ];
 
 /// What comes after the three lines of `HEADER`, and the fault's number, line and column.
-const FAULTS: [(&str, u8, u32, u8); 24] = [
+const FAULTS: [(&str, u8, u32, u8); 26] = [
     // nothing after PROCEDURE DIVISION. : at the last token
     ("", 30, 3, 26),
     // a missing period at the end
@@ -102,6 +111,8 @@ const FAULTS: [(&str, u8, u32, u8); 24] = [
     ("           RUN.\n", 30, 4, 12),
     ("           DISPLAY.\n", 30, 4, 19),
     ("           STOP.\n", 30, 4, 16),
+    ("           DISPLAY ALL.\n", 30, 4, 23),
+    ("           DISPLAY ALL 5.\n", 30, 4, 24),
     ("           DISPLAY 1 WITH.\n", 30, 4, 22),
     ("           DISPLAY 1 NO.\n", 30, 4, 22),
     // a period that is missing between sentences and a paragraph, and one too many

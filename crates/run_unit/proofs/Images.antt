@@ -25,7 +25,7 @@ use Rattle.code_image.specs.declared.code.Code.{Code}
 use Rattle.code_image.specs.Spelling.{spelling, HasSpelling}
 use Rattle.code_image.specs.Reading.{code_at}
 use Rattle.code_image.specs.Table.{Runs}
-use Rattle.run_unit.specs.Images.{IsImageOf, IsImage, RefusesImage, HasRun, MeansAs}
+use Rattle.run_unit.specs.Images.{IsImageOf, IsImage, RefusesImage, MeansAs}
 use Rattle.run_unit.proofs.Stages.{value}
 
 -- what `spelling_law` says

@@ -7,6 +7,8 @@ use Rattle.lexical.specs.declared.number.Sign.TheVariants as sign
 use Rattle.source_tree.specs.declared.literal.Figurative.TheVariants.{Space, Quote}
 use Rattle.source_tree.specs.declared.literal.LiteralValue.TheVariants.{Numeric, Nonnumeric, Figurative, All}
 use Rattle.source_tree.specs.declared.literal.Literal.{Literal}
+use Rattle.source_tree.specs.declared.performing.Performed.TheVariants.{Statements}
+use Rattle.source_tree.specs.declared.performing.Turns.TheVariants.{Once}
 use Rattle.source_tree.specs.declared.text.Text.TheVariants as text_as
 use Rattle.source_tree.specs.declared.ending.Ending.TheVariants as ending
 use Rattle.source_tree.specs.declared.statement.Verb.TheVariants as verb
@@ -35,6 +37,10 @@ display place operands advancing = roll-Statement (record { place = place; verb 
 
 abbrev pub stop_run : Place → Statement
 stop_run place = roll-Statement (record { place = place; verb = verb.Ending ending.StopRun })
+
+-- PERFORM with these statements
+abbrev pub perform : Place → List Statement → Statement
+perform place inside = roll-Statement (record { place = place; verb = verb.Performing (record { performed = Statements inside; turns = Once }) })
 
 -- with this budget, on 30 July 1926
 abbrev with : ℕ → Given
@@ -110,6 +116,19 @@ in_order : meaning (plain ((display (at 1 12) (text (65 ∷ []) ∷ []) false �
     ≡ record { events = map Shown (65 ∷ 66 ∷ []); end = Stopped }
 unfolding out-Statement roll-Statement denote.Hole.Carrier.out denote.Hole.Carrier.roll
 in_order = refl
+
+-- PERFORM DISPLAY "A" PERFORM DISPLAY "B" END-PERFORM END-PERFORM: each of the four uses one of the budget
+abbrev pub nested : Program
+nested = plain ((perform (at 1 12) (display (at 1 20) (text (65 ∷ []) ∷ []) false ∷ perform (at 2 12) (display (at 2 20) (text (66 ∷ []) ∷ []) false ∷ []) ∷ []) ∷ []) ∷ [])
+
+nested_with_four : meaning nested 4 ≡ record { events = map Shown (65 ∷ 66 ∷ []); end = Stopped }
+unfolding out-Statement roll-Statement denote.Hole.Carrier.out denote.Hole.Carrier.roll Rattle.source_tree.specs.declared.statement.Statement.TheBlock.shown-the_row-Statement-0 denote.Hole.Carrier.shown denote.Hole.Carrier.hidden
+nested_with_four = refl
+
+-- the inner PERFORM has used the third, and none is left for what stands in it
+nested_with_three : meaning nested 3 ≡ record { events = map Shown (65 ∷ []); end = Budget }
+unfolding out-Statement roll-Statement denote.Hole.Carrier.out denote.Hole.Carrier.roll Rattle.source_tree.specs.declared.statement.Statement.TheBlock.shown-the_row-Statement-0 denote.Hole.Carrier.shown denote.Hole.Carrier.hidden
+nested_with_three = refl
 
 -- a program without paragraphs has stopped
 nothing_to_do : meaning (plain []) 0 ≡ record { events = []; end = Stopped }

@@ -1,5 +1,5 @@
 -- Statements in one another, to a depth, and sentences.
-use Rattle.std.proofs.Common.{◌<◌, ℕ, zero, suc, length, refl, subst, arith}
+use Rattle.std.proofs.Common.{ℕ, zero, suc, length, refl, subst, arith}
 use Rattle.grammar.specs.Reading as read
 use Rattle.grammar.specs.Reading.{Outcome, Parser}
 use Rattle.grammar.specs.declared.fault.Halt.TheVariants.{TooDeep}

@@ -1,19 +1,17 @@
 -- A statement by its verb: one line a verb.
-use Rattle.std.proofs.Common.{◌≡◌, ◌<◌, ℕ, true, List, length, Option, None, Some, refl, sym, ap, ◌∙◌, subst, arith}
+use Rattle.std.proofs.Common.{◌≡◌, ℕ, List, length, Option, None, Some, sym, ap, ◌∙◌, subst, arith}
 use Rattle.std.specs.Prelude.{Ok, is_some}
 use Rattle.tokens.specs.declared.token.Token.{Token}
-use Rattle.source_tree.specs.declared.text.Text.{Text}
 use Rattle.source_tree.specs.declared.text.Text.TheVariants as text
-use Rattle.source_tree.specs.declared.ending.Ending.{Ending}
 use Rattle.source_tree.specs.declared.ending.Ending.TheVariants as ending
 use Rattle.source_tree.specs.declared.statement.Verb.{Verb}
 use Rattle.source_tree.specs.declared.statement.Verb.TheVariants as verb
-use Rattle.source_tree.specs.declared.statement.Statement.{Statement, out-Statement, roll-Statement, out-roll-Statement, roll-out-Statement}
+use Rattle.source_tree.specs.declared.statement.Statement.{Statement, out-Statement, out-roll-Statement, roll-out-Statement}
 use Rattle.grammar.specs.declared.fault.Halt.{Halt}
 use Rattle.grammar.specs.Parts.{Part}
 use Rattle.grammar.specs.Reading as read
 use Rattle.grammar.specs.Reading.{Parser}
-use Rattle.grammar.proofs.Outcomes.{Answers, Reached, step, unstep, value, after, last}
+use Rattle.grammar.proofs.Outcomes.{Answers, Reached, step, unstep, value, last}
 use Rattle.grammar.proofs.Lists.{Sound, Complete, Shrinks, Starts}
 use Rattle.grammar.proofs.Parts.{here_sound, here_complete}
 use Rattle.statements.specs.declared.verb.VerbWord.{VerbWord}

@@ -5,7 +5,7 @@ use Rattle.source_tree.specs.declared.statement.Verb.{Verb}
 use Rattle.source_tree.specs.declared.statement.Verb.TheVariants as verb
 use Rattle.source_tree.specs.declared.statement.Statement.{Statement}
 use Rattle.grammar.specs.Parts.{Part, word}
-use Rattle.grammar.specs.Reading.{Parser, ◌>>=◌, ◌>>◌, pure, expect}
+use Rattle.grammar.specs.Reading.{Parser, ◌>>◌, pure, expect}
 
 -- CONTINUE (COBOL-85, Nucleus, "The CONTINUE statement")
 abbrev pub continuing : Part

@@ -7,9 +7,10 @@ use Rattle.source_tree.specs.declared.statement.Verb.{Verb}
 use Rattle.source_tree.specs.declared.statement.Verb.TheVariants as verb
 use Rattle.source_tree.specs.declared.statement.Statement.{Statement}
 use Rattle.grammar.specs.Parts as g
-use Rattle.grammar.specs.Parts.{Part, ◌then◌, optional, left_out, tested, word, begins_literal}
+use Rattle.grammar.specs.Parts.{Part, ◌then◌, optional, left_out, tested, word}
 use Rattle.grammar.specs.Reading as r
 use Rattle.grammar.specs.Reading.{Parser, ◌>>=◌, ◌>>◌, pure, Words, after_word, past_word, also_after, expect}
+use Rattle.expressions.specs.Literals.{literal, begins_literal, literal_reader}
 
 -- [WITH] NO ADVANCING
 abbrev pub no_advancing : Part
@@ -17,7 +18,7 @@ no_advancing = optional (word w.With) then word w.No then word w.Advancing
 
 -- DISPLAY x... [[WITH] NO ADVANCING] (COBOL-85, Nucleus, "The DISPLAY statement")
 abbrev pub display : List Literal → Bool → Part
-display operands advancing = word w.Display then g.several g.literal (tested begins_literal) operands then left_out no_advancing advancing
+display operands advancing = word w.Display then g.several literal (tested begins_literal) operands then left_out no_advancing advancing
 
 unfoldable pub after_no_advancing : Words
 after_no_advancing i = also_after w.Advancing (after_word w.No (past_word w.With i))
@@ -25,6 +26,6 @@ after_no_advancing i = also_after w.Advancing (after_word w.No (past_word w.With
 unfoldable pub display_reader : Parser (Verb Statement)
 display_reader = do
   expect w.Display
-  shown ← r.several r.literal begins_literal
+  shown ← r.several literal_reader begins_literal
   advancing ← r.left_out after_no_advancing
   pure (verb.Text (text.Display shown advancing))

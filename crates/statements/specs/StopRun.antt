@@ -5,7 +5,7 @@ use Rattle.source_tree.specs.declared.statement.Verb.{Verb}
 use Rattle.source_tree.specs.declared.statement.Verb.TheVariants as verb
 use Rattle.source_tree.specs.declared.statement.Statement.{Statement}
 use Rattle.grammar.specs.Parts.{Part, ◌then◌, word}
-use Rattle.grammar.specs.Reading.{Parser, ◌>>=◌, ◌>>◌, pure, expect}
+use Rattle.grammar.specs.Reading.{Parser, ◌>>◌, pure, expect}
 
 -- STOP RUN (COBOL-85, Nucleus, "The STOP statement")
 abbrev pub stop_run : Part

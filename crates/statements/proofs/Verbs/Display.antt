@@ -8,26 +8,28 @@ use Rattle.source_tree.specs.declared.statement.Verb.TheVariants as verb
 use Rattle.source_tree.specs.declared.statement.Statement.{Statement}
 use Rattle.grammar.specs.declared.fault.Halt.{Halt}
 use Rattle.grammar.specs.Parts as parts
-use Rattle.grammar.specs.Parts.{Part, tested, word, begins_literal}
+use Rattle.grammar.specs.Parts.{Part, tested, word}
 use Rattle.grammar.specs.Reading as read
 use Rattle.grammar.specs.Reading.{after_word, past_word, also_after}
 use Rattle.grammar.proofs.Outcomes.{Answers, Reached, step, unstep, value, last}
 use Rattle.grammar.proofs.Looking.{Finds, finds_word, finds_also, past_does, past_is, tests_tested}
 use Rattle.grammar.proofs.Lists
 use Rattle.grammar.proofs.Lists.{Sound, Complete, Shrinks}
-use Rattle.grammar.proofs.Parts.{literal_sound, literal_complete, literal_shrinks, literal_starts, word_sound, word_complete, word_shrinks, skip_shrinks, left_out_sound, left_out_complete, left_out_shrinks}
+use Rattle.grammar.proofs.Parts.{word_sound, word_complete, word_shrinks, skip_shrinks, left_out_sound, left_out_complete, left_out_shrinks}
+use Rattle.expressions.specs.Literals.{literal, begins_literal, literal_reader}
+use Rattle.expressions.proofs.Exact.Literals.{literal_sound, literal_complete, literal_shrinks, literal_starts}
 use Rattle.statements.specs.declared.verb.VerbWord.TheVariants as v
 use Rattle.statements.specs.Verbs.{verb_at}
 use Rattle.statements.specs.Display.{no_advancing, display, after_no_advancing, display_reader}
 use Rattle.statements.specs.Spelling as g
 use Rattle.statements.proofs.Standing.{stands}
 
-operands_sound : Sound (parts.several parts.literal (tested begins_literal)) (read.several read.literal begins_literal)
-operands_sound = Lists.several_sound parts.literal read.literal (tested begins_literal) begins_literal (tests_tested begins_literal) literal_sound
+operands_sound : Sound (parts.several literal (tested begins_literal)) (read.several literal_reader begins_literal)
+operands_sound = Lists.several_sound literal literal_reader (tested begins_literal) begins_literal (tests_tested begins_literal) literal_sound
 
-operands_complete : {Allowed : Halt → Type 0} → Complete Allowed (parts.several parts.literal (tested begins_literal)) (read.several read.literal begins_literal)
+operands_complete : {Allowed : Halt → Type 0} → Complete Allowed (parts.several literal (tested begins_literal)) (read.several literal_reader begins_literal)
 operands_complete {Allowed = Allowed} =
-    Lists.several_complete parts.literal read.literal (tested begins_literal) begins_literal (tests_tested begins_literal) Allowed (literal_complete {Allowed = Allowed}) literal_shrinks literal_starts
+    Lists.several_complete literal literal_reader (tested begins_literal) begins_literal (tests_tested begins_literal) Allowed (literal_complete {Allowed = Allowed}) literal_shrinks literal_starts
 
 finds_no_advancing : Finds no_advancing after_no_advancing
 unfolding after_no_advancing
@@ -50,7 +52,7 @@ module _ (operands : List Literal) (advancing : Bool) where
   pub display_shrinks : (i rest : List Token) → display operands advancing i rest → length rest < length i
   display_shrinks i rest (i1, verb, (i2, shown, out)) =
       let a = word_shrinks w.Display i i1 verb in
-      let b = Lists.several_shrinks parts.literal (tested begins_literal) literal_shrinks operands i1 i2 shown in
+      let b = Lists.several_shrinks literal (tested begins_literal) literal_shrinks operands i1 i2 shown in
       let c = left_out_shrinks no_advancing_shrinks advancing i2 rest out in omega arith
 
   pub display_stands : (i rest : List Token) → display operands advancing i rest → verb_at i ≡ Some v.Display
@@ -61,14 +63,14 @@ module _ (operands : List Literal) (advancing : Bool) where
   unfolding display_reader
   display_complete i rest (i1, verb, (i2, shown, out)) =
       step (read.expect w.Display i) _ (word_complete w.Display tt i i1 verb)
-      (step (read.several read.literal begins_literal i1) _ (operands_complete operands i1 i2 shown)
+      (step (read.several literal_reader begins_literal i1) _ (operands_complete operands i1 i2 shown)
       (step (read.left_out after_no_advancing i2) _ (left_out_complete finds_no_advancing advancing i2 rest out) (Reached refl)))
 
 pub display_sound : (depth : ℕ) (p : Statement → Part) → Sound (g.verb_line depth p) display_reader
 unfolding display_reader
 display_sound depth p x i rest e =
     unstep (read.expect w.Display i) _ e (λ u i1 is1 e1.
-    unstep (read.several read.literal begins_literal i1) _ e1 (λ shown i2 is2 e2.
+    unstep (read.several literal_reader begins_literal i1) _ e1 (λ shown i2 is2 e2.
     unstep (read.left_out after_no_advancing i2) _ e2 (λ advancing i3 is3 e3.
     subst (λ y. g.verb_line depth p y i rest) (value e3)
     (i1, word_sound w.Display u i i1 is1, (i2, operands_sound shown i1 i2 is2, left_out_sound finds_no_advancing advancing i2 rest (last is3 e3))))))
