@@ -1,5 +1,5 @@
 -- Looking past references and parentheses, and what shows that an operand goes on.
-use Rattle.std.specs.Prelude.{◌||◌, ℕ, zero, suc, Bool, List, [], ◌∷◌, Option, Some, None}
+use Rattle.std.specs.Prelude.{◌||◌, ℕ, zero, suc, Bool, true, false, List, [], ◌∷◌, Option, Some, None}
 use Rattle.tokens.specs.declared.reserved.Reserved.{Reserved}
 use Rattle.tokens.specs.declared.token.Kind.{Kind}
 use Rattle.tokens.specs.declared.token.Kind.TheVariants as k
@@ -11,6 +11,12 @@ use Rattle.expressions.specs.Marks.{sum_in, product_in}
 use Rattle.expressions.specs.Literals.{number_literal_in}
 use Rattle.expressions.specs.References.{reference, reference_reader}
 use Rattle.expressions.specs.Expressions.{begins_nested}
+
+-- the tokens after the first, where it passed a test
+abbrev pub past_first : Bool → Words
+past_first false i = None
+past_first true [] = None
+past_first true (first ∷ more) = Some more
 
 -- ---- references
 
@@ -29,16 +35,16 @@ after_reference_before one i = also_after one (past_reference i)
 
 -- how many parentheses are open after a token
 abbrev pub still_open : Kind → ℕ → ℕ
-still_open k.LeftParenthesis open = suc (suc open)
-still_open k.RightParenthesis open = open
-still_open _ open = suc open
+still_open k.LeftParenthesis unclosed = suc (suc unclosed)
+still_open k.RightParenthesis unclosed = unclosed
+still_open _ unclosed = suc unclosed
 
 -- the tokens after those that close as many parentheses as are open
 unfoldable pub past_closing : List Token → ℕ → Option (List Token)
 past_closing [] zero = Some []
-past_closing [] (suc open) = None
+past_closing [] (suc unclosed) = None
 past_closing (first ∷ more) zero = Some (first ∷ more)
-past_closing (first ∷ more) (suc open) = past_closing more (still_open first.kind open)
+past_closing (first ∷ more) (suc unclosed) = past_closing more (still_open first.kind unclosed)
 
 -- the tokens after a left parenthesis and the right one that closes it
 abbrev pub past_parentheses : Words

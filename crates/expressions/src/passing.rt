@@ -9,20 +9,32 @@ ghost use Rattle.expressions.specs.Looking as spec;
 
 use crate::factors::begins_nested;
 use crate::literals::begins_number;
-use crate::marks::{begins_product_operator, begins_sign, begins_sum_operator};
+use crate::marks::{
+    begins_left, begins_product_operator, begins_right, begins_sign, begins_sum_operator,
+};
 use crate::subscripts::{begins_integer, begins_qualifier};
 use grammar::{Passing, Tokens, after_word, begins_name, past_any, past_several};
 use tokens::{Kind, Reserved, Token};
 
+/// The tokens after the first, where it passed a test.
+fn past_first(tokens: &[Token], passed: bool) -> Option<&[Token]>
+    ensures { option_copied result ≡ spec.past_first passed tokens.now }
+{
+    if !passed {
+        return None;
+    }
+    match tokens {
+        [_, rest @ ..] => Some(rest),
+        [] => None,
+    }
+}
+
 /// The tokens after a user-defined word.
-#[tactic(auto, unfolding(grammar::specs::Reading::name, grammar::specs::Reading::one_token))]
+#[tactic(auto, using(crate::proofs::Past::name_passes))]
 fn past_name(tokens: &[Token]) -> Option<&[Token]>
     ensures { option_copied result ≡ read.past read.name tokens.now }
 {
-    match tokens {
-        [next, rest @ ..] if matches!(next.kind, Kind::Word(_)) => Some(rest),
-        _ => None,
-    }
+    past_first(tokens, begins_name(&Tokens::new(tokens)))
 }
 
 /// The tokens after IN or OF and a name.
@@ -72,10 +84,7 @@ fn past_qualified(tokens: &[Token]) -> Option<&[Token]>
 fn past_integer(tokens: &[Token]) -> Option<&[Token]>
     ensures { option_copied result ≡ read.past subscripts.integer_reader tokens.now }
 {
-    match tokens {
-        [_, rest @ ..] if begins_integer(&Tokens::new(tokens)) => Some(rest),
-        _ => None,
-    }
+    past_first(tokens, begins_integer(&Tokens::new(tokens)))
 }
 
 /// The tokens after a sign and an integer, where a sign stands.
@@ -83,10 +92,12 @@ fn past_integer(tokens: &[Token]) -> Option<&[Token]>
 fn past_adjustment(tokens: &[Token]) -> Option<&[Token]>
     ensures { option_copied result ≡ read.past subscripts.adjustment_reader tokens.now }
 {
-    match tokens {
-        [_, rest @ ..] if begins_sign(&Tokens::new(tokens)) => past_integer(rest),
-        _ => Some(tokens),
+    let signed = begins_sign(&Tokens::new(tokens));
+    if !signed {
+        return Some(tokens);
     }
+    let rest = past_first(tokens, signed)?;
+    past_integer(rest)
 }
 
 struct Subscripts;
@@ -119,16 +130,13 @@ impl Passing for Subscripts {
 fn past_subscripts(tokens: &[Token]) -> Option<&[Token]>
     ensures { option_copied result ≡ read.past references.subscripts_reader tokens.now }
 {
-    match tokens {
-        [next, rest @ ..] if matches!(next.kind, Kind::LeftParenthesis) => {
-            let rest = past_several(&Subscripts, rest)?;
-            match rest {
-                [next, rest @ ..] if matches!(next.kind, Kind::RightParenthesis) => Some(rest),
-                _ => None,
-            }
-        }
-        _ => Some(tokens),
+    let opened = begins_left(&Tokens::new(tokens));
+    if !opened {
+        return Some(tokens);
     }
+    let rest = past_first(tokens, opened)?;
+    let rest = past_several(&Subscripts, rest)?;
+    past_first(rest, begins_right(&Tokens::new(rest)))
 }
 
 /// The tokens after a reference, where one stands.
