@@ -99,7 +99,7 @@ pub fn begins_class(tokens: &[Token]) -> bool
 
 /// The word or symbol that has to come next.
 #[tactic(auto, unfolding(grammar::specs::Reading::one_token))]
-fn test(tokens: &mut Tokens<'_>) -> Result<Test, ReadFault>
+fn read_test(tokens: &mut Tokens<'_>) -> Result<Test, ReadFault>
     ensures { Reads (read.one_token spec.test_in tokens.old) result tokens.new }
 {
     let [next, rest @ ..] = tokens.rest() else {
@@ -196,11 +196,11 @@ fn asked_after(tokens: &mut Tokens<'_>, negated: bool, test: Test) -> Result<Ask
 
 /// IS and NOT, which may be left out, and a relational operator, a sign or a class.
 #[tactic(auto, unfolding(crate::specs::Tests::asked_reader))]
-pub fn asked(tokens: &mut Tokens<'_>) -> Result<Asked, ReadFault>
+pub fn read_asked(tokens: &mut Tokens<'_>) -> Result<Asked, ReadFault>
     ensures { Reads (spec.asked_reader tokens.old) result tokens.new }
 {
     tokens.skip(Reserved::Is);
     let negated = tokens.take(Reserved::Not);
-    let test = test(tokens)?;
+    let test = read_test(tokens)?;
     asked_after(tokens, negated, test)
 }

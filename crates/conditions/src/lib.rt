@@ -8,7 +8,7 @@ mod nested;
 mod plain;
 mod side;
 
-pub use asked::{Asked, Test, asked, begins_test};
+pub use asked::{Asked, Test, begins_test, read_asked};
 pub use condition::condition;
 pub use laws::condition_law;
 pub use plain::goes_on;

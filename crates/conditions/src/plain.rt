@@ -5,7 +5,7 @@ ghost use Rattle.std.specs.Option.{option_copied};
 ghost use Rattle.grammar.specs.Reading.{Reads};
 ghost use Rattle.conditions.specs.Conditions as spec;
 
-use crate::asked::{Asked, asked, begins_class, begins_test};
+use crate::asked::{Asked, begins_class, begins_test, read_asked};
 use crate::side::side;
 use expressions::{begins_operator, past_reference, reference};
 use grammar::{ReadFault, Tokens, begins_name};
@@ -66,7 +66,7 @@ fn of_class(alloc: Global, tokens: &mut Tokens<'_>) -> Result<Condition, ReadFau
     ensures { Reads (spec.class_reader tokens.old) result tokens.new }
 {
     let item = reference(alloc, tokens)?;
-    let asked = asked(tokens)?;
+    let asked = read_asked(tokens)?;
     class_after(tokens, item, asked)
 }
 
@@ -128,7 +128,7 @@ fn compared(alloc: Global, tokens: &mut Tokens<'_>, depth: usize) -> Result<Cond
     ensures { Reads (spec.compared_reader depth tokens.old) result tokens.new }
 {
     let left = side(alloc, tokens, depth)?;
-    let asked = asked(tokens)?;
+    let asked = read_asked(tokens)?;
     compared_after(alloc, tokens, depth, left, asked)
 }
 
