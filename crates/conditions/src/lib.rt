@@ -2,14 +2,14 @@
 #![tactic(auto)]
 
 mod asked;
-mod condition;
+mod compound;
 mod laws;
 mod nested;
 mod plain;
-mod side;
+mod sides;
 
 pub use asked::{Asked, Test, begins_test, read_asked};
-pub use condition::condition;
+pub use compound::condition;
 pub use laws::condition_law;
 pub use plain::goes_on;
-pub use side::side;
+pub use sides::side;

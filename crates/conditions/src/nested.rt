@@ -1,6 +1,6 @@
 //! NOT, parentheses, AND and OR. What holds conditions takes their reader as a parameter, so that each rule is proved by itself.
 
-ghost use Rattle.std.specs.Prelude.{◌≡◌, IfOk};
+ghost use Rattle.std.specs.Prelude.{◌≡◌, ◌∷◌, IfOk};
 ghost use Rattle.tokens.specs.declared.reserved.Reserved.TheVariants as w;
 ghost use Rattle.source_tree.specs.declared.condition.Condition.TheVariants as c;
 ghost use Rattle.grammar.specs.Reading.{Reads};

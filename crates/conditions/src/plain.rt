@@ -6,7 +6,7 @@ ghost use Rattle.grammar.specs.Reading.{Reads};
 ghost use Rattle.conditions.specs.Conditions as spec;
 
 use crate::asked::{Asked, begins_class, begins_test, read_asked};
-use crate::side::side;
+use crate::sides::side;
 use expressions::{begins_operator, past_reference, reference};
 use grammar::{ReadFault, Tokens, begins_name};
 use source_tree::{Condition, Reference, Relation, Side, SignTest};
