@@ -1,7 +1,7 @@
 //! Rows of trees: which source texts have a tree and what it is, and where the others are refused.
 
 use crate::asserted::{same, same_in};
-use divisions::{ParseFault, parse};
+use divisions::{ParseError, parse};
 use source_lines::logical;
 use source_tree::{Ending, Program, Statement, Text, Verb};
 use std::alloc::{AllocError, Global};
@@ -126,7 +126,7 @@ const TEXTS: [(&str, u8, u32, u8); 5] = [
     ),
 ];
 
-fn tree(alloc: Global, source: &str) -> Result<Result<Program, ParseFault>, Fail> {
+fn tree(alloc: Global, source: &str) -> Result<Result<Program, ParseError>, Fail> {
     let tokens = scan(alloc, &logical(alloc, source.as_bytes())?)?;
     Ok(parse(alloc, tokens.as_slice()))
 }
@@ -181,7 +181,7 @@ fn shape(alloc: Global, program: &Program) -> Result<String, AllocError> {
 
 fn fault(alloc: Global, source: &str) -> Result<(u8, u32, u8), Fail> {
     Ok(match tree(alloc, source)? {
-        Err(ParseFault::Refused(fault)) => (
+        Err(ParseError::Refused(fault)) => (
             fault.kind.number(),
             fault.place.line,
             fault.place.column,

@@ -10,8 +10,8 @@ use Rattle.source_tree.specs.declared.program.Program.{Program}
 use Rattle.statements.specs.Spelling.{max_nesting}
 use Rattle.divisions.specs.Spelling.{Spells}
 use Rattle.divisions.specs.Faults.{IsAnswer}
-use Rattle.divisions.specs.declared.fault.ParseFault.{ParseFault}
-use Rattle.divisions.specs.declared.fault.ParseFault.TheVariants as in_tree
+use Rattle.divisions.specs.declared.fault.ParseError.{ParseError}
+use Rattle.divisions.specs.declared.fault.ParseError.TheVariants as in_tree
 use Rattle.run_unit.specs.Faults.{from_tree}
 use Rattle.run_unit.specs.Trees.{IsTreeOf, IsTreeAnswer}
 use Rattle.run_unit.specs.Images.{IsImageAnswer}
@@ -46,7 +46,7 @@ spelled_by format scan source tree is characters found read scanned =
     subst (λ t. Spells max_nesting tree t) same_tokens is.spelled
 
 -- where a tree of the greatest depth spells the tokens, only memory refuses it
-pub tree_refusal : (tree : Program) (e : ParseFault) → IsAnswer max_nesting tree (Err e) → IsTreeAnswer tree (Err (from_tree e))
+pub tree_refusal : (tree : Program) (e : ParseError) → IsAnswer max_nesting tree (Err e) → IsTreeAnswer tree (Err (from_tree e))
 tree_refusal tree in_tree.Memory allowed = tt
 tree_refusal tree (in_tree.Refused fault) allowed = absurd (let deep : 64 < 64 = allowed.1 in omega (arith, deep))
 

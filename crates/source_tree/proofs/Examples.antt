@@ -2,8 +2,8 @@
 use Rattle.std.proofs.Common.{◌≡◌, ℕ, Bool, true, false, List, [], ◌∷◌, ◌++◌, None, Some, refl}
 use Rattle.std.specs.Prelude.{map}
 use Rattle.station.specs.State.{Shown}
-use Rattle.source_tree.specs.declared.place.Place.{Place}
-use Rattle.source_tree.specs.declared.literal.Sign.TheVariants as sign
+use Rattle.lexical.specs.declared.place.Place.{Place}
+use Rattle.lexical.specs.declared.number.Sign.TheVariants as sign
 use Rattle.source_tree.specs.declared.literal.Figurative.TheVariants.{Space, Quote}
 use Rattle.source_tree.specs.declared.literal.LiteralValue.TheVariants.{Numeric, Nonnumeric, Figurative, All}
 use Rattle.source_tree.specs.declared.literal.Literal.{Literal}

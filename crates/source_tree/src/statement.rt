@@ -1,8 +1,8 @@
 //! Statements.
 
 use crate::ending::Ending;
-use crate::place::Place;
 use crate::text::Text;
+use lexical::Place;
 use std::marker::PhantomData;
 
 /// What a statement does, by families. `S` is the statements inside it: in a tree, `Statement`.

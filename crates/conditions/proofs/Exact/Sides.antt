@@ -7,7 +7,7 @@ use Rattle.tokens.specs.declared.reserved.Reserved.TheVariants as w
 use Rattle.tokens.specs.declared.token.Kind.{Kind}
 use Rattle.tokens.specs.declared.token.Kind.TheVariants as k
 use Rattle.tokens.specs.declared.token.Token.{Token}
-use Rattle.source_tree.specs.declared.place.Place.{Place}
+use Rattle.lexical.specs.declared.place.Place.{Place}
 use Rattle.source_tree.specs.declared.name.Name.{Name}
 use Rattle.source_tree.specs.declared.literal.Figurative.{Figurative}
 use Rattle.source_tree.specs.declared.literal.Figurative.TheVariants as figurative
@@ -18,8 +18,9 @@ use Rattle.source_tree.specs.declared.reference.Reference.{Reference}
 use Rattle.source_tree.specs.declared.condition.Side.{Side}
 use Rattle.source_tree.specs.declared.condition.Side.TheVariants as side_as
 use Rattle.grammar.specs.declared.fault.Halt.{Halt}
-use Rattle.grammar.specs.Parts.{Part, word, telling, is_told, named_by, place_in, begins_name}
-use Rattle.grammar.specs.Reading.{Parser, same_word, is_kind, begins_word}
+use Rattle.grammar.specs.Parts.{Part, word, telling, is_told, named_by, begins_name}
+use Rattle.tokens.specs.Reserved.{same_word}
+use Rattle.grammar.specs.Reading.{Parser, is_kind, begins_word}
 use Rattle.grammar.proofs.Outcomes.{Answers, Reached, Deeper, step, unstep, value, last}
 use Rattle.grammar.proofs.Looking.{some_is, none_not, same_words, true_not_false, begins_no_other}
 use Rattle.grammar.proofs.Lists.{Sound, Complete, Shrinks}
@@ -69,9 +70,9 @@ plain_value (Some v) place x e = ap (λ y. Some y.value) (some_is e)
 
 literal_begins : (x : Literal) (i rest : List Token) → literal x i rest → begins_expression i ≡ not (is_text x.value)
 literal_begins x i rest (inl (first, is, tell)) =
-    ap begins_expression is ∙ value_opens first.kind (place_in first) x.value (plain_value (value_by first.kind) (place_in first) x tell)
+    ap begins_expression is ∙ value_opens first.kind first.place x.value (plain_value (value_by first.kind) first.place x tell)
 literal_begins x i rest (inr (bytes, is, (i1, at, (i2, (first, all, kind), told)))) =
-    ap begins_expression (at.0 ∙ all) ∙ ap (λ y. opens y (place_in first)) kind ∙ sym (ap (λ y. not (is_text y.value)) is)
+    ap begins_expression (at.0 ∙ all) ∙ ap (λ y. opens y first.place) kind ∙ sym (ap (λ y. not (is_text y.value)) is)
 
 not_true : (b : Bool) → b ≡ true → not b ≡ false
 not_true b e = ap not e
@@ -137,7 +138,7 @@ kind_no_not (k.Operator operator) place e = refl
 
 pub expression_no_not : (i : List Token) → begins_expression i ≡ true → begins_word w.Not i ≡ false
 expression_no_not [] e = refl
-expression_no_not (first ∷ more) e = kind_no_not first.kind (place_in first) e
+expression_no_not (first ∷ more) e = kind_no_not first.kind first.place e
 
 pub name_no_not : (i : List Token) → begins_name i ≡ true → begins_word w.Not i ≡ false
 name_no_not i e = expression_no_not i (go (begins_name i) e)
@@ -167,7 +168,7 @@ all_not = refl
 
 literal_no_not : (x : Literal) (i rest : List Token) → literal x i rest → begins_word w.Not i ≡ false
 literal_no_not x i rest (inl (first, is, tell)) =
-    ap (begins_word w.Not) is ∙ value_no_not first.kind x.value (plain_value (value_by first.kind) (place_in first) x tell)
+    ap (begins_word w.Not) is ∙ value_no_not first.kind x.value (plain_value (value_by first.kind) first.place x tell)
 literal_no_not x i rest (inr (bytes, is, (i1, at, (i2, all, told)))) = ap (begins_word w.Not) at.0 ∙ begins_no_other w.All w.Not all_not i1 i2 all
 
 pub side_no_not : (depth : ℕ) (x : Side) (i rest : List Token) → g.side depth x i rest → begins_word w.Not i ≡ false

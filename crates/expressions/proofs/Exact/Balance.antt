@@ -18,7 +18,7 @@ use Rattle.source_tree.specs.declared.expression.Operand.TheVariants as operand_
 use Rattle.source_tree.specs.declared.expression.Operator.{Operator}
 use Rattle.source_tree.specs.declared.expression.Expression.{Expression}
 use Rattle.grammar.specs.Parts as parts
-use Rattle.grammar.specs.Parts.{Part, ◌then◌, ◌or◌, without, optional, tested, telling, begins_telling, named_by, place_in, word}
+use Rattle.grammar.specs.Parts.{Part, ◌then◌, ◌or◌, without, optional, tested, telling, begins_telling, named_by, word}
 use Rattle.grammar.proofs.Looking.{some_is, none_not}
 use Rattle.expressions.specs.Marks.{left, right, left_in, left_of, right_in, right_of, sign_in, sign_by, sum_in, sum_by, product_in, product_by}
 use Rattle.expressions.specs.Subscripts as s
@@ -136,7 +136,7 @@ parentheses_passed a i rest (i1, (first, is, tell), (i2, s, closes)) =
 -- ---- references
 
 name_even : (one : Name) → Even (parts.name one)
-name_even one = plain_told parts.name_in (λ first a e. plain_kind (λ kind. named_by kind (place_in first)) refl refl first.kind a e) one
+name_even one = plain_told parts.name_in (λ first a e. plain_kind (λ kind. named_by kind first.place) refl refl first.kind a e) one
 
 qualifier_even : (one : Name) → Even (s.qualifier one)
 qualifier_even one = then_even {p = word w.In or word w.Of} {q = parts.name one} (or_even {p = word w.In} {q = word w.Of} (word_even w.In) (word_even w.Of)) (name_even one)
@@ -146,7 +146,7 @@ qualified_even one i rest (i1, given, groups) unclosed =
     name_even one.name i i1 given unclosed ∙ any_even s.qualifier (tested s.begins_qualifier) qualifier_even one.qualifiers i1 rest groups unclosed
 
 integer_even : (one : Rattle.source_tree.specs.declared.literal.Integer.Integer) → Even (s.integer one)
-integer_even one = plain_told s.integer_in (λ first a e. plain_kind (λ kind. s.integer_by kind (place_in first)) refl refl first.kind a e) one
+integer_even one = plain_told s.integer_in (λ first a e. plain_kind (λ kind. s.integer_by kind first.place) refl refl first.kind a e) one
 
 sign_even : (one : Rattle.expressions.specs.declared.marks.PlusOrMinus.PlusOrMinus) → Even (telling sign_in one)
 sign_even one = plain_told sign_in (λ first a e. plain_kind sign_by refl refl first.kind a e) one
@@ -171,10 +171,10 @@ reference_even one i rest (i1, item, found) unclosed = qualified_even one.item i
 -- ---- literals
 
 plain_even : (one : Literal) → Even (telling l.plain_in one)
-plain_even one = plain_told l.plain_in (λ first a e. plain_kind (λ kind. Rattle.std.specs.Option.option_map (l.literal_at (place_in first)) (l.value_by kind)) refl refl first.kind a e) one
+plain_even one = plain_told l.plain_in (λ first a e. plain_kind (λ kind. Rattle.std.specs.Option.option_map (l.literal_at first.place) (l.value_by kind)) refl refl first.kind a e) one
 
 number_even : (one : Literal) → Even (telling l.number_literal_in one)
-number_even one = plain_told l.number_literal_in (λ first a e. plain_kind (λ kind. Rattle.std.specs.Option.option_map (l.literal_at (place_in first)) (l.number_value_by kind)) refl refl first.kind a e) one
+number_even one = plain_told l.number_literal_in (λ first a e. plain_kind (λ kind. Rattle.std.specs.Option.option_map (l.literal_at first.place) (l.number_value_by kind)) refl refl first.kind a e) one
 
 bytes_even : (one : List ℕ) → Even (telling l.bytes_in one)
 bytes_even one = plain_told l.bytes_in (λ first a e. plain_kind l.bytes_by refl refl first.kind a e) one

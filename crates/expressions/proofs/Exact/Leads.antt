@@ -4,12 +4,12 @@ use Rattle.std.specs.Prelude.{◌⊎◌, ◌||◌}
 use Rattle.tokens.specs.declared.token.Kind.{Kind}
 use Rattle.tokens.specs.declared.token.Kind.TheVariants as k
 use Rattle.tokens.specs.declared.token.Token.{Token}
-use Rattle.source_tree.specs.declared.place.Place.{Place}
+use Rattle.lexical.specs.declared.place.Place.{Place}
 use Rattle.source_tree.specs.declared.expression.Operand.TheVariants as operand_as
 use Rattle.source_tree.specs.declared.expression.Operator.{Operator}
 use Rattle.source_tree.specs.declared.expression.Expression.{Expression}
 use Rattle.grammar.specs.Parts as parts
-use Rattle.grammar.specs.Parts.{Part, ◌then◌, some_of, tested, telling, begins_telling, named_by, name_in, begins_name, place_in}
+use Rattle.grammar.specs.Parts.{Part, ◌then◌, some_of, tested, telling, begins_telling, named_by, name_in, begins_name}
 use Rattle.grammar.specs.Reading.{rest_of}
 use Rattle.grammar.proofs.Lists.{Starts}
 use Rattle.grammar.proofs.Looking.{Finds, true_not_false, finds_also}
@@ -55,7 +55,7 @@ sign_no_name k.RightParenthesis place sign e = refl
 sign_no_name (k.Operator operator) place sign e = refl
 
 sign_name : Apart sign_in name_in
-sign_name first a e = sign_no_name first.kind (place_in first) a e
+sign_name first a e = sign_no_name first.kind first.place a e
 
 left_no_name : (kind : Kind) (place : Place) (u : Unit {0}) → left_of kind ≡ Some u → named_by kind place ≡ None
 left_no_name (k.Reserved _) place u e = refl
@@ -69,7 +69,7 @@ left_no_name k.RightParenthesis place u e = refl
 left_no_name (k.Operator operator) place u e = refl
 
 pub left_name : Apart left_in name_in
-left_name first a e = left_no_name first.kind (place_in first) a e
+left_name first a e = left_no_name first.kind first.place a e
 
 -- ---- what follows
 
