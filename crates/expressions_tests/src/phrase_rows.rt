@@ -4,7 +4,7 @@ use crate::asserted::same_in;
 use crate::read::tokens_of;
 use expressions::{after_reference_before, past_parentheses, past_reference};
 use grammar::{Part, Phrase, ReadFault, Tokens, two_sided};
-use lexical::Place;
+use source_tree::Place;
 use sqlite_items::Items;
 use std::alloc::Global;
 use std::process::Abort;
