@@ -38,8 +38,7 @@ struct FurtherConjunctions<'a, F> {
 }
 
 impl<F: Fn(Global, &mut Tokens<'_>, usize) -> Result<Condition, ReadFault>> Part<Condition>
-    for FurtherSimple<'_, F>
-{
+    for FurtherSimple<'_, F> {
     ghost use Rattle.tokens.specs.declared.reserved.Reserved.TheVariants as w;
     ghost use Rattle.grammar.specs.Reading.{begins_word};
     ghost use Rattle.conditions.specs.Conditions as spec;
@@ -63,8 +62,7 @@ impl<F: Fn(Global, &mut Tokens<'_>, usize) -> Result<Condition, ReadFault>> Part
 }
 
 impl<F: Fn(Global, &mut Tokens<'_>, usize) -> Result<Condition, ReadFault>> Part<Condition>
-    for FurtherConjunctions<'_, F>
-{
+    for FurtherConjunctions<'_, F> {
     ghost use Rattle.tokens.specs.declared.reserved.Reserved.TheVariants as w;
     ghost use Rattle.grammar.specs.Reading.{begins_word};
     ghost use Rattle.conditions.specs.Conditions as spec;
@@ -102,11 +100,7 @@ fn listed(
 }
 
 /// The first condition alone, or all of them with AND between.
-fn all_of(
-    alloc: Global,
-    first: Condition,
-    more: Items<Condition>,
-) -> Result<Condition, AllocError>
+fn all_of(alloc: Global, first: Condition, more: Items<Condition>) -> Result<Condition, AllocError>
     ensures { IfOk result (λ whole. whole ≡ spec.joined c.All first more) }
 {
     if more.is_empty() {
@@ -116,11 +110,7 @@ fn all_of(
 }
 
 /// The first condition alone, or all of them with OR between.
-fn any_of(
-    alloc: Global,
-    first: Condition,
-    more: Items<Condition>,
-) -> Result<Condition, AllocError>
+fn any_of(alloc: Global, first: Condition, more: Items<Condition>) -> Result<Condition, AllocError>
     ensures { IfOk result (λ whole. whole ≡ spec.joined c.Any first more) }
 {
     if more.is_empty() {
@@ -155,7 +145,11 @@ impl<F: Fn(Global, &mut Tokens<'_>, usize) -> Result<Condition, ReadFault>> Cond
         ensures { Reads (spec.disjunction_reader (spec.simple_reader self.now.depth) tokens.old) result tokens.new }
     {
         let first = self.conjunction(tokens)?;
-        let more = any(&FurtherConjunctions { conditions: self }, self.alloc, tokens)?;
+        let more = any(
+            &FurtherConjunctions { conditions: self },
+            self.alloc,
+            tokens,
+        )?;
         Ok(any_of(self.alloc, first, more)?)
     }
 
@@ -204,7 +198,7 @@ fn begins_enclosed(tokens: &Tokens<'_>) -> bool
 }
 
 /// NOT or the parenthesis of a condition comes next.
-fn begins_nested(tokens: &Tokens<'_>) -> bool
+pub fn begins_nested(tokens: &Tokens<'_>) -> bool
     ensures { result ≡ spec.begins_nested tokens.now }
 {
     tokens.at_word(Reserved::Not) || begins_enclosed(tokens)

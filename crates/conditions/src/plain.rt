@@ -153,11 +153,7 @@ fn by_reference(
 
 /// A condition name, a class, a relation or a sign condition, with signs and parentheses to this depth.
 #[tactic(auto, unfolding(crate::specs::Conditions::plain_reader))]
-pub fn plain(
-    alloc: Global,
-    tokens: &mut Tokens<'_>,
-    depth: usize,
-) -> Result<Condition, ReadFault>
+pub fn plain(alloc: Global, tokens: &mut Tokens<'_>, depth: usize) -> Result<Condition, ReadFault>
     ensures { Reads (spec.plain_reader depth tokens.old) result tokens.new }
 {
     if begins_name(tokens) {

@@ -35,7 +35,7 @@ qualifier_passes (first ∷ more) = go (is_word w.In first) refl
   where
     go : (b : Bool) → is_word w.In first ≡ b
         → rest_of (if b then and_then (needed (if b then Some more else None) (first ∷ more)) (λ u. read.name) else and_then (needed (after_word w.Of (first ∷ more)) (first ∷ more)) (λ u. read.name))
-            ≡ past_in_or_of (if b then Some more else None) (first ∷ more)
+        ≡ past_in_or_of (if b then Some more else None) (first ∷ more)
     go true is = refl
     go false is = needed_passes (after_word w.Of (first ∷ more)) (first ∷ more)
 
@@ -90,9 +90,9 @@ pub subscripts_pass : (i : List Token)
 unfolding g.subscripts_reader g.enclosed_subscripts_reader
 subscripts_pass i = past_if (begins_left i) _ _ _ _ (
     past_then (one_token left_in i) _ (λ j. and_past (past_listed j) past_right) (λ u j.
-        past_then (read.several s.subscript_reader s.begins_subscript j) _ past_right (λ found k.
-            pure_passes (one_token right_in k) (λ v. found) ∙ token_passes right_in k)
-        ∙ ap (λ o. and_past o past_right) (several_passes s.subscript_reader s.begins_subscript j))
+    past_then (read.several s.subscript_reader s.begins_subscript j) _ past_right (λ found k.
+    pure_passes (one_token right_in k) (λ v. found) ∙ token_passes right_in k)
+    ∙ ap (λ o. and_past o past_right) (several_passes s.subscript_reader s.begins_subscript j))
     ∙ ap (λ o. and_past o (λ j. and_past (past_listed j) past_right)) (token_passes left_in i)
     ∙ joined (past_first (begins_left i) i))
     refl

@@ -21,7 +21,14 @@ pub fn same_in<T: PartialEq + Debug + Drop>(
 }
 
 /// Asserts that all of a text is read, and as what.
-pub fn reads(rt: &impl Abort, alloc: Global, notion: Notion, text: &str, depth: usize, expected: &str) {
+pub fn reads(
+    rt: &impl Abort,
+    alloc: Global,
+    notion: Notion,
+    text: &str,
+    depth: usize,
+    expected: &str,
+) {
     ends(rt, alloc, notion, text, depth, expected, 0);
 }
 

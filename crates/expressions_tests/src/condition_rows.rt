@@ -136,13 +136,28 @@ fn conditions_are_read(rt: HostRuntime) {
 #[test]
 fn reading_conditions_halts(rt: HostRuntime) {
     for (text, depth, deep, left) in HALTS.iter() {
-        halts(&rt, rt.alloc(), Notion::Condition, text, *depth, (*deep, *left));
+        halts(
+            &rt,
+            rt.alloc(),
+            Notion::Condition,
+            text,
+            *depth,
+            (*deep, *left),
+        );
     }
 }
 
 #[test]
 fn a_condition_ends_where_it_cannot_go_on(rt: HostRuntime) {
     for (text, expected, left) in LEFT.iter() {
-        ends(&rt, rt.alloc(), Notion::Condition, text, DEPTH, expected, *left);
+        ends(
+            &rt,
+            rt.alloc(),
+            Notion::Condition,
+            text,
+            DEPTH,
+            expected,
+            *left,
+        );
     }
 }

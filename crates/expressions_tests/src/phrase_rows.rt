@@ -38,17 +38,41 @@ type Counts = (usize, usize, usize);
 
 /// A phrase, a text, and what is read of it.
 const PHRASES: [(Phrase, &str, Counts); 12] = [
-    (Phrase::SizeError, "ON SIZE ERROR CONTINUE CONTINUE NOT SIZE ERROR CONTINUE", (2, 1, 0)),
+    (
+        Phrase::SizeError,
+        "ON SIZE ERROR CONTINUE CONTINUE NOT SIZE ERROR CONTINUE",
+        (2, 1, 0),
+    ),
     (Phrase::SizeError, "SIZE ERROR CONTINUE", (1, 0, 0)),
     (Phrase::SizeError, "NOT ON SIZE ERROR CONTINUE", (0, 1, 0)),
     // the phrase comes before its opposite
-    (Phrase::SizeError, "NOT SIZE ERROR CONTINUE SIZE ERROR CONTINUE", (0, 1, 3)),
+    (
+        Phrase::SizeError,
+        "NOT SIZE ERROR CONTINUE SIZE ERROR CONTINUE",
+        (0, 1, 3),
+    ),
     (Phrase::SizeError, "ON OVERFLOW CONTINUE", (0, 0, 3)),
-    (Phrase::AtEnd, "AT END CONTINUE NOT AT END CONTINUE", (1, 1, 0)),
-    (Phrase::AtEnd, "END CONTINUE NOT END CONTINUE CONTINUE", (1, 2, 0)),
-    (Phrase::InvalidKey, "INVALID KEY CONTINUE NOT INVALID CONTINUE", (1, 1, 0)),
+    (
+        Phrase::AtEnd,
+        "AT END CONTINUE NOT AT END CONTINUE",
+        (1, 1, 0),
+    ),
+    (
+        Phrase::AtEnd,
+        "END CONTINUE NOT END CONTINUE CONTINUE",
+        (1, 2, 0),
+    ),
+    (
+        Phrase::InvalidKey,
+        "INVALID KEY CONTINUE NOT INVALID CONTINUE",
+        (1, 1, 0),
+    ),
     (Phrase::InvalidKey, "INVALID CONTINUE END-READ", (1, 0, 1)),
-    (Phrase::Overflow, "ON OVERFLOW CONTINUE NOT ON OVERFLOW CONTINUE", (1, 1, 0)),
+    (
+        Phrase::Overflow,
+        "ON OVERFLOW CONTINUE NOT ON OVERFLOW CONTINUE",
+        (1, 1, 0),
+    ),
     (Phrase::Overflow, "OVERFLOW CONTINUE", (1, 0, 0)),
     (Phrase::Overflow, "CONTINUE", (0, 0, 1)),
 ];

@@ -67,7 +67,6 @@ const OPERANDS: [(&str, &str); 10] = [
     ("A (I)", "A[I]"),
 ];
 
-
 #[test]
 fn expressions_are_read(rt: HostRuntime) {
     for (text, expected) in EXPRESSIONS.iter() {
@@ -78,7 +77,14 @@ fn expressions_are_read(rt: HostRuntime) {
 #[test]
 fn reading_halts(rt: HostRuntime) {
     for (text, depth, deep, left) in HALTS.iter() {
-        halts(&rt, rt.alloc(), Notion::Expression, text, *depth, (*deep, *left));
+        halts(
+            &rt,
+            rt.alloc(),
+            Notion::Expression,
+            text,
+            *depth,
+            (*deep, *left),
+        );
     }
 }
 
@@ -92,7 +98,14 @@ fn an_expression_ends_where_no_operator_follows(rt: HostRuntime) {
 /// Parentheses of subscripts don't count as nesting.
 #[test]
 fn subscripts_take_no_depth(rt: HostRuntime) {
-    reads(&rt, rt.alloc(), Notion::Expression, "A (1) + B", 0, "(A[1]+B)");
+    reads(
+        &rt,
+        rt.alloc(),
+        Notion::Expression,
+        "A (1) + B",
+        0,
+        "(A[1]+B)",
+    );
 }
 
 #[test]
@@ -104,8 +117,36 @@ fn operands_are_read(rt: HostRuntime) {
 
 #[test]
 fn numbers_are_read(rt: HostRuntime) {
-    reads(&rt, rt.alloc(), Notion::NumberOperand, "ZERO", DEPTH, "ZERO");
-    halts(&rt, rt.alloc(), Notion::NumberOperand, "SPACE", DEPTH, (false, 1));
-    halts(&rt, rt.alloc(), Notion::Operand, "ALL SPACE", DEPTH, (false, 1));
-    reads(&rt, rt.alloc(), Notion::Reference, "A OF B (I)", DEPTH, "A.B[I]");
+    reads(
+        &rt,
+        rt.alloc(),
+        Notion::NumberOperand,
+        "ZERO",
+        DEPTH,
+        "ZERO",
+    );
+    halts(
+        &rt,
+        rt.alloc(),
+        Notion::NumberOperand,
+        "SPACE",
+        DEPTH,
+        (false, 1),
+    );
+    halts(
+        &rt,
+        rt.alloc(),
+        Notion::Operand,
+        "ALL SPACE",
+        DEPTH,
+        (false, 1),
+    );
+    reads(
+        &rt,
+        rt.alloc(),
+        Notion::Reference,
+        "A OF B (I)",
+        DEPTH,
+        "A.B[I]",
+    );
 }

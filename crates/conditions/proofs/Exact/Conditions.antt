@@ -194,8 +194,8 @@ only_to_depth depth depth' one from rest s = go (condition_complete depth depth'
     go : Answers (Deeper depth depth') (g.condition_reader depth from) one rest
         → (g.condition_reader depth from ≡ Ok (one, rest)) ⊎ ((depth < depth') × (left : ℕ) × (g.condition_reader depth from ≡ Err (TooDeep left)))
     go (Reached e) = inl e
-    go (Halts (TooDeep left) deep e) = inr (deep, left, e)
-    go (Halts (Unexpected left) none e) = absurd none
+    go (Halts (TooDeep behind) deep e) = inr (deep, behind, e)
+    go (Halts (Unexpected behind) none e) = absurd none
 
 -- ---- reading a simple condition, by how it begins and the depth
 

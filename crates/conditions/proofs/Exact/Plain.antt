@@ -145,7 +145,7 @@ reads_compared depth i leads = go (begins_name i) (leads.0)
   where
     go : (b : Bool) → (b ≡ true → (class_follows (past_reference i) ≡ false) × (goes_on_after (past_reference i) ≡ true))
         → (if b then (if class_follows (past_reference i) then g.class_reader i else if goes_on_after (past_reference i) then g.compared_reader depth i else g.named_reader i)
-            else g.compared_reader depth i) ≡ g.compared_reader depth i
+        else g.compared_reader depth i) ≡ g.compared_reader depth i
     go false f = refl
     go true f = let l = f refl in rw (l.0, l.1) refl
 

@@ -109,7 +109,7 @@ side_shrinks depth (side_as.Expression one) i rest s = expression_shrinks depth 
 side_shrinks depth (side_as.Literal one) i rest (text, s) = literal_shrinks one i rest s
 
 pub side_even : (depth : ℕ) (x : Side) → Even (g.side depth x)
-side_even depth (side_as.Expression one) = expression_even depth one
+side_even depth (side_as.Expression one) i rest s n = expression_even depth one i rest s n
 side_even depth (side_as.Literal one) i rest (text, s) n = literal_even one i rest s n
 
 -- ---- none begins with NOT
@@ -141,11 +141,11 @@ expression_no_not [] e = refl
 expression_no_not (first ∷ more) e = kind_no_not first.kind first.place e
 
 pub name_no_not : (i : List Token) → begins_name i ≡ true → begins_word w.Not i ≡ false
-name_no_not i e = expression_no_not i (go (begins_name i) e)
+name_no_not i e = expression_no_not i (go (begins_name i) _ e)
   where
-    go : (b : Bool) {c : Bool} → b ≡ true → (b || c) ≡ true
-    go true e = refl
-    go false e = cc
+    go : (b c : Bool) → b ≡ true → (b || c) ≡ true
+    go true c e = refl
+    go false c e = cc
 
 value_no_not : (kind : Kind) (v : LiteralValue) → value_by kind ≡ Some v → is_kind w.Not kind ≡ false
 value_no_not (k.Reserved one) v e = go (same_word one w.Not) refl

@@ -100,10 +100,10 @@ asked_sound x i rest e =
 asked_by : {Allowed : Halt → Type 0} (negated : Bool) (one : Test) (x : Asked) (i i2 i3 rest : List Token) → g.is_not negated i i2 → telling test_in one i2 i3
     → Answers Allowed (g.asked_after negated one i3) x rest → Answers Allowed (g.asked_reader i) x rest
 unfolding g.asked_reader
-asked_by negated one x i i2 i3 rest (i1, is, stands) told then =
+asked_by negated one x i i2 i3 rest (i1, is, stands) told others =
     step (skip w.Is i) _ (skip_complete w.Is tt i i1 is)
     (step (r.stands (after_word w.Not) i1) _ (stands_complete (finds_word w.Not) negated i1 i2 stands)
-    (step (one_token test_in i2) _ (one_token_complete test_in one i2 i3 told) then))
+    (step (one_token test_in i2) _ (one_token_complete test_in one i2 i3 told) others))
 
 pub asked_complete : {Allowed : Halt → Type 0} → Complete Allowed g.asked g.asked_reader
 unfolding g.order_reader g.equal_reader
@@ -159,7 +159,7 @@ is_not_even negated = then_even {p = optional (word w.Is)} {q = stands (word w.N
 or_equal_even : (x : Bool) → Even (g.or_equal x)
 or_equal_even true i rest (i1, or, (i2, equal, to)) n =
     word_even w.Or i i1 or n ∙ word_even w.Equal i1 i2 equal n ∙ optional_even {p = word w.To} (word_even w.To) i2 rest to n
-or_equal_even false = without_even (word w.Or)
+or_equal_even false i rest e n = without_even (word w.Or) i rest e n
 
 comparison_even : (one : Relation) → Even (g.comparison one)
 comparison_even one i rest (inl told) n = test_even (test.Symbol one) i rest told n
