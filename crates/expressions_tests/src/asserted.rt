@@ -1,6 +1,6 @@
 //! Assertions of the rows, as functions: a call of one is proved at once, while a macro in a test makes a path of its own there, on
 //! which everything that the test holds has to be accounted for.
-use crate::read::{NOWHERE, Notion, outcome};
+use crate::read::{NOWHERE, Notion, read_text};
 use std::alloc::Global;
 use std::fmt::Debug;
 use std::process::Abort;
@@ -42,13 +42,13 @@ pub fn ends(
     expected: &str,
     left: usize,
 ) {
-    match outcome(alloc, notion, text, depth) {
-        Ok(found) => {
+    match read_text(alloc, notion, text, depth) {
+        Some(found) => {
             same_in(rt, &text, found.halt, NOWHERE);
             same_in(rt, &text, found.shape.as_str(), expected);
             same_in(rt, &text, found.left, left);
         }
-        Err(_) => same_in(rt, &text, "no memory, or no tokens", expected),
+        None => same_in(rt, &text, "no memory, or no tokens", expected),
     }
 }
 
@@ -61,11 +61,11 @@ pub fn halts(
     depth: usize,
     expected: (bool, usize),
 ) {
-    match outcome(alloc, notion, text, depth) {
-        Ok(found) => {
+    match read_text(alloc, notion, text, depth) {
+        Some(found) => {
             same_in(rt, &text, found.shape.as_str(), "");
             same_in(rt, &text, found.halt, expected);
         }
-        Err(_) => same_in(rt, &text, "no memory, or no tokens", ""),
+        None => same_in(rt, &text, "no memory, or no tokens", ""),
     }
 }

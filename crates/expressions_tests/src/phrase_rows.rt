@@ -8,7 +8,6 @@ use source_tree::Place;
 use sqlite_items::Items;
 use std::alloc::Global;
 use std::process::Abort;
-use std::test::Fail;
 use tokens::{Reserved, Token};
 
 /// CONTINUE, as the statement of a phrase.
@@ -98,20 +97,17 @@ fn count(statements: Option<Items<Place>>) -> usize {
     }
 }
 
-fn phrases(alloc: Global, phrase: Phrase, text: &str) -> Result<Option<Counts>, Fail> {
+fn phrases(alloc: Global, phrase: Phrase, text: &str) -> Option<Counts> {
     let scanned = tokens_of(alloc, text)?;
     let mut tokens = Tokens::new(scanned.as_slice());
-    Ok(match two_sided(phrase, &Continues, alloc, &mut tokens) {
+    match two_sided(phrase, &Continues, alloc, &mut tokens) {
         Ok((arose, did_not)) => Some((count(arose), count(did_not), tokens.len())),
         Err(_) => None,
-    })
+    }
 }
 
 fn assert_phrases(rt: &impl Abort, alloc: Global, phrase: Phrase, text: &str, expected: Counts) {
-    match phrases(alloc, phrase, text) {
-        Ok(found) => same_in(rt, &text, found, Some(expected)),
-        Err(_) => same_in(rt, &text, "no memory", ""),
-    }
+    same_in(rt, &text, phrases(alloc, phrase, text), Some(expected));
 }
 
 fn left(rest: Option<&[Token]>) -> usize {
@@ -121,10 +117,10 @@ fn left(rest: Option<&[Token]>) -> usize {
     }
 }
 
-fn looks(alloc: Global, text: &str) -> Result<Counts, Fail> {
+fn looks(alloc: Global, text: &str) -> Option<Counts> {
     let scanned = tokens_of(alloc, text)?;
     let tokens = scanned.as_slice();
-    Ok((
+    Some((
         left(past_reference(tokens)),
         left(after_reference_before(tokens, Reserved::For)),
         left(past_parentheses(tokens)),
@@ -132,10 +128,7 @@ fn looks(alloc: Global, text: &str) -> Result<Counts, Fail> {
 }
 
 fn assert_looks(rt: &impl Abort, alloc: Global, text: &str, expected: Counts) {
-    match looks(alloc, text) {
-        Ok(found) => same_in(rt, &text, found, expected),
-        Err(_) => same_in(rt, &text, "no memory", ""),
-    }
+    same_in(rt, &text, looks(alloc, text), Some(expected));
 }
 
 #[test]

@@ -7,7 +7,6 @@ use grammar::{Halt, ReadFault, Tokens};
 use source_lines::logical;
 use sqlite_items::Items;
 use std::alloc::{AllocError, Global};
-use std::test::Fail;
 use tokens::{Token, scan};
 
 /// What a text is read as.
@@ -21,6 +20,7 @@ pub enum Notion {
 }
 
 /// What was read.
+#[derive(Drop)]
 pub struct Outcome {
     /// Empty where nothing was read.
     pub shape: String,
@@ -33,10 +33,18 @@ pub struct Outcome {
 /// No halt.
 pub const NOWHERE: (bool, usize) = (false, usize::MAX);
 
-/// The tokens of a text that stands in area B of one line.
-pub fn tokens_of(alloc: Global, text: &str) -> Result<Items<Token>, Fail> {
-    let source = format!(in alloc; "           {text}\n")?;
-    Ok(scan(alloc, &logical(alloc, source.as_bytes())?)?)
+/// The tokens of a text that stands in area B of one line; none where memory runs out.
+pub fn tokens_of(alloc: Global, text: &str) -> Option<Items<Token>> {
+    let Ok(source) = format!(in alloc; "           {text}\n") else {
+        return None;
+    };
+    let Ok(lines) = logical(alloc, source.as_bytes()) else {
+        return None;
+    };
+    let Ok(scanned) = scan(alloc, &lines) else {
+        return None;
+    };
+    Some(scanned)
 }
 
 fn push_read(
@@ -63,19 +71,17 @@ fn halt_of(fault: ReadFault) -> (bool, usize) {
     }
 }
 
-/// What is read of a text.
-pub fn outcome(alloc: Global, notion: Notion, text: &str, depth: usize) -> Result<Outcome, Fail> {
+/// What is read of a text; nothing where memory runs out.
+pub fn read_text(alloc: Global, notion: Notion, text: &str, depth: usize) -> Option<Outcome> {
     let scanned = tokens_of(alloc, text)?;
     let mut tokens = Tokens::new(scanned.as_slice());
     let mut shape = String::new(alloc);
     let halt = match push_read(alloc, &mut shape, &mut tokens, notion, depth) {
-        Ok(pushed) => {
-            pushed?;
-            NOWHERE
-        }
+        Ok(Ok(())) => NOWHERE,
+        Ok(Err(_)) => return None,
         Err(fault) => halt_of(fault),
     };
-    Ok(Outcome {
+    Some(Outcome {
         shape,
         left: tokens.len(),
         halt,

@@ -178,29 +178,8 @@ fn push_asked(to: &mut String, negated: bool, asked: &str) -> Result<(), AllocEr
     to.push_str(asked)
 }
 
-fn push_all(
-    to: &mut String,
-    node: &str,
-    parts: &[Condition],
-    depth: usize,
-) -> Result<(), AllocError> {
-    to.push_str(node)?;
-    for part in parts {
-        to.push_str(" ")?;
-        push_condition(to, part, depth)?;
-    }
-    to.push_str("]")
-}
-
-/// A relation in symbols, a sign or a class behind its operand, and every other node but a condition name in brackets.
-pub fn push_condition(
-    to: &mut String,
-    condition: &Condition,
-    depth: usize,
-) -> Result<(), AllocError> {
-    if depth == 0 {
-        return to.push_str("?");
-    }
+/// A relation in symbols, a sign or a class behind its operand.
+fn push_plain(to: &mut String, condition: &Condition, depth: usize) -> Result<(), AllocError> {
     match condition {
         Condition::Name(reference) => push_reference(to, reference),
         Condition::Relation {
@@ -208,16 +187,16 @@ pub fn push_condition(
             relation: by,
             right,
         } => {
-            push_side(to, left, depth - 1)?;
+            push_side(to, left, depth)?;
             to.push_str(relation(*by))?;
-            push_side(to, right, depth - 1)
+            push_side(to, right, depth)
         }
         Condition::Sign {
             value,
             negated,
             sign,
         } => {
-            push_expression(to, value, depth - 1)?;
+            push_expression(to, value, depth)?;
             push_asked(to, *negated, sign_test(*sign))
         }
         Condition::Class {
@@ -228,12 +207,33 @@ pub fn push_condition(
             push_reference(to, item)?;
             push_asked(to, *negated, class(*asked))
         }
+        _ => to.push_str("?"),
+    }
+}
+
+/// Each node but a plain condition in brackets.
+pub fn push_condition(
+    to: &mut String,
+    condition: &Condition,
+    depth: usize,
+) -> Result<(), AllocError> {
+    if depth == 0 {
+        return to.push_str("?");
+    }
+    let (node, parts) = match condition {
         Condition::Not(inner) => {
             to.push_str("[not ")?;
             push_condition(to, inner.get(), depth - 1)?;
-            to.push_str("]")
+            return to.push_str("]");
         }
-        Condition::All(parts) => push_all(to, "[and", parts.as_slice(), depth - 1),
-        Condition::Any(parts) => push_all(to, "[or", parts.as_slice(), depth - 1),
+        Condition::All(parts) => ("[and", parts.as_slice()),
+        Condition::Any(parts) => ("[or", parts.as_slice()),
+        plain => return push_plain(to, plain, depth),
+    };
+    to.push_str(node)?;
+    for part in parts {
+        to.push_str(" ")?;
+        push_condition(to, part, depth - 1)?;
     }
+    to.push_str("]")
 }
