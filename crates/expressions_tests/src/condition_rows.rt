@@ -90,7 +90,7 @@ const HALTS: [(&str, usize, bool, usize); 22] = [
     ("A AND (B OR C)", 0, true, 5),
     ("NOT (A)", 1, true, 3),
     ("NOT NOT A", 1, true, 2),
-    ("((A) = B)", 1, true, 5),
+    ("((A) = B)", 1, true, 6),
     ("A AND NOT - B = C", 1, true, 4),
     ("A =", 64, false, 0),
     ("A + B", 64, false, 0),
