@@ -6,3 +6,5 @@ pub mod Literals
 pub mod Operands
 pub mod Expressions
 pub mod Laws
+pub mod Balance
+pub mod Leads

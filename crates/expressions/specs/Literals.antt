@@ -75,11 +75,12 @@ literal_reader i = if begins_word w.All i then all_literal_reader i else one_tok
 
 -- ---- where a number is wanted
 
+abbrev pub zero_in : Option Figurative → Bool
+zero_in (Some figurative.Zero) = true
+zero_in _ = false
+
 abbrev pub is_zero : Reserved → Bool
-is_zero w.Zero = true
-is_zero w.Zeros = true
-is_zero w.Zeroes = true
-is_zero _ = false
+is_zero one = zero_in (figurative_of one)
 
 abbrev pub number_value_by : Kind → Option LiteralValue
 number_value_by (k.Reserved one) = if is_zero one then Some (value.Figurative figurative.Zero) else None

@@ -5,7 +5,10 @@ ghost use Rattle.expressions.specs.References.{reference as reference_rule, refe
 ghost use Rattle.expressions.specs.Literals.{literal as literal_rule, literal_reader};
 ghost use Rattle.expressions.specs.Operands.{operand as operand_rule, operand_reader, number_operand as number_rule, number_operand_reader};
 ghost use Rattle.expressions.specs.Expressions.{expression as expression_rule, expression_reader};
-ghost use Rattle.expressions.specs.Laws.{Spelled, Only, OnlyToDepth};
+ghost use Rattle.expressions.specs.Laws.{Spelled, Only, OnlyToDepth, Passes, Closes};
+ghost use Rattle.expressions.specs.Looking.{past_reference, reference_before, after_reference_before};
+ghost use Rattle.grammar.specs.Parts.{some_of};
+ghost use Rattle.tokens.specs.declared.reserved.Reserved.{Reserved};
 
 /// References.
 pub fn reference_law()
@@ -31,4 +34,12 @@ pub fn operand_law()
 pub fn expression_law()
     ensures spelled { (depth : ℕ) → Spelled (expression_rule depth) (expression_reader depth) }
     ensures only { OnlyToDepth }
+{}
+
+/// Looking past a reference passes exactly the tokens that a reference spells; past one and a word, those of both; and looking
+/// past parentheses around an expression passes these.
+pub fn looking_law()
+    ensures reference { Passes (some_of reference_rule) past_reference }
+    ensures before { (one : Reserved) → Passes (reference_before one) (after_reference_before one) }
+    ensures parentheses { (depth : ℕ) → Closes (expression_rule depth) }
 {}

@@ -2,7 +2,7 @@
 
 ghost use Rattle.std.specs.Prelude.{◌≡◌};
 ghost use Rattle.grammar.specs.Reading as read;
-ghost use Rattle.grammar.specs.Parts.{is_told};
+ghost use Rattle.grammar.specs.Parts.{is_told, begins_telling};
 ghost use Rattle.grammar.specs.Reading.{Reads};
 ghost use Rattle.expressions.specs.Literals as spec;
 
@@ -107,7 +107,21 @@ pub fn literal(alloc: Global, tokens: &mut Tokens<'_>) -> Result<Literal, ReadFa
 fn is_zero(word: Reserved) -> bool
     ensures { result ≡ spec.is_zero word }
 {
-    matches!(word, Reserved::Zero | Reserved::Zeros | Reserved::Zeroes)
+    matches!(figurative_of(word), Some(Figurative::Zero))
+}
+
+/// The next token is a numeric literal or ZERO.
+pub fn begins_number(tokens: &Tokens<'_>) -> bool
+    ensures { result ≡ begins_telling spec.number_literal_in tokens.now }
+{
+    match tokens.rest() {
+        [next, ..] => match next.kind {
+            Kind::Numeric(_) => true,
+            Kind::Reserved(word) => is_zero(word),
+            _ => false,
+        },
+        [] => false,
+    }
 }
 
 /// A numeric literal or ZERO.

@@ -55,6 +55,16 @@ pub fn right(tokens: &mut Tokens<'_>) -> Result<(), ReadFault>
     }
 }
 
+/// A right parenthesis comes next.
+pub fn begins_right(tokens: &Tokens<'_>) -> bool
+    ensures { result ≡ begins_telling spec.right_in tokens.now }
+{
+    match tokens.rest() {
+        [next, ..] => matches!(next.kind, Kind::RightParenthesis),
+        [] => false,
+    }
+}
+
 fn sign_in(token: &Token) -> Option<PlusOrMinus>
     ensures { result ≡ spec.sign_in token.now }
 {

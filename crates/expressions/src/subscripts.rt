@@ -25,6 +25,13 @@ fn qualifier(alloc: Global, tokens: &mut Tokens<'_>) -> Result<Name, ReadFault>
     name(alloc, tokens)
 }
 
+/// IN or OF comes next.
+pub fn begins_qualifier(tokens: &Tokens<'_>) -> bool
+    ensures { result ≡ spec.begins_qualifier tokens.now }
+{
+    tokens.at_word(Reserved::In) || tokens.at_word(Reserved::Of)
+}
+
 struct Qualifiers;
 
 impl Part<Name> for Qualifiers {
@@ -41,7 +48,7 @@ impl Part<Name> for Qualifiers {
     }
 
     fn begins(&self, tokens: &Tokens<'_>) -> bool {
-        tokens.at_word(Reserved::In) || tokens.at_word(Reserved::Of)
+        begins_qualifier(tokens)
     }
 }
 
@@ -61,7 +68,7 @@ fn is_integer(number: &NumericLiteral) -> bool
     matches!(number.sign, Sign::Unsigned) && number.decimals.is_empty()
 }
 
-fn begins_integer(tokens: &Tokens<'_>) -> bool
+pub fn begins_integer(tokens: &Tokens<'_>) -> bool
     ensures { result ≡ spec.begins_integer tokens.now }
 {
     match tokens.rest() {

@@ -1,8 +1,15 @@
-//! Rows of references, literals and arithmetic expressions: which tokens are read as what, and where reading halts.
+//! Rows of references, literals, arithmetic expressions, conditions and phrases: which tokens are read as what, and where
+//! reading halts.
 #![tactic(auto)]
 
 #[cfg(test)]
 mod asserted;
+#[cfg(test)]
+mod condition_rows;
+#[cfg(test)]
+mod phrase_rows;
+#[cfg(test)]
+mod read;
 #[cfg(test)]
 mod rows;
 #[cfg(test)]

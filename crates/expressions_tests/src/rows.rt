@@ -1,13 +1,7 @@
-//! Rows of texts and what is read.
+//! Rows of references, operands and expressions, and what is read.
 
-use crate::asserted::same_in;
-use crate::shape::{DEEPEST, push_expression, push_operand, push_reference};
-use expressions::{expression, number_operand, operand, reference};
-use grammar::{Halt, ReadFault, Tokens};
-use source_lines::logical;
-use std::alloc::Global;
-use std::test::Fail;
-use tokens::scan;
+use crate::asserted::{ends, halts, reads};
+use crate::read::Notion;
 
 /// Enough for each row that is read.
 const DEPTH: usize = 64;
@@ -73,133 +67,86 @@ const OPERANDS: [(&str, &str); 10] = [
     ("A (I)", "A[I]"),
 ];
 
-fn halted(fault: ReadFault) -> (bool, usize) {
-    match fault {
-        ReadFault::Halted(Halt::TooDeep(left)) => (true, left),
-        ReadFault::Halted(Halt::Unexpected(left)) => (false, left),
-        ReadFault::Memory => (true, usize::MAX),
-    }
-}
-
-/// What is read of an expression, the tokens that are left, and where reading halts.
-fn read(alloc: Global, text: &str, depth: usize) -> Result<(String, usize, (bool, usize)), Fail> {
-    let source = format!(in alloc; "           {text}\n")?;
-    let scanned = scan(alloc, &logical(alloc, source.as_bytes())?)?;
-    let mut tokens = Tokens::new(scanned.as_slice());
-    let mut shape = String::new(alloc);
-    let halt = match expression(alloc, &mut tokens, depth) {
-        Ok(tree) => {
-            push_expression(&mut shape, &tree, DEEPEST)?;
-            (false, usize::MAX)
-        }
-        Err(fault) => halted(fault),
-    };
-    Ok((shape, tokens.len(), halt))
-}
-
-fn operand_shape(alloc: Global, text: &str) -> Result<String, Fail> {
-    let source = format!(in alloc; "           {text}\n")?;
-    let scanned = scan(alloc, &logical(alloc, source.as_bytes())?)?;
-    let mut tokens = Tokens::new(scanned.as_slice());
-    let mut shape = String::new(alloc);
-    if let Ok(tree) = operand(alloc, &mut tokens) {
-        push_operand(&mut shape, &tree)?;
-    }
-    Ok(shape)
-}
-
-fn number_shape(alloc: Global, text: &str) -> Result<String, Fail> {
-    let source = format!(in alloc; "           {text}\n")?;
-    let scanned = scan(alloc, &logical(alloc, source.as_bytes())?)?;
-    let mut tokens = Tokens::new(scanned.as_slice());
-    let mut shape = String::new(alloc);
-    if let Ok(tree) = number_operand(alloc, &mut tokens) {
-        push_operand(&mut shape, &tree)?;
-    }
-    Ok(shape)
-}
-
-fn reference_shape(alloc: Global, text: &str) -> Result<String, Fail> {
-    let source = format!(in alloc; "           {text}\n")?;
-    let scanned = scan(alloc, &logical(alloc, source.as_bytes())?)?;
-    let mut tokens = Tokens::new(scanned.as_slice());
-    let mut shape = String::new(alloc);
-    if let Ok(tree) = reference(alloc, &mut tokens) {
-        push_reference(&mut shape, &tree)?;
-    }
-    Ok(shape)
-}
-
 #[test]
-fn expressions_are_read(rt: HostRuntime) -> Result<(), Fail> {
+fn expressions_are_read(rt: HostRuntime) {
     for (text, expected) in EXPRESSIONS.iter() {
-        let (shape, left, _) = read(rt.alloc(), text, DEPTH)?;
-        same_in(&rt, text, shape.as_str(), *expected);
-        same_in(&rt, text, left, 0);
+        reads(&rt, rt.alloc(), Notion::Expression, text, DEPTH, expected);
     }
-    Ok(())
 }
 
 #[test]
-fn reading_halts(rt: HostRuntime) -> Result<(), Fail> {
+fn reading_halts(rt: HostRuntime) {
     for (text, depth, deep, left) in HALTS.iter() {
-        let (_, _, halt) = read(rt.alloc(), text, *depth)?;
-        same_in(&rt, text, halt, (*deep, *left));
+        halts(
+            &rt,
+            rt.alloc(),
+            Notion::Expression,
+            text,
+            *depth,
+            (*deep, *left),
+        );
     }
-    Ok(())
 }
 
 #[test]
-fn an_expression_ends_where_no_operator_follows(rt: HostRuntime) -> Result<(), Fail> {
-    for (text, expected) in LEFT.iter() {
-        let (shape, left, _) = read(rt.alloc(), text, DEPTH)?;
-        same_in(&rt, text, shape.as_str(), "A");
-        same_in(&rt, text, left, *expected);
+fn an_expression_ends_where_no_operator_follows(rt: HostRuntime) {
+    for (text, left) in LEFT.iter() {
+        ends(&rt, rt.alloc(), Notion::Expression, text, DEPTH, "A", *left);
     }
-    Ok(())
 }
 
 /// Parentheses of subscripts don't count as nesting.
 #[test]
-fn subscripts_take_no_depth(rt: HostRuntime) -> Result<(), Fail> {
-    let (shape, _, _) = read(rt.alloc(), "A (1) + B", 0)?;
-    same_in(&rt, &"A (1) + B", shape.as_str(), "(A[1]+B)");
-    Ok(())
+fn subscripts_take_no_depth(rt: HostRuntime) {
+    reads(
+        &rt,
+        rt.alloc(),
+        Notion::Expression,
+        "A (1) + B",
+        0,
+        "(A[1]+B)",
+    );
 }
 
 #[test]
-fn operands_are_read(rt: HostRuntime) -> Result<(), Fail> {
+fn operands_are_read(rt: HostRuntime) {
     for (text, expected) in OPERANDS.iter() {
-        same_in(
-            &rt,
-            text,
-            operand_shape(rt.alloc(), text)?.as_str(),
-            *expected,
-        );
+        reads(&rt, rt.alloc(), Notion::Operand, text, DEPTH, expected);
     }
-    same_in(
+}
+
+#[test]
+fn numbers_are_read(rt: HostRuntime) {
+    reads(
         &rt,
-        &"ALL SPACE",
-        operand_shape(rt.alloc(), "ALL SPACE")?.as_str(),
-        "",
-    );
-    same_in(
-        &rt,
-        &"ZERO",
-        number_shape(rt.alloc(), "ZERO")?.as_str(),
+        rt.alloc(),
+        Notion::NumberOperand,
+        "ZERO",
+        DEPTH,
         "ZERO",
     );
-    same_in(
+    halts(
         &rt,
-        &"SPACE",
-        number_shape(rt.alloc(), "SPACE")?.as_str(),
-        "",
+        rt.alloc(),
+        Notion::NumberOperand,
+        "SPACE",
+        DEPTH,
+        (false, 1),
     );
-    same_in(
+    halts(
         &rt,
-        &"A OF B (I)",
-        reference_shape(rt.alloc(), "A OF B (I)")?.as_str(),
+        rt.alloc(),
+        Notion::Operand,
+        "ALL SPACE",
+        DEPTH,
+        (false, 1),
+    );
+    reads(
+        &rt,
+        rt.alloc(),
+        Notion::Reference,
+        "A OF B (I)",
+        DEPTH,
         "A.B[I]",
     );
-    Ok(())
 }

@@ -1,8 +1,8 @@
 //! What was read, written out again.
 
 use source_tree::{
-    Adjustment, Expression, Figurative, Integer, Literal, LiteralValue, Operand, Operator,
-    QualifiedName, Reference, Sign, Subscript,
+    Adjustment, Class, Condition, Expression, Figurative, Integer, Literal, LiteralValue, Operand,
+    Operator, QualifiedName, Reference, Relation, Side, Sign, SignTest, Subscript,
 };
 use std::alloc::{AllocError, Global};
 
@@ -133,4 +133,107 @@ pub fn push_expression(
             to.push_str(")")
         }
     }
+}
+
+fn relation(relation: Relation) -> &'static str {
+    match relation {
+        Relation::Less => "<",
+        Relation::LessOrEqual => "<=",
+        Relation::Equal => "=",
+        Relation::NotEqual => "<>",
+        Relation::GreaterOrEqual => ">=",
+        Relation::Greater => ">",
+    }
+}
+
+fn sign_test(test: SignTest) -> &'static str {
+    match test {
+        SignTest::Positive => "positive",
+        SignTest::Negative => "negative",
+        SignTest::Zero => "zero",
+    }
+}
+
+fn class(class: Class) -> &'static str {
+    match class {
+        Class::Numeric => "numeric",
+        Class::Alphabetic => "alphabetic",
+        Class::AlphabeticLower => "lower",
+        Class::AlphabeticUpper => "upper",
+    }
+}
+
+fn push_side(to: &mut String, side: &Side, depth: usize) -> Result<(), AllocError> {
+    match side {
+        Side::Expression(expression) => push_expression(to, expression, depth),
+        Side::Literal(literal) => push_literal(to, literal),
+    }
+}
+
+fn push_asked(to: &mut String, negated: bool, asked: &str) -> Result<(), AllocError> {
+    if negated {
+        to.push_str(" not")?;
+    }
+    to.push_str(" ")?;
+    to.push_str(asked)
+}
+
+/// A relation in symbols, a sign or a class behind its operand.
+fn push_plain(to: &mut String, condition: &Condition, depth: usize) -> Result<(), AllocError> {
+    match condition {
+        Condition::Name(reference) => push_reference(to, reference),
+        Condition::Relation {
+            left,
+            relation: by,
+            right,
+        } => {
+            push_side(to, left, depth)?;
+            to.push_str(relation(*by))?;
+            push_side(to, right, depth)
+        }
+        Condition::Sign {
+            value,
+            negated,
+            sign,
+        } => {
+            push_expression(to, value, depth)?;
+            push_asked(to, *negated, sign_test(*sign))
+        }
+        Condition::Class {
+            item,
+            negated,
+            class: asked,
+        } => {
+            push_reference(to, item)?;
+            push_asked(to, *negated, class(*asked))
+        }
+        _ => to.push_str("?"),
+    }
+}
+
+/// Each node but a plain condition in brackets.
+pub fn push_condition(
+    to: &mut String,
+    condition: &Condition,
+    depth: usize,
+) -> Result<(), AllocError> {
+    if depth == 0 {
+        return to.push_str("?");
+    }
+    let (node, parts) = match condition {
+        Condition::Not(inner) => {
+            to.push_str("[not ")?;
+            push_condition(to, inner.get(), depth - 1)?;
+            return to.push_str("]");
+        }
+        Condition::All(parts) => ("[and", parts.as_slice()),
+        Condition::Any(parts) => ("[or", parts.as_slice()),
+        plain => return push_plain(to, plain, depth),
+    };
+    to.push_str(node)?;
+    for part in parts {
+        to.push_str(" ")?;
+        push_condition(to, part, depth - 1)?;
+    }
+    to.push_str("]")
 }

@@ -1,13 +1,13 @@
 -- The words that open a phrase: where they stand, and that looking finds them.
 use Rattle.std.proofs.Common.{◌≡◌, Bool, true, false, if◌then◌else◌, List, [], ◌∷◌, Option, Some, None, inl, inr, refl, sym, ap, ◌∙◌, rules}
-use Rattle.std.specs.Prelude.{is_some}
+use Rattle.std.specs.Prelude.{◌&&◌, not, is_some}
 use denote.Enum.Bare.{same_true, true_same}
 use Rattle.tokens.specs.contracts.reserved.Reserved.{the_type}
 use Rattle.tokens.specs.declared.reserved.Reserved.{Reserved}
 use Rattle.tokens.specs.declared.token.Kind.{Kind}
 use Rattle.tokens.specs.declared.token.Kind.TheVariants as k
 use Rattle.tokens.specs.declared.token.Token.{Token}
-use Rattle.grammar.specs.Parts.{Part, ◌then◌, word, optional, tested}
+use Rattle.grammar.specs.Parts.{Part, ◌then◌, ◌but◌, word, optional, tested}
 use Rattle.tokens.specs.Reserved.{same_word}
 use Rattle.grammar.specs.Reading.{Words, is_kind, is_word, begins_word, after_word, past_word, otherwise_here, also_after}
 
@@ -141,3 +141,20 @@ tests_words {p = p} {words = words} finds = record {
   fails = λ i e after stands. true_not_false (is_some (words i)) e (ap is_some (finds.stands i after stands));
   refuses = λ i nowhere. ap is_some (is_missing finds i nowhere);
 }
+
+-- where one begins, but another doesn't
+pub tests_but : {p q : Part} {b c : List Token → Bool} → Tests p b → Tests q c → Tests (p but q) (λ i. b i && not (c i))
+tests_but {p = p} {q = q} {b = b} {c = c} one other = record {
+  fails = λ i e after s. go (b i) (c i) refl (other.refuses i s.1) e (λ none. one.fails i none after s.0);
+  refuses = λ i nowhere. stop (b i) (c i) refl refl (λ absent. one.refuses i (λ after s. nowhere after (s, other.fails i absent)));
+}
+  where
+    go : {x : Bool} (there other : Bool) → x ≡ there → other ≡ false → (there && not other) ≡ false → (x ≡ false → ⊥) → ⊥
+    go true true is absent e never = cc
+    go true false is absent e never = cc
+    go false other is absent e never = never is
+
+    stop : {x y : Bool} (there other : Bool) → x ≡ there → y ≡ other → (y ≡ false → x ≡ false) → (there && not other) ≡ false
+    stop true true is is' one = refl
+    stop true false is is' one = sym is ∙ one is'
+    stop false other is is' one = refl

@@ -10,7 +10,7 @@ use Rattle.grammar.specs.Parts as g
 use Rattle.grammar.specs.Parts.{Part}
 use Rattle.grammar.specs.Reading as r
 use Rattle.grammar.specs.Reading.{Outcome, Parser, Words, after_word, past_word, needed, told}
-use Rattle.grammar.proofs.Outcomes.{Reached, step, unstep, value, after}
+use Rattle.grammar.proofs.Outcomes.{Reached, step, unstep, value, after, last}
 use Rattle.grammar.proofs.Looking
 use Rattle.grammar.proofs.Looking.{Finds, is_absent, is_missing, past_does, past_is, word_found, word_stands}
 use Rattle.grammar.proofs.Lists.{Sound, Complete, Shrinks, Starts}
@@ -92,6 +92,18 @@ pub word_complete : {Allowed : Halt → Type 0} (one : Reserved) → Complete Al
 unfolding r.expect
 word_complete one u i rest s = Reached (ap (λ x. needed x i) (word_stands one i rest s))
 
+pub verb_sound : (one : Reserved) → Sound (g.verb one) (r.verb one)
+unfolding r.verb
+verb_sound one place i rest e =
+    unstep (r.here i) _ e (λ at i1 is1 e1.
+    unstep (r.expect one i1) _ e1 (λ u i2 is2 e2.
+    subst (λ p. g.verb one p i rest) (value e2) (i1, here_sound at i i1 is1, word_sound one u i1 rest (last is2 e2))))
+
+pub verb_complete : {Allowed : Halt → Type 0} (one : Reserved) → Complete Allowed (g.verb one) (r.verb one)
+unfolding r.verb
+verb_complete one place i rest (i1, at, s) =
+    step (r.here i) _ (here_complete place i i1 at) (step (r.expect one i1) _ (word_complete one tt i1 rest s) (Reached refl))
+
 -- the word that is known to come next is passed
 pub advance_sound : (one : Token) (m rest : List Token) → r.advance (one ∷ m) ≡ Ok (tt, rest) → m ≡ rest
 advance_sound one m rest e = after e
@@ -129,6 +141,23 @@ left_out_complete finds false i rest s = Reached (ap (λ o. r.left_out_at o i) (
 pub left_out_shrinks : {p : Part} → ((i rest : List Token) → p i rest → length rest ≤ length i) → (out : Bool) (i rest : List Token) → g.left_out p out i rest → length rest ≤ length i
 left_out_shrinks fewer true i rest s = let l = ap length s.0 in omega arith
 left_out_shrinks fewer false i rest s = fewer i rest s
+
+pub stands_sound : {p : Part} {words : Words} → Finds p words → Sound (g.stands p) (r.stands words)
+unfolding r.stands
+stands_sound {p = p} {words = words} finds there i rest e = go (words i) refl e
+  where
+    go : (found : Option (List Token)) → words i ≡ found → r.stands_at found i ≡ Ok (there, rest) → g.stands p there i rest
+    go None is e = subst (λ b. g.stands p b i rest) (value e) (after e, is_absent finds i is)
+    go (Some m) is e = subst (λ b. g.stands p b i rest) (value e) (finds.found i rest (is ∙ ap Some (after e)))
+
+pub stands_complete : {Allowed : Halt → Type 0} {p : Part} {words : Words} → Finds p words → Complete Allowed (g.stands p) (r.stands words)
+unfolding r.stands
+stands_complete finds false i rest s = Reached (ap (λ o. r.stands_at o i) (is_missing finds i s.1) ∙ ap (λ j. Ok (false, j)) s.0)
+stands_complete finds true i rest s = Reached (ap (λ o. r.stands_at o i) (finds.stands i rest s))
+
+pub stands_shrinks : {p : Part} → ((i rest : List Token) → p i rest → length rest ≤ length i) → (there : Bool) (i rest : List Token) → g.stands p there i rest → length rest ≤ length i
+stands_shrinks fewer true i rest s = fewer i rest s
+stands_shrinks fewer false i rest s = let l = ap length s.0 in omega arith
 
 -- ---- periods
 

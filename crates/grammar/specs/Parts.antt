@@ -34,8 +34,22 @@ abbrev pub left_out : Part → Bool → Part
 left_out p true = without p
 left_out p false = p
 
+-- `[p]`, told by whether it stands
+abbrev pub stands : Part → Bool → Part
+stands p true = p
+stands p false = without p
+
+-- p, whatever it is a part of
+abbrev pub some_of : {A : Type 0} → (A → Part) → Part
+some_of {A = A} p = λ from rest. (one : A) × p one from rest
+
 abbrev pub nowhere : Part
 nowhere = λ from rest. ⊥
+
+-- p, where q does not stand
+infixr 25 ◌but◌
+abbrev pub ◌but◌ : Part → Part → Part
+p but q = λ from rest. p from rest × ((after : List Token) → q from after → ⊥)
 
 -- What passes a test begins here; how far it goes isn't said.
 abbrev pub tested : (List Token → Bool) → Part
@@ -89,6 +103,10 @@ place_at (one ∷ more) = Some one.place
 -- What follows begins at this place.
 abbrev pub here : Place → Part
 here place = λ from rest. (from ≡ rest) × (place_at from ≡ Some place)
+
+-- a verb, with the place where it stands
+abbrev pub verb : Reserved → Place → Part
+verb one place = here place then word one
 
 -- ---- names
 

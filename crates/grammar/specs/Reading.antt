@@ -90,6 +90,14 @@ left_out_at (Some after) i = Ok (false, after)
 unfoldable pub left_out : Words → Parser Bool
 left_out words = λ i. left_out_at (words i) i
 
+-- whether a phrase stands, by the tokens after it
+abbrev pub stands_at : Option (List Token) → Parser Bool
+stands_at None i = Ok (false, i)
+stands_at (Some after) i = Ok (true, after)
+
+unfoldable pub stands : Words → Parser Bool
+stands words = λ i. stands_at (words i) i
+
 -- the next token, whatever it is
 abbrev pub advance : Parser (Unit {0})
 advance = λ i. Ok (tt, drop 1 i)
@@ -115,6 +123,9 @@ nothing (first ∷ more) = refuse (first ∷ more)
 unfoldable pub here : Parser Place
 here [] = refuse []
 here (first ∷ more) = Ok (first.place, first ∷ more)
+
+unfoldable pub verb : Reserved → Parser Place
+verb one = here >>= (λ place. expect one >> pure place)
 
 abbrev pub told : {A : Type 0} → Option A → List Token → List Token → Outcome A
 told None more i = refuse i
@@ -144,6 +155,30 @@ several item begins = λ i. several_from item begins (length i) [] i
 -- any number
 unfoldable pub any : {A : Type 0} → Parser A → (List Token → Bool) → Parser (List A)
 any item begins = λ i. if begins i then several item begins i else Ok ([], i)
+
+-- ---- looking past what would be read
+
+abbrev pub rest_of : {A : Type 0} → Outcome A → Option (List Token)
+rest_of (Ok p) = Some p.1
+rest_of (Err halt) = None
+
+-- the tokens after what a reader reads
+abbrev pub past : {A : Type 0} → Parser A → Words
+past read = λ i. rest_of (read i)
+
+abbrev pub and_past : Option (List Token) → Words → Option (List Token)
+and_past None words = None
+and_past (Some i) words = words i
+
+unfoldable pub past_several_from : Words → (List Token → Bool) → ℕ → Words
+past_several_from words begins zero i = None
+past_several_from words begins (suc turns) i = and_past (words i) (λ j. if begins j then past_several_from words begins turns j else Some j)
+
+unfoldable pub past_several : Words → (List Token → Bool) → Words
+past_several words begins i = past_several_from words begins (length i) i
+
+unfoldable pub past_any : Words → (List Token → Bool) → Words
+past_any words begins i = if begins i then past_several words begins i else Some i
 
 -- ---- what a function that reads ensures: what reading gives, unless memory ran out
 

@@ -111,6 +111,30 @@ impl<'a> Tokens<'a> {
         self.rest = past_word(self.rest, word);
     }
 
+    /// Passes this word, if it comes next, and tells whether it did.
+    #[tactic(auto, unfolding(crate::specs::Reading::stands))]
+    pub fn take(&mut self, word: Reserved) -> bool
+        ensures { spec.stands (spec.after_word word) self.old ≡ Ok (result, self.new) }
+    {
+        match after_word(self.rest, word) {
+            Some(rest) => {
+                self.rest = rest;
+                true
+            }
+            None => false,
+        }
+    }
+
+    /// Passes this verb, which has to come next, and tells where it stands.
+    #[tactic(auto, unfolding(crate::specs::Reading::verb))]
+    pub fn verb(&mut self, word: Reserved) -> Result<Place, ReadFault>
+        ensures { Reads (spec.verb word self.old) result self.new }
+    {
+        let place = self.here()?;
+        self.expect(word)?;
+        Ok(place)
+    }
+
     /// Passes the period that has to come next.
     #[tactic(auto, unfolding(crate::specs::Reading::period))]
     pub fn period(&mut self) -> Result<(), ReadFault>

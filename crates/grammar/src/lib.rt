@@ -7,6 +7,8 @@ mod fault;
 mod literals;
 mod names;
 mod part;
+mod passing;
+mod phrase;
 mod words;
 
 pub use cursor::Tokens;
@@ -14,4 +16,6 @@ pub use fault::{Halt, ReadFault};
 pub use literals::{Literals, begins_literal, literal};
 pub use names::{begins_name, name};
 pub use part::{Part, any, several};
+pub use passing::{Passing, past_any, past_several};
+pub use phrase::{Phrase, after_denied, after_opened, two_sided};
 pub use words::{after_word, is_word, past_word};

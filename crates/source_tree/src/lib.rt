@@ -1,6 +1,7 @@
 //! The trees of source texts, and what a run of one shows and how it ends: the meaning that every compiled program keeps.
 #![tactic(auto)]
 
+mod condition;
 mod ending;
 mod expression;
 mod laws;
@@ -12,6 +13,7 @@ mod reference;
 mod statement;
 mod text;
 
+pub use condition::{Class, Condition, Relation, Side, SignTest};
 pub use ending::Ending;
 pub use expression::{Expression, Operand, Operator};
 pub use laws::{budget_law, depth_law, output_law};

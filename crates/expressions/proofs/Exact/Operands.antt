@@ -68,7 +68,7 @@ value_is : (o : Option LiteralValue) (place : Place) (x : Literal) → option_ma
 value_is None place x e = cc
 value_is (Some v) place x e = (v, refl)
 
-number_name : Apart number_literal_in name_in
+pub number_name : Apart number_literal_in name_in
 number_name first x tell = let v = value_is (number_value_by first.kind) first.place x tell in number_no_name first.kind first.place v.0 v.1
 
 number_left : Apart number_literal_in left_in

@@ -1,0 +1,6 @@
+-- What is read is spelled, and what is spelled is read.
+pub mod Tests
+pub mod Sides
+pub mod Levels
+pub mod Plain
+pub mod Conditions

@@ -1,0 +1,5 @@
+pub mod Tests
+pub mod Conditions
+pub mod Nests
+pub mod Laws
+pub use Rattle.grammar.specs.Reading as GrammarReading

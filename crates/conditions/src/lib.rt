@@ -1,0 +1,15 @@
+//! Conditions: their rules, and a reader that answers the one tree whose rule spells the tokens.
+#![tactic(auto)]
+
+mod asked;
+mod compound;
+mod laws;
+mod nested;
+mod plain;
+mod sides;
+
+pub use asked::{Asked, Test, begins_test, read_asked};
+pub use compound::condition;
+pub use laws::condition_law;
+pub use plain::goes_on;
+pub use sides::side;
