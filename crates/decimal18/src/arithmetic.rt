@@ -81,6 +81,8 @@ impl Dec {
     }
 
     /// The sum in 128 bits.
+    #[cold]
+    #[inline(never)]
     #[tactic(auto, unfolding(crate::specs::Arithmetic::sum))]
     fn long_sum(self, other: Dec) -> Result<Dec, Size>
         ensures { result ≡ sum self other }
@@ -96,6 +98,8 @@ impl Dec {
     }
 
     /// The product in 128 bits.
+    #[cold]
+    #[inline(never)]
     #[tactic(auto, unfolding(crate::specs::Arithmetic::product))]
     fn long_product(self, other: Dec) -> Result<Dec, Size>
         ensures { result ≡ product self other }
@@ -108,6 +112,7 @@ impl Dec {
     }
 
     /// The exact sum, or a size error where an aligned coefficient or that of the sum has more than 38 digits.
+    #[inline]
     pub fn add(self, other: Dec) -> Result<Dec, Size>
         ensures { result ≡ sum self other }
     {
@@ -119,6 +124,7 @@ impl Dec {
 
     /// The exact difference, or a size error where an aligned coefficient or that of the difference has more than 38
     /// digits.
+    #[inline]
     #[tactic(auto, using(crate::proofs::Difference::as_sum))]
     pub fn sub(self, other: Dec) -> Result<Dec, Size>
         ensures { result ≡ difference self other }
@@ -130,6 +136,7 @@ impl Dec {
     }
 
     /// The exact product, cut towards zero to 18 decimals, or a size error where its coefficient has more than 38 digits.
+    #[inline]
     pub fn mul(self, other: Dec) -> Result<Dec, Size>
         ensures { result ≡ product self other }
     {
