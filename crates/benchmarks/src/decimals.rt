@@ -12,11 +12,11 @@ use std::time::Instant;
 /// Pairs of operands.
 const COUNT: usize = 1024;
 
-/// How often the pairs are gone through in one timing.
-const PASSES: u32 = 2000;
+/// How often the pairs are gone through in one timing: seldom, so that other programs on the machine disturb few timings.
+const PASSES: u32 = 20;
 
 /// Timings of a body, of which the least counts.
-const TIMINGS: u32 = 5;
+const TIMINGS: u32 = 300;
 
 /// Digits and decimals of the receiver.
 const DIGITS: u8 = 15;
@@ -386,7 +386,7 @@ fn texts(operands: &Operands) -> u64 {
     let mut bytes = [0; TEXT];
     for n in 0..COUNT {
         operands.left[n].digits_into(&mut bytes);
-        sum = sum.wrapping_add(bytes[TEXT - 1] as u64);
+        sum = sum.wrapping_add(bytes[n % TEXT] as u64);
     }
     sum
 }
@@ -396,7 +396,7 @@ fn replaced_texts(operands: &Operands) -> u64 {
     let mut bytes = [0; TEXT];
     for n in 0..COUNT {
         replaced_decimals::write_digits(operands.replaced_left[n], &mut bytes);
-        sum = sum.wrapping_add(bytes[TEXT - 1] as u64);
+        sum = sum.wrapping_add(bytes[n % TEXT] as u64);
     }
     sum
 }
@@ -406,26 +406,26 @@ fn plain_texts(operands: &Operands) -> u64 {
     let mut bytes = [0; TEXT];
     for n in 0..COUNT {
         plain_decimals::write_digits(operands.plain_left[n], &mut bytes);
-        sum = sum.wrapping_add(bytes[TEXT - 1] as u64);
+        sum = sum.wrapping_add(bytes[n % TEXT] as u64);
     }
     sum
 }
 
-/// The digits that are read: they differ from pass to pass.
-fn text_of(operands: &Operands) -> &'static [u8]
+/// The digits that are read: they differ from number to number.
+fn text_of(number: Dec) -> &'static [u8]
     ensures { All IsAsciiDigit result.now }
 {
-    if operands.left[0].is_negative() {
-        b"000000001234567890"
+    if number.is_negative() {
+        b"902345671234567890"
     } else {
-        b"000000000987654321"
+        b"123450000987654321"
     }
 }
 
 fn numbers(operands: &Operands) -> u64 {
-    let text = text_of(operands);
     let mut sum = 0u64;
     for n in 0..COUNT {
+        let text = text_of(operands.left[n]);
         if let Ok(value) = Dec::from_digits(n % 2 == 0, text, DECIMALS) {
             sum = told(sum, value);
         }
@@ -434,9 +434,9 @@ fn numbers(operands: &Operands) -> u64 {
 }
 
 fn replaced_numbers(operands: &Operands) -> u64 {
-    let text = text_of(operands);
     let mut sum = 0u64;
     for n in 0..COUNT {
+        let text = text_of(operands.left[n]);
         if let Some(value) = replaced_decimals::from_digits(n % 2 == 0, text, DECIMALS) {
             sum = told_replaced(sum, value);
         }
@@ -445,9 +445,9 @@ fn replaced_numbers(operands: &Operands) -> u64 {
 }
 
 fn plain_numbers(operands: &Operands) -> u64 {
-    let text = text_of(operands);
     let mut sum = 0u64;
     for n in 0..COUNT {
+        let text = text_of(operands.left[n]);
         if let Some(value) = plain_decimals::from_digits(n % 2 == 0, text, DECIMALS) {
             sum = told_plain(sum, value);
         }
@@ -499,8 +499,8 @@ impl Operation {
             Operation::Fit => "fit",
             Operation::Cut => "cut",
             Operation::Order => "<",
-            Operation::Text => "digits_into, of which the last byte is read",
-            Operation::Digits => "from_digits, of a text that the compiler knows",
+            Operation::Text => "digits_into, 18 bytes",
+            Operation::Digits => "from_digits, 18 bytes",
         }
     }
 
