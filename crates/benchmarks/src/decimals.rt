@@ -6,6 +6,7 @@ ghost use Rattle.std.specs.Char.{IsAsciiDigit};
 
 use crate::{plain_decimals, replaced_decimals};
 use decimal18::{Dec, Rounding};
+use std::cmp::Ordering;
 use std::io;
 use std::time::Instant;
 
@@ -349,12 +350,21 @@ fn plain_cuts(operands: &Operands) -> u64 {
     sum
 }
 
+/// Keeps an order from being dropped.
+fn told_order(sum: u64, order: Ordering) -> u64 {
+    match order {
+        Ordering::Less => sum.wrapping_add(1),
+        Ordering::Equal => sum.wrapping_add(2),
+        Ordering::Greater => sum,
+    }
+}
+
 fn orders(operands: &Operands) -> u64 {
     let mut sum = 0u64;
     for n in 0..COUNT {
         let a = operands.left[n];
         let b = operands.right[n];
-        sum = sum.wrapping_add((a < b) as u64);
+        sum = told_order(sum, a.cmp(&b));
     }
     sum
 }
@@ -374,8 +384,8 @@ fn plain_orders(operands: &Operands) -> u64 {
     for n in 0..COUNT {
         let a = operands.plain_left[n];
         let b = operands.plain_right[n];
-        if let Some(less) = plain_decimals::is_less(a, b) {
-            sum = sum.wrapping_add(less as u64);
+        if let Some(order) = plain_decimals::order(a, b) {
+            sum = told_order(sum, order);
         }
     }
     sum
@@ -427,7 +437,7 @@ fn numbers(operands: &Operands) -> u64 {
     for n in 0..COUNT {
         let text = text_of(operands.left[n]);
         if let Ok(value) = Dec::from_digits(n % 2 == 0, text, DECIMALS) {
-            sum = told(sum, value);
+            sum = sum.wrapping_add(u64::try_from(value.magnitude()).unwrap_or(0));
         }
     }
     sum
@@ -438,7 +448,7 @@ fn replaced_numbers(operands: &Operands) -> u64 {
     for n in 0..COUNT {
         let text = text_of(operands.left[n]);
         if let Some(value) = replaced_decimals::from_digits(n % 2 == 0, text, DECIMALS) {
-            sum = told_replaced(sum, value);
+            sum = sum.wrapping_add(u64::try_from(value.coefficient.unsigned_abs()).unwrap_or(0));
         }
     }
     sum
@@ -449,7 +459,7 @@ fn plain_numbers(operands: &Operands) -> u64 {
     for n in 0..COUNT {
         let text = text_of(operands.left[n]);
         if let Some(value) = plain_decimals::from_digits(n % 2 == 0, text, DECIMALS) {
-            sum = told_plain(sum, value);
+            sum = sum.wrapping_add(value.coefficient.unsigned_abs());
         }
     }
     sum
@@ -498,7 +508,7 @@ impl Operation {
             Operation::Quotient => "div",
             Operation::Fit => "fit",
             Operation::Cut => "cut",
-            Operation::Order => "<",
+            Operation::Order => "cmp, of which the replaced code told only what is less",
             Operation::Text => "digits_into, 18 bytes",
             Operation::Digits => "from_digits, 18 bytes",
         }

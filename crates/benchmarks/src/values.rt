@@ -44,8 +44,20 @@ const PACKED: Numeric = Numeric {
     usage: Usage::Packed { signed: true },
 };
 
-/// A number of 18 digits.
-const NUMBER: u64 = 987_654_321_012_345_678;
+/// The greatest number of 18 digits.
+const MOST: u64 = 999_999_999_999_999_999;
+
+/// Numbers of 18 digits.
+const NUMBERS: [u64; TEXTS] = [
+    987_654_321_012_345_678,
+    123_456_789_098_765_432,
+    500_000_000_000_000_005,
+    999_999_999_999_999_999,
+    314_159_265_358_979_323,
+    271_828_182_845_904_523,
+    141_421_356_237_309_504,
+    161_803_398_874_989_484,
+];
 
 /// The number of ASCII digits, or none.
 fn plain_number(bytes: &[u8; 18]) -> Option<u64> {
@@ -143,11 +155,18 @@ fn binary_numbers() -> u64 {
     sum
 }
 
+/// The n-th of them.
+fn number_at(n: u32) -> u64
+    ensures { result < 10 ^ 18 }
+{
+    NUMBERS[n as usize % TEXTS].min(MOST)
+}
+
 fn plain_stores() -> u64 {
     let mut bytes = [0; 18];
     let mut sum = 0u64;
     for n in 0..COUNT {
-        plain_store(NUMBER - u64::from(n), &mut bytes);
+        plain_store(number_at(n), &mut bytes);
         sum = sum.wrapping_add(u64::from(bytes[(n % 18) as usize]));
     }
     sum
@@ -159,7 +178,7 @@ fn written(n: u32) -> Dec
     ensures digits { unsigned_abs result.coefficient < 10 ^ 18 }
     ensures sign { is_negative result.coefficient ≡ false }
 {
-    Dec::new(i128::from(NUMBER - u64::from(n)), 2)
+    Dec::new(i128::from(number_at(n)), 2)
 }
 
 fn display_stores(item: Numeric) -> u64
