@@ -6,17 +6,18 @@ ghost use Rattle.std.specs.Char.{IsAsciiDigit};
 
 use crate::{plain_decimals, replaced_decimals};
 use decimal18::{Dec, Rounding};
+use std::cmp::Ordering;
 use std::io;
 use std::time::Instant;
 
 /// Pairs of operands.
 const COUNT: usize = 1024;
 
-/// How often the pairs are gone through in one timing.
-const PASSES: u32 = 2000;
+/// How often the pairs are gone through in one timing: seldom, so that other programs on the machine disturb few timings.
+const PASSES: u32 = 20;
 
 /// Timings of a body, of which the least counts.
-const TIMINGS: u32 = 5;
+const TIMINGS: u32 = 300;
 
 /// Digits and decimals of the receiver.
 const DIGITS: u8 = 15;
@@ -349,12 +350,21 @@ fn plain_cuts(operands: &Operands) -> u64 {
     sum
 }
 
+/// Keeps an order from being dropped.
+fn told_order(sum: u64, order: Ordering) -> u64 {
+    match order {
+        Ordering::Less => sum.wrapping_add(1),
+        Ordering::Equal => sum.wrapping_add(2),
+        Ordering::Greater => sum,
+    }
+}
+
 fn orders(operands: &Operands) -> u64 {
     let mut sum = 0u64;
     for n in 0..COUNT {
         let a = operands.left[n];
         let b = operands.right[n];
-        sum = sum.wrapping_add((a < b) as u64);
+        sum = told_order(sum, a.cmp(&b));
     }
     sum
 }
@@ -374,8 +384,8 @@ fn plain_orders(operands: &Operands) -> u64 {
     for n in 0..COUNT {
         let a = operands.plain_left[n];
         let b = operands.plain_right[n];
-        if let Some(less) = plain_decimals::is_less(a, b) {
-            sum = sum.wrapping_add(less as u64);
+        if let Some(order) = plain_decimals::order(a, b) {
+            sum = told_order(sum, order);
         }
     }
     sum
@@ -386,7 +396,7 @@ fn texts(operands: &Operands) -> u64 {
     let mut bytes = [0; TEXT];
     for n in 0..COUNT {
         operands.left[n].digits_into(&mut bytes);
-        sum = sum.wrapping_add(bytes[TEXT - 1] as u64);
+        sum = sum.wrapping_add(bytes[n % TEXT] as u64);
     }
     sum
 }
@@ -396,7 +406,7 @@ fn replaced_texts(operands: &Operands) -> u64 {
     let mut bytes = [0; TEXT];
     for n in 0..COUNT {
         replaced_decimals::write_digits(operands.replaced_left[n], &mut bytes);
-        sum = sum.wrapping_add(bytes[TEXT - 1] as u64);
+        sum = sum.wrapping_add(bytes[n % TEXT] as u64);
     }
     sum
 }
@@ -406,50 +416,50 @@ fn plain_texts(operands: &Operands) -> u64 {
     let mut bytes = [0; TEXT];
     for n in 0..COUNT {
         plain_decimals::write_digits(operands.plain_left[n], &mut bytes);
-        sum = sum.wrapping_add(bytes[TEXT - 1] as u64);
+        sum = sum.wrapping_add(bytes[n % TEXT] as u64);
     }
     sum
 }
 
-/// The digits that are read: they differ from pass to pass.
-fn text_of(operands: &Operands) -> &'static [u8]
+/// The digits that are read: they differ from number to number.
+fn text_of(number: Dec) -> &'static [u8]
     ensures { All IsAsciiDigit result.now }
 {
-    if operands.left[0].is_negative() {
-        b"000000001234567890"
+    if number.is_negative() {
+        b"902345671234567890"
     } else {
-        b"000000000987654321"
+        b"123450000987654321"
     }
 }
 
 fn numbers(operands: &Operands) -> u64 {
-    let text = text_of(operands);
     let mut sum = 0u64;
     for n in 0..COUNT {
+        let text = text_of(operands.left[n]);
         if let Ok(value) = Dec::from_digits(n % 2 == 0, text, DECIMALS) {
-            sum = told(sum, value);
+            sum = sum.wrapping_add(u64::try_from(value.magnitude()).unwrap_or(0));
         }
     }
     sum
 }
 
 fn replaced_numbers(operands: &Operands) -> u64 {
-    let text = text_of(operands);
     let mut sum = 0u64;
     for n in 0..COUNT {
+        let text = text_of(operands.left[n]);
         if let Some(value) = replaced_decimals::from_digits(n % 2 == 0, text, DECIMALS) {
-            sum = told_replaced(sum, value);
+            sum = sum.wrapping_add(u64::try_from(value.coefficient.unsigned_abs()).unwrap_or(0));
         }
     }
     sum
 }
 
 fn plain_numbers(operands: &Operands) -> u64 {
-    let text = text_of(operands);
     let mut sum = 0u64;
     for n in 0..COUNT {
+        let text = text_of(operands.left[n]);
         if let Some(value) = plain_decimals::from_digits(n % 2 == 0, text, DECIMALS) {
-            sum = told_plain(sum, value);
+            sum = sum.wrapping_add(value.coefficient.unsigned_abs());
         }
     }
     sum
@@ -498,9 +508,9 @@ impl Operation {
             Operation::Quotient => "div",
             Operation::Fit => "fit",
             Operation::Cut => "cut",
-            Operation::Order => "<",
-            Operation::Text => "digits_into, of which the last byte is read",
-            Operation::Digits => "from_digits, of a text that the compiler knows",
+            Operation::Order => "cmp, of which the replaced code told only what is less",
+            Operation::Text => "digits_into, 18 bytes",
+            Operation::Digits => "from_digits, 18 bytes",
         }
     }
 

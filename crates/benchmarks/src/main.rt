@@ -2,6 +2,7 @@
 #![tactic(auto)]
 
 mod decimals;
+mod moves;
 mod plain_decimals;
 mod replaced_decimals;
 mod sources;
@@ -23,6 +24,7 @@ fn main(rt: HostRuntime) -> io::Result<()> {
             "memory" => sources::measure_memory(&rt)?,
             "decimals" => decimals::measure(&rt)?,
             "values" => values::measure(&rt)?,
+            "moves" => moves::measure(&rt)?,
             "volumes" => volumes::measure(&rt)?,
             "releases" => volumes::measure_releases(&rt)?,
             "texts" => texts::measure(&rt)?,
@@ -32,7 +34,7 @@ fn main(rt: HostRuntime) -> io::Result<()> {
     }
     if !named {
         println!(rt;
-            "measurements: sources, memory, decimals, values, texts, volumes, releases, trees"
+            "measurements: sources, memory, decimals, values, moves, texts, volumes, releases, trees"
         )?;
     }
     Ok(())

@@ -1,5 +1,7 @@
 //! Plain integers of 64 bits with a scale: what a loop would do that tests for overflow and has no other path.
 
+use std::cmp::Ordering;
+
 /// A coefficient and a scale.
 #[derive(Clone, Copy)]
 pub struct Number {
@@ -116,13 +118,13 @@ pub fn low_digits(number: Number, digits: u8, scale: u8) -> Option<Number> {
     Some(Number { coefficient, scale })
 }
 
-pub fn is_less(left: Number, right: Number) -> Option<bool> {
+pub fn order(left: Number, right: Number) -> Option<Ordering> {
     if left.scale <= right.scale {
         let raised = raised(left.coefficient, right.scale - left.scale)?;
-        return Some(raised < right.coefficient);
+        return Some(raised.cmp(&right.coefficient));
     }
     let raised = raised(right.coefficient, left.scale - right.scale)?;
-    Some(left.coefficient < raised)
+    Some(left.coefficient.cmp(&raised))
 }
 
 pub fn quotient(dividend: Number, divisor: Number) -> Option<Number> {

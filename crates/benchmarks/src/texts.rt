@@ -14,8 +14,11 @@ use text_ops::{Entry, Fit, Progress, Span, compare, tally};
 /// Sizes of the texts that are compared, in bytes.
 const COMPARED: [usize; 4] = [32, 256, 4_096, 65_535];
 
-/// Bytes that a measurement of comparison goes through.
-const BYTES: usize = 400_000_000;
+/// Bytes that a round of comparison goes through: few, so that other programs on the machine disturb few rounds.
+const BYTES: usize = 400_000;
+
+/// Rounds, of which the quickest counts.
+const ROUNDS: u32 = 300;
 
 /// Sizes of the texts that are inspected.
 const INSPECTED: [usize; 3] = [1_000, 8_000, 64_000];
@@ -25,8 +28,8 @@ const ENTRIES: [usize; 3] = [1, 4, 16];
 
 const MOST_ENTRIES: usize = 16;
 
-/// Pairs of a byte and an entry that a measurement of INSPECT goes through.
-const PAIRS: usize = 40_000_000;
+/// Pairs of a byte and an entry that a round of INSPECT goes through.
+const PAIRS: usize = 400_000;
 
 /// The item of a text.
 fn word(text: &[u8]) -> Option<Item>
@@ -69,18 +72,36 @@ fn filled(rt: &HostRuntime, size: usize) -> Result<Vec<u8>, AllocError> {
     vec![in rt.alloc(); b'A'; size]
 }
 
+/// The nanoseconds of the quickest round.
+fn comparison_time(
+    rt: &HostRuntime,
+    one: &[u8],
+    other: &mut [u8],
+    turns: usize,
+    plain: bool,
+) -> io::Result<u128> {
+    let mut least = u128::MAX;
+    let mut less = 0_u64;
+    for _ in 0..ROUNDS {
+        let start = Instant::now(rt)?;
+        less = less.saturating_add(compared(one, other, turns, plain));
+        least = least.min(start.elapsed(rt)?.as_nanos());
+    }
+    if less == 0 {
+        println!(rt; "nothing was less")?;
+    }
+    Ok(least)
+}
+
 fn measure_comparison(rt: &HostRuntime, size: usize) -> io::Result<()> {
     let one = filled(rt, size)?;
     let mut other = filled(rt, size)?;
     let turns = BYTES / size.max(1);
-    let start = Instant::now(rt)?;
-    let plain = compared(&one, &mut other, turns, true);
-    let slices = start.elapsed(rt)?.as_micros();
-    let start = Instant::now(rt)?;
-    let less = compared(&one, &mut other, turns, false);
-    let texts = start.elapsed(rt)?.as_micros();
+    let slices = comparison_time(rt, &one, &mut other, turns, true)?;
+    let texts = comparison_time(rt, &one, &mut other, turns, false)?;
+    let ratio = texts.min(1_000_000_000) * 100 / slices.max(1);
     println!(rt;
-        "{size} bytes: slices {slices} µs, compare {texts} µs for {turns} (less {plain}, {less})"
+        "{size} bytes: slices {slices} ns, compare {texts} ns for {turns}, {ratio} hundredths"
     )
 }
 
@@ -121,13 +142,17 @@ fn inspected(subject: &[u8], count: usize, turns: usize) -> u64 {
 fn measure_inspection(rt: &HostRuntime, size: usize, count: usize) -> io::Result<()> {
     let subject = filled(rt, size)?;
     let turns = PAIRS / size.max(1) / count.max(1);
-    let start = Instant::now(rt)?;
-    let sum = inspected(&subject, count, turns);
-    let micros = start.elapsed(rt)?.as_micros();
-    println!(rt; "{size} bytes, {count} entries: {micros} µs for {turns} (counted {sum})")
+    let mut least = u128::MAX;
+    let mut sum = 0_u64;
+    for _ in 0..ROUNDS {
+        let start = Instant::now(rt)?;
+        sum = sum.saturating_add(inspected(&subject, count, turns));
+        least = least.min(start.elapsed(rt)?.as_nanos());
+    }
+    println!(rt; "{size} bytes, {count} entries: {least} ns for {turns} (counted {sum})")
 }
 
-/// Both, in microseconds.
+/// Both, in nanoseconds.
 pub fn measure(rt: &HostRuntime) -> io::Result<()> {
     for size in COMPARED {
         measure_comparison(rt, size)?;

@@ -9,11 +9,14 @@ use items::{Numeric, OperationalSign, Usage, number, store};
 use std::io;
 use std::time::Instant;
 
-/// Numbers in a round.
-const COUNT: u32 = 1_000_000;
+/// Numbers in a round: few, so that other programs on the machine disturb few rounds.
+const COUNT: u32 = 10_000;
 
-/// Rounds, of which the quickest counts: other programs on the machine disturb the others.
-const ROUNDS: u32 = 15;
+/// Rounds, of which the quickest counts.
+const ROUNDS: u32 = 500;
+
+/// Numbers as bytes that are gone through.
+const TEXTS: usize = 8;
 
 const DIGITS: u8 = 18;
 
@@ -41,8 +44,20 @@ const PACKED: Numeric = Numeric {
     usage: Usage::Packed { signed: true },
 };
 
-/// A number of 18 digits.
-const NUMBER: u64 = 987_654_321_012_345_678;
+/// The greatest number of 18 digits.
+const MOST: u64 = 999_999_999_999_999_999;
+
+/// Numbers of 18 digits.
+const NUMBERS: [u64; TEXTS] = [
+    987_654_321_012_345_678,
+    123_456_789_098_765_432,
+    500_000_000_000_000_005,
+    999_999_999_999_999_999,
+    314_159_265_358_979_323,
+    271_828_182_845_904_523,
+    141_421_356_237_309_504,
+    161_803_398_874_989_484,
+];
 
 /// The number of ASCII digits, or none.
 fn plain_number(bytes: &[u8; 18]) -> Option<u64> {
@@ -74,12 +89,38 @@ fn told(number: Option<Dec>) -> u64 {
     }
 }
 
+/// Numbers in DISPLAY usage.
+fn display_texts() -> [[u8; 18]; TEXTS] {
+    let mut texts = [*b"987654321012345678"; TEXTS];
+    for n in 0..TEXTS {
+        texts[n][n] = b'9' - n as u8;
+    }
+    texts
+}
+
+/// Numbers in packed usage.
+fn packed_texts() -> [[u8; 10]; TEXTS] {
+    let mut texts = [*b"\x09\x87\x65\x43\x21\x01\x23\x45\x67\x8c"; TEXTS];
+    for n in 0..TEXTS {
+        texts[n][n] = n as u8;
+    }
+    texts
+}
+
+/// Numbers in binary usage.
+fn binary_texts() -> [[u8; 8]; TEXTS] {
+    let mut texts = [*b"\x00\x87\x65\x43\x21\x01\x23\x45"; TEXTS];
+    for n in 0..TEXTS {
+        texts[n][7] = n as u8;
+    }
+    texts
+}
+
 fn plain_numbers() -> u64 {
-    let mut bytes = *b"987654321012345678";
+    let texts = display_texts();
     let mut sum = 0u64;
     for n in 0..COUNT {
-        bytes[(n % 16) as usize] = b'0' + (n % 10) as u8;
-        sum = sum.wrapping_add(plain_number(&bytes).unwrap_or(0));
+        sum = sum.wrapping_add(plain_number(&texts[n as usize % TEXTS]).unwrap_or(0));
     }
     sum
 }
@@ -88,40 +129,44 @@ fn display_numbers(item: Numeric) -> u64
     requires item { IsNumeric item }
     requires length { length_of item ≡ 18 }
 {
-    let mut bytes = *b"987654321012345678";
+    let texts = display_texts();
     let mut sum = 0u64;
     for n in 0..COUNT {
-        bytes[(n % 16) as usize] = b'0' + (n % 10) as u8;
-        sum = sum.wrapping_add(told(number(item, &bytes)));
+        sum = sum.wrapping_add(told(number(item, &texts[n as usize % TEXTS])));
     }
     sum
 }
 
 fn packed_numbers() -> u64 {
-    let mut bytes = *b"\x09\x87\x65\x43\x21\x01\x23\x45\x67\x8c";
+    let texts = packed_texts();
     let mut sum = 0u64;
     for n in 0..COUNT {
-        bytes[(n % 8) as usize + 1] = (n % 10) as u8;
-        sum = sum.wrapping_add(told(number(PACKED, &bytes)));
+        sum = sum.wrapping_add(told(number(PACKED, &texts[n as usize % TEXTS])));
     }
     sum
 }
 
 fn binary_numbers() -> u64 {
-    let mut bytes = [0; 8];
+    let texts = binary_texts();
     let mut sum = 0u64;
     for n in 0..COUNT {
-        bytes[(n % 4) as usize + 4] = (n % 10) as u8;
-        sum = sum.wrapping_add(told(number(BINARY, &bytes)));
+        sum = sum.wrapping_add(told(number(BINARY, &texts[n as usize % TEXTS])));
     }
     sum
+}
+
+/// The n-th of them.
+fn number_at(n: u32) -> u64
+    ensures { result < 10 ^ 18 }
+{
+    NUMBERS[n as usize % TEXTS].min(MOST)
 }
 
 fn plain_stores() -> u64 {
     let mut bytes = [0; 18];
     let mut sum = 0u64;
     for n in 0..COUNT {
-        plain_store(NUMBER - u64::from(n), &mut bytes);
+        plain_store(number_at(n), &mut bytes);
         sum = sum.wrapping_add(u64::from(bytes[(n % 18) as usize]));
     }
     sum
@@ -133,7 +178,7 @@ fn written(n: u32) -> Dec
     ensures digits { unsigned_abs result.coefficient < 10 ^ 18 }
     ensures sign { is_negative result.coefficient ≡ false }
 {
-    Dec::new(i128::from(NUMBER - u64::from(n)), 2)
+    Dec::new(i128::from(number_at(n)), 2)
 }
 
 fn display_stores(item: Numeric) -> u64
@@ -232,30 +277,30 @@ impl Measurement {
     }
 }
 
-/// The microseconds of the quickest round.
-fn microseconds(rt: &HostRuntime, measurement: Measurement) -> io::Result<u128> {
+/// The nanoseconds of a thousand numbers in the quickest round.
+fn nanoseconds(rt: &HostRuntime, measurement: Measurement) -> io::Result<u128> {
     let mut least = u128::MAX;
     for _ in 0..ROUNDS {
         let start = Instant::now(rt)?;
         let sum = measurement.run();
-        least = least.min(start.elapsed(rt)?.as_micros());
+        least = least.min(start.elapsed(rt)?.as_nanos());
         if sum == 0 {
             println!(rt; "nothing was measured")?;
         }
     }
-    Ok(least)
+    Ok(least / u128::from(COUNT / 1_000))
 }
 
 /// Each of these beside the plain loop, in hundredths of its time.
 fn compare(rt: &HostRuntime, plain: Measurement, others: &[Measurement]) -> io::Result<()> {
-    let plain_time = microseconds(rt, plain)?.max(1);
+    let plain_time = nanoseconds(rt, plain)?.max(1);
     let plain_name = plain.name();
-    println!(rt; "{plain_name}: {plain_time} us for {COUNT}")?;
+    println!(rt; "{plain_name}: {plain_time} ps a number")?;
     for other in others {
-        let time = microseconds(rt, *other)?;
+        let time = nanoseconds(rt, *other)?;
         let name = other.name();
         let ratio = time.min(1_000_000_000) * 100 / plain_time;
-        println!(rt; "{name}: {time} us, {ratio} hundredths of the plain loop")?;
+        println!(rt; "{name}: {time} ps, {ratio} hundredths of the plain loop")?;
     }
     Ok(())
 }

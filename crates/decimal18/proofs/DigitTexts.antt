@@ -1,10 +1,10 @@
 -- Digits written from the last to the first, and a number's digits in two parts.
-use Rattle.std.proofs.Common.{◌≡◌, ℕ, zero, suc, ◌+◌, ◌-◌, ◌*◌, ◌/◌, ◌%◌, ◌^◌, ◌<◌, ◌≤◌, List, ◌∷◌, ◌++◌, length, drop, ap, sym, ◌∙◌, arith, add-one, refl, inl, inr}
+use Rattle.std.proofs.Common.{◌≡◌, ℕ, zero, suc, ◌+◌, ◌-◌, ◌*◌, ◌/◌, ◌%◌, ◌^◌, ◌<◌, ◌≤◌, List, [], ◌∷◌, ◌++◌, get_or, length, drop, ap, sym, ◌∙◌, arith, add-one, refl, inl, inr}
 use Rattle.std.proofs.lemmas.Bool.{cases_lt}
 use Rattle.std.proofs.Math.ListN.{set}
 use Rattle.std.proofs.Math.Nat.{div-mul-le_self, div-div-eq-div-mul, pow-suc, mul-add-div_right, mul-add-mod_self_right, mul_assoc}
 use Rattle.std.proofs.lemmas.List.{drop-set, drop_all}
-use Rattle.std.proofs.lemmas.Nat.{pow-add}
+use Rattle.std.proofs.lemmas.Nat.{pow-add, div-add-mod'}
 use Rattle.decimal18.specs.Digits.{digit_text, digit_of}
 use Rattle.decimal18.specs.TotalOrder.{ten_pos}
 
@@ -87,3 +87,30 @@ written_in_parts n m u size front back one two same unit e f g h =
     let parts : n ≡ m / u * 10 ^ 19 + (m - m / u * u) = sym same ∙ whole ∙ ap (λ t. m / u * t + (m - m / u * u)) unit in
     let high : m / u ≡ n / 10 ^ 19 = ap (λ t. t / u) same ∙ ap (λ t. n / t) unit in
     ap (λ t. t ++ two) e ∙ ap (λ t. digit_text front (m / u) ++ t) f ∙ text_in_parts n (m / u) (m - m / u * u) 19 size front back parts high g h
+
+-- ---- digits written in two halves
+
+-- A number's last digits in two parts, of which each is that of a smaller number.
+pub text_halves : (n front back : ℕ) (one two : List ℕ) → one ≡ digit_text front (n / 10 ^ back) → two ≡ digit_text back (n % 10 ^ back) → one ++ two ≡ digit_text (front + back) n
+text_halves n front back one two e f =
+    let whole : n / 10 ^ back * 10 ^ back + n % 10 ^ back ≡ n = div-add-mod' n (10 ^ back) in
+    let most : back ≤ back = omega arith in
+    ap (λ t. t ++ two) e ∙ ap (λ t. digit_text front (n / 10 ^ back) ++ t) f
+    ∙ ap (λ t. digit_text front (n / 10 ^ back) ++ t) (sym (low_text (n / 10 ^ back) (n % 10 ^ back) back back most) ∙ ap (digit_text back) whole)
+    ∙ sym (text_split n front back)
+
+-- ---- the table of pairs
+
+abbrev pub pairs_from : ℕ → ℕ → List (List ℕ)
+pairs_from zero k = []
+pairs_from (suc n) k = digit_text 2 k ∷ pairs_from n (suc k)
+
+pub pair_at : (n k i : ℕ) (d : List ℕ) → i < n → get_or (pairs_from n k) i d ≡ digit_text 2 (k + i)
+pair_at zero k i d h = absurd (omega arith)
+pair_at (suc n) k zero d h = ap (digit_text 2) (let e : k ≡ k + 0 = omega arith in e)
+pair_at (suc n) k (suc i) d h =
+    let here : i < n = omega arith in
+    pair_at n (suc k) i d here ∙ ap (digit_text 2) (let e : suc k + i ≡ k + suc i = omega arith in e)
+
+pub pair_of_table : (i : ℕ) (d : List ℕ) → i < 100 → get_or (pairs_from 100 0) i d ≡ digit_text 2 i
+pair_of_table i d h = pair_at 100 0 i d h ∙ ap (digit_text 2) (let e : 0 + i ≡ i = omega arith in e)

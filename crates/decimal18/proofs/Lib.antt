@@ -1,7 +1,9 @@
 pub mod Alignment
 pub mod Difference
+pub mod DigitRunParts
 pub mod DigitRuns
 pub mod DigitTexts
+pub mod EightDigits
 pub mod Examples
 pub mod Greatest
 pub mod Halves

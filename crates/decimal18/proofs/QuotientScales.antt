@@ -50,3 +50,15 @@ pub no_scale : (x y : Fraction) (m d most : ℕ) → x.scale ≤ 18 → y.scale 
 no_scale x y m d most h k e below least full f less =
     let counted : Counted (unsigned_abs x.coefficient) d = subst (λ n. Counted n d) e (record { below = below; least = least; most = full }) in
     sym (greatest_never (admits x y) 18 (λ r b. let over : 38 + x.scale < r + y.scale + d = omega arith in outside x y d r h k b counted over))
+
+-- Scale 18 is admitted where the coefficient leaves room for the zeros that it takes.
+pub most_admitted : (x y : Fraction) (m p d : ℕ) → x.scale ≤ 18 → y.scale ≤ 18 → m ≡ unsigned_abs x.coefficient → p ≡ 10 ^ d → d ≡ 38 + x.scale - 18 - y.scale → m < p → admits x y 18 ≡ true
+most_admitted x y m p d h k e f room less =
+    let under : 18 ≤ 18 = omega arith in
+    let enough : x.scale ≤ 18 + y.scale = omega arith in
+    let fits : 18 + y.scale - x.scale + d ≤ 38 = omega arith in
+    let below : m < 10 ^ d = subst (λ n. m < n) f less in
+    admitted x y d 18 h k under (subst (λ n. n < 10 ^ d) e below) enough fits
+
+pub most_found : (x y : Fraction) → admits x y 18 ≡ true → Some 18 ≡ greatest (admits x y) 18
+most_found x y full = sym (greatest_is (admits x y) 18 18 (omega arith) full (λ r a b. absurd (omega arith)))

@@ -1,5 +1,7 @@
 -- Numbers from and by their decimal digits (COBOL-85, Nucleus, numeric literals and the digit positions of a numeric item).
 use Rattle.std.specs.Prelude.{ℕ, zero, suc, Bool, ℤ, pos, List, [], ◌∷◌, ◌+◌, ◌-◌, ◌*◌, ◌/◌, ◌%◌, ◌^◌, ◌==◌, unsigned_abs, int_div, if◌then◌else◌, Option, Some, None, Result}
+use Rattle.std.specs.Char.{is_ascii_digit}
+use Rattle.std.specs.List.{list_all}
 use Rattle.decimal18.specs.Fraction.{Fraction, signed}
 use Rattle.decimal18.specs.Arithmetic.{intermediate}
 use Rattle.decimal18.specs.declared.size_error.Size.{Size}
@@ -8,6 +10,10 @@ use Rattle.decimal18.specs.declared.size_error.Size.{Size}
 abbrev pub digits_behind : ℕ → List ℕ → ℕ
 digits_behind n [] = n
 digits_behind n (c ∷ cs) = digits_behind (10 * n + (c - 48)) cs
+
+-- The same of bytes that may be no digits.
+abbrev pub number_behind : ℕ → List ℕ → Option ℕ
+number_behind n cs = if list_all is_ascii_digit cs then Some (digits_behind n cs) else None
 
 -- The number with this sign and these digits, the last of them decimals.
 unfoldable pub spelled : Bool → List ℕ → ℕ → Result Fraction Size

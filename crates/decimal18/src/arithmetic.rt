@@ -29,6 +29,8 @@ pub fn with_sign(negative: bool, magnitude: u128) -> i128
 }
 
 /// The number as an intermediate result.
+#[cold]
+#[inline(never)]
 fn limited(negative: bool, magnitude: u128, scale: u8) -> Result<Dec, Size>
     requires { scale ≤ 36 }
     ensures { result ≡ intermediate (signed negative magnitude) scale }
@@ -44,6 +46,8 @@ fn limited(negative: bool, magnitude: u128, scale: u8) -> Result<Dec, Size>
 }
 
 /// `coefficient * 10^shift`, where that is within the limit of a coefficient.
+#[cold]
+#[inline(never)]
 fn raised(coefficient: i128, shift: u8) -> Option<i128>
     requires coefficient { unsigned_abs coefficient < 10 ^ 38 }
     requires shift { shift ≤ 18 }
@@ -60,6 +64,8 @@ fn raised(coefficient: i128, shift: u8) -> Option<i128>
 }
 
 /// The sum of two aligned coefficients as an intermediate result.
+#[cold]
+#[inline(never)]
 fn total(left: i128, right: i128, scale: u8) -> Result<Dec, Size>
     requires { scale ≤ 18 }
     ensures { result ≡ intermediate (left +ℤ right) scale }
@@ -72,6 +78,7 @@ fn total(left: i128, right: i128, scale: u8) -> Result<Dec, Size>
 
 impl Dec {
     /// The coefficient at a scale that is not less.
+    #[inline]
     fn aligned(self, scale: u8) -> Option<i128>
         requires above { self.scale ≤ scale }
         requires most { scale ≤ 18 }
@@ -81,6 +88,7 @@ impl Dec {
     }
 
     /// The sum in 128 bits.
+    #[inline]
     #[tactic(auto, unfolding(crate::specs::Arithmetic::sum))]
     fn long_sum(self, other: Dec) -> Result<Dec, Size>
         ensures { result ≡ sum self other }
@@ -96,6 +104,7 @@ impl Dec {
     }
 
     /// The product in 128 bits.
+    #[inline]
     #[tactic(auto, unfolding(crate::specs::Arithmetic::product))]
     fn long_product(self, other: Dec) -> Result<Dec, Size>
         ensures { result ≡ product self other }
@@ -108,6 +117,7 @@ impl Dec {
     }
 
     /// The exact sum, or a size error where an aligned coefficient or that of the sum has more than 38 digits.
+    #[inline]
     pub fn add(self, other: Dec) -> Result<Dec, Size>
         ensures { result ≡ sum self other }
     {
@@ -119,6 +129,7 @@ impl Dec {
 
     /// The exact difference, or a size error where an aligned coefficient or that of the difference has more than 38
     /// digits.
+    #[inline]
     #[tactic(auto, using(crate::proofs::Difference::as_sum))]
     pub fn sub(self, other: Dec) -> Result<Dec, Size>
         ensures { result ≡ difference self other }
@@ -130,6 +141,7 @@ impl Dec {
     }
 
     /// The exact product, cut towards zero to 18 decimals, or a size error where its coefficient has more than 38 digits.
+    #[inline]
     pub fn mul(self, other: Dec) -> Result<Dec, Size>
         ensures { result ≡ product self other }
     {

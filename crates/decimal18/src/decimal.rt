@@ -77,8 +77,9 @@ impl Dec {
     }
 
     /// The number with this coefficient of 64 bits.
+    #[inline]
     #[tactic(auto, using(crate::specs::Halves::short_joined))]
-    pub(crate) fn short(coefficient: i64, scale: u8) -> Dec
+    pub fn short(coefficient: i64, scale: u8) -> Dec
         requires { scale ≤ 18 }
         ensures { result ≡ record { coefficient = coefficient; scale = scale } }
     {
@@ -90,6 +91,7 @@ impl Dec {
     }
 
     /// The coefficient, where it fits 64 bits.
+    #[inline]
     #[tactic(auto, using(crate::specs::Halves::short_joined))]
     pub(crate) fn short_coefficient(self) -> Option<i64>
         ensures { IfSome result (λ coefficient. coefficient ≡ self.coefficient) }
@@ -113,6 +115,7 @@ impl Dec {
         Dec::from_parts(false, self.magnitude(), self.scale())
     }
 
+    #[inline]
     pub fn coefficient(self) -> i128
         ensures value { result ≡ self.coefficient }
         ensures bound { unsigned_abs result < 10 ^ 38 }
@@ -121,6 +124,7 @@ impl Dec {
     }
 
     /// Decimals, 0 to 18.
+    #[inline]
     pub fn scale(self) -> u8
         ensures value { result ≡ self.scale }
         ensures bound { result ≤ 18 }
@@ -129,6 +133,7 @@ impl Dec {
     }
 
     /// The coefficient without its sign.
+    #[inline]
     pub fn magnitude(self) -> u128
         ensures value { result ≡ unsigned_abs self.coefficient }
         ensures bound { result < 10 ^ 38 }
@@ -136,6 +141,7 @@ impl Dec {
         self.coefficient().unsigned_abs()
     }
 
+    #[inline]
     pub fn is_zero(self) -> bool
         ensures zero { IsTrue result ↔ (self.coefficient ≡ pos 0) }
         ensures test { result ≡ int_eq self.coefficient (pos 0) }
@@ -143,6 +149,7 @@ impl Dec {
         self.coefficient() == 0
     }
 
+    #[inline]
     pub fn is_negative(self) -> bool
         ensures { result ≡ is_negative self.coefficient }
     {

@@ -4,6 +4,8 @@ use crate::decimal::COEFFICIENT_DIGITS;
 use crate::power::power_of_ten;
 
 /// How many digits a number has; zero has none. They are found by halves.
+#[cold]
+#[inline(never)]
 pub fn digit_count(magnitude: u128) -> u8
     requires { magnitude < 10 ^ 38 }
     ensures below { magnitude < 10 ^ result }

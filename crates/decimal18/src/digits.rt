@@ -5,35 +5,16 @@ ghost use Rattle.decimal18.specs.Digits.{digits_behind, spelled, digit_of, whole
 
 use crate::arithmetic::{divided, with_sign};
 use crate::decimal::{COEFFICIENT_DIGITS, Dec};
+use crate::digit_run::number_behind;
 use crate::power::power_of_ten;
+use crate::short_receiver::{SHORT_DIGITS, short_parts};
 use crate::size_error::Size;
 
 /// The radix of decimal digits.
 const RADIX: u128 = 10;
 
-/// The same in 64 bits.
-const SHORT_RADIX: u64 = 10;
-
-/// Digits whose number is below 2^64, whatever they are.
-const SHORT: usize = 18;
-
-/// The number that at most 18 ASCII digits stand for.
-#[tactic(auto, using(crate::proofs::DigitRuns::digit_behind))]
-fn short_number(digits: &[u8]) -> u64
-    requires digits { All IsAsciiDigit digits.now }
-    requires short { length digits.now ≤ 18 }
-    ensures value { result ≡ digits_behind 0 digits.now }
-    ensures bound { result < 10 ^ 18 }
-{
-    let mut number = 0;
-    for digit in digits {
-        number = SHORT_RADIX * number + (*digit - b'0') as u64;
-    }
-    number
-}
-
 /// The number that ASCII digits stand for behind those of `front`, if it has at most 38 digits.
-fn number_behind(front: u128, digits: &[u8]) -> Option<u128>
+fn long_number_behind(front: u128, digits: &[u8]) -> Option<u128>
     requires front { front < 10 ^ 38 }
     requires digits { All IsAsciiDigit digits.now }
     ensures value { result ≡ (if nat_lt (digits_behind front digits.now) (10 ^ 38) then Some (digits_behind front digits.now) else None) }
@@ -70,11 +51,12 @@ impl Dec {
         requires scale { scale ≤ 18 }
         ensures { result ≡ spelled negative digits.now scale }
     {
-        if digits.len() <= SHORT {
-            let magnitude = short_number(digits) as u128;
-            return Ok(Dec::from_parts(negative, magnitude, scale));
+        if digits.len() <= usize::from(SHORT_DIGITS) {
+            if let Some(magnitude) = number_behind(0, digits) {
+                return Ok(short_parts(negative, magnitude, SHORT_DIGITS, scale));
+            }
         }
-        match number_behind(0, digits) {
+        match long_number_behind(0, digits) {
             Some(magnitude) => Ok(Dec::from_parts(negative, magnitude, scale)),
             None => Err(Size),
         }

@@ -5,8 +5,10 @@
 mod arithmetic;
 mod decimal;
 mod digit_count;
+mod digit_run;
 mod digit_text;
 mod digits;
+mod eight_digits;
 pub mod laws;
 mod order;
 mod power;
@@ -17,5 +19,7 @@ mod short_receiver;
 mod size_error;
 
 pub use decimal::Dec;
+pub use digit_run::number_behind;
+pub use digit_text::put_digits;
 pub use receiver::Rounding;
 pub use size_error::Size;

@@ -7,6 +7,8 @@ use crate::power::{power_of_ten, signed_power};
 use std::cmp::Ordering;
 
 /// The order of `left * 10^shift` and `right`.
+#[cold]
+#[inline(never)]
 fn raised_order(left: i128, shift: u8, right: i128) -> Ordering
     requires shift { shift ≤ 18 }
     requires right { unsigned_abs right < 10 ^ 38 }
@@ -20,6 +22,7 @@ fn raised_order(left: i128, shift: u8, right: i128) -> Ordering
 }
 
 /// The same in 64 bits.
+#[inline]
 fn short_raised_order(left: i64, shift: u8, right: i64) -> Ordering
     requires { shift ≤ 18 }
     ensures { result ≡ int_cmp (left *ℤ pos (10 ^ shift)) right }
@@ -35,6 +38,7 @@ fn short_raised_order(left: i64, shift: u8, right: i64) -> Ordering
 }
 
 /// The order of two numbers, the first of which has no more decimals.
+#[inline]
 fn order_of(left: Dec, right: Dec) -> Ordering
     requires { left.scale ≤ right.scale }
     ensures { result ≡ order left right }
@@ -61,6 +65,7 @@ impl Ord for Dec {
 
     ghost matches_eq = { λ x y. refl };
 
+    #[inline]
     fn cmp(&self, other: &Dec) -> Ordering {
         let (left, right) = (*self, *other);
         if left.scale() <= right.scale() {
@@ -81,6 +86,7 @@ impl PartialOrd for Dec {
 
     ghost laws = { partial_order_from_agreeing_total order order_total (λ x y. refl) (λ x y. refl) };
 
+    #[inline]
     fn partial_cmp(&self, other: &Dec) -> Option<Ordering> {
         Some(self.cmp(other))
     }
@@ -95,6 +101,7 @@ impl PartialEq for Dec {
 
     ghost laws = { partial_equiv_from_equiv equals_equiv };
 
+    #[inline]
     fn eq(&self, other: &Dec) -> bool {
         self.cmp(other) == Ordering::Equal
     }

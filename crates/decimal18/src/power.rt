@@ -46,6 +46,7 @@ const POWERS: [u128; COUNT] = [
 ];
 
 /// 10 to an exponent of at most 38.
+#[inline]
 pub fn power_of_ten(exponent: u8) -> u128
     requires { exponent ≤ 38 }
     ensures value { result ≡ 10 ^ exponent }
@@ -81,6 +82,7 @@ const SHORT_POWERS: [u64; SHORT_COUNT] = [
 ];
 
 /// 10 to an exponent of at most 19, in 64 bits.
+#[inline]
 pub fn short_power(exponent: u8) -> u64
     requires { exponent ≤ 19 }
     ensures value { result ≡ 10 ^ exponent }
@@ -90,6 +92,7 @@ pub fn short_power(exponent: u8) -> u64
 }
 
 /// 10 to an exponent of at most 18, in 64 bits with a sign.
+#[inline]
 #[tactic(auto, using(crate::proofs::Powers::power_le))]
 pub fn signed_power(exponent: u8) -> i64
     requires { exponent ≤ 18 }

@@ -9,12 +9,18 @@ use crate::size_error::Size;
 
 impl Dec {
     /// The greatest scale that the quotient may have: the dividend's coefficient takes as many zeros as leave it at most
-    /// 38 digits.
+    /// 38 digits. Nearly always that is 18, and one comparison tells.
+    #[inline]
     fn quotient_scale(self, divisor: Dec) -> Option<u8>
         ensures value { result ≡ greatest (admits self divisor) 18 }
         ensures admitted { IfSome result (λ q. (q ≤ 18) × (admits self divisor q ≡ true)) }
     {
-        let most = COEFFICIENT_DIGITS - digit_count(self.magnitude()) + self.scale();
+        let magnitude = self.magnitude();
+        let room = COEFFICIENT_DIGITS + self.scale() - MOST_SCALE - divisor.scale();
+        if magnitude < power_of_ten(room) {
+            return Some(MOST_SCALE);
+        }
+        let most = COEFFICIENT_DIGITS - digit_count(magnitude) + self.scale();
         if most < divisor.scale() {
             return None;
         }

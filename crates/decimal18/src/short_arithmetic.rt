@@ -8,6 +8,7 @@ use crate::power::signed_power;
 
 impl Dec {
     /// The coefficient at a scale that is not less.
+    #[inline]
     #[tactic(auto, using(crate::proofs::ShortArithmetic::aligned_same, crate::proofs::ShortArithmetic::aligned_by))]
     fn short_aligned(self, scale: u8) -> Option<i64>
         requires above { self.scale ≤ scale }
@@ -25,6 +26,7 @@ impl Dec {
     }
 
     /// The exact sum.
+    #[inline]
     pub(crate) fn short_sum(self, other: Dec) -> Option<Dec>
         ensures { IfSome result (λ total. Ok total ≡ sum self other) }
     {
@@ -42,6 +44,7 @@ impl Dec {
     }
 
     /// The exact difference.
+    #[inline]
     pub(crate) fn short_difference(self, other: Dec) -> Option<Dec>
         ensures { IfSome result (λ rest. Ok rest ≡ difference self other) }
     {
@@ -59,6 +62,7 @@ impl Dec {
     }
 
     /// The exact product, where it has at most 18 decimals.
+    #[inline]
     pub(crate) fn short_product(self, other: Dec) -> Option<Dec>
         ensures { IfSome result (λ times. Ok times ≡ product self other) }
     {

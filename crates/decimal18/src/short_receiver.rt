@@ -100,7 +100,7 @@ fn low_part(magnitude: u64, from: u8, digits: u8, scale: u8, rounding: Rounding)
 
 /// The number with this scale whose coefficient has this sign and absolute value.
 #[tactic(auto, using(crate::proofs::Powers::power_le))]
-fn short_parts(negative: bool, magnitude: u64, digits: u8, scale: u8) -> Dec
+pub fn short_parts(negative: bool, magnitude: u64, digits: u8, scale: u8) -> Dec
     requires digits { digits ≤ 18 }
     requires magnitude { magnitude < 10 ^ digits }
     requires scale { scale ≤ 18 }

@@ -6,4 +6,6 @@ mod asserted;
 #[cfg(test)]
 mod decimal_rows;
 #[cfg(test)]
+mod digit_rows;
+#[cfg(test)]
 mod limit_rows;

@@ -603,6 +603,10 @@ fn texts(rt: HostRuntime) {
     writes(&rt, (1234, 2), b"");
     writes(&rt, (999_999_999_999_999_999, 0), b"999999999999999999");
     writes(&rt, (9_223_372_036_854_775_808, 0), b"223372036854775808");
+}
+
+#[test]
+fn texts_of_more_than_18_digits(rt: HostRuntime) {
     writes(
         &rt,
         (18_446_744_073_709_551_615, 0),
@@ -625,6 +629,10 @@ fn texts(rt: HostRuntime) {
         (10_000_000_000_000_000_000, 0),
         b"10000000000000000000",
     );
+}
+
+#[test]
+fn texts_of_up_to_38_digits(rt: HostRuntime) {
     writes(
         &rt,
         (-99_999_999_999_999_999_999_999_999_999_999_999_999, 5),

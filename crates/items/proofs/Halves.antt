@@ -263,3 +263,29 @@ packed_back s negative k m =
     ∙ ap (of_halves s) (halves_joined k m half (sign_small s negative))
     ∙ ends s (digit_halves (suc (2 * k)) m) half
     ∙ ap (by_sign_half s half) (characters_back (suc (2 * k)) m)
+
+-- ---- the table of pairs
+
+abbrev pub packed_from : ℕ → ℕ → List ℕ
+packed_from zero k = []
+packed_from (suc n) k = (16 * (k / 10) + k % 10) ∷ packed_from n (suc k)
+
+packed_at : (n k i d : ℕ) → i < n → get_or (packed_from n k) i d ≡ 16 * ((k + i) / 10) + (k + i) % 10
+packed_at zero k i d h = absurd (omega arith)
+packed_at (suc n) k zero d h = ap (λ j. 16 * (j / 10) + j % 10) (let e : k ≡ k + 0 = omega arith in e)
+packed_at (suc n) k (suc i) d h =
+    let here : i < n = omega arith in
+    packed_at n (suc k) i d here ∙ ap (λ j. 16 * (j / 10) + j % 10) (let e : suc k + i ≡ k + suc i = omega arith in e)
+
+pub packed_of_table : (i d : ℕ) → i < 100 → get_or (packed_from 100 0) i d ≡ 16 * (i / 10) + i % 10
+packed_of_table i d h = packed_at 100 0 i d h ∙ ap (λ j. 16 * (j / 10) + j % 10) (let e : 0 + i ≡ i = omega arith in e)
+
+-- The same turn, where the byte is found otherwise.
+pub pair_put : (bytes : List ℕ) (at m rest value : ℕ) → 0 < at → at ≤ length bytes → rest ≡ m / 10 ^ (2 * (length bytes - at))
+    → drop at bytes ≡ joined (digit_halves (2 * (length bytes - at)) m) → value ≡ 16 * (rest % 100 / 10) + rest % 100 % 10
+    → let new = set bytes (at - 1) value in
+    (at - 1 ≤ length new) × (rest / 100 ≡ m / 10 ^ (2 * (length new - (at - 1)))) × (drop (at - 1) new ≡ joined (digit_halves (2 * (length new - (at - 1))) m))
+pair_put bytes at m rest value some h e written is =
+    let P : ℕ → Type 0 = λ v. (at - 1 ≤ length (set bytes (at - 1) v)) × (rest / 100 ≡ m / 10 ^ (2 * (length (set bytes (at - 1) v) - (at - 1))))
+        × (drop (at - 1) (set bytes (at - 1) v) ≡ joined (digit_halves (2 * (length (set bytes (at - 1) v) - (at - 1))) m)) in
+    subst P (sym is) (pair_step bytes at m rest some h e written)

@@ -10,7 +10,7 @@ use Rattle.picture.specs.declared.symbol.Symbol.TheVariants as s
 use Rattle.std.specs.Char.{to_ascii_uppercase}
 use Rattle.picture.specs.Runs.{total}
 use Rattle.picture.specs.Text.{opening, closing, is_digit, number_from, AreDigits, Times, InParentheses, Repeats, Pair, Writes, Spells}
-use Rattle.picture.specs.Spelling.{decimal, behind, count_most, can_repeat, letters, spelling, fit_in}
+use Rattle.picture.specs.Spelling.{decimal, behind, count_most, can_repeat, letters, spelling, spelling_of, fit_in}
 use Rattle.picture.proofs.Numbers.{below_power, one_more}
 
 split : (a b : Bool) → (a && b) ≡ true → (a ≡ true) × (b ≡ true)
@@ -217,16 +217,16 @@ told s.Db count e = pair_told 68 66 count refl refl e
 
 -- ---- runs
 
--- Runs that fit are spelled by a text that fits.
-pub spelled : (room : ℕ) (runs : List Run) → fit_in room runs ≡ true → (text : List ℕ) × Spells runs text × (length text ≤ room)
+-- Runs that fit are spelled by their text, and it fits.
+pub spelled : (room : ℕ) (runs : List Run) → fit_in room runs ≡ true → Spells runs (spelling_of runs) × (length (spelling_of runs) ≤ room)
 unfolding fit_in
-spelled room [] e = ([], refl, omega arith)
+spelled room [] e = (refl, omega arith)
 spelled room (run ∷ more) e =
     let both = split (can_repeat run.symbol run.count && nat_le (length (spelling run)) room) _ e in
     let each = split (can_repeat run.symbol run.count) (nat_le (length (spelling run)) room) both.0 in
     let rest = spelled (room - length (spelling run)) more both.1 in
     let fits = leb-true (length (spelling run)) room each.1 in
-    (spelling run ++ rest.0, (spelling run, rest.0, refl, told run.symbol run.count each.0, rest.1), omega (arith, rest.2, length-append (spelling run) rest.0))
+    ((spelling run, spelling_of more, refl, told run.symbol run.count each.0, rest.0), omega (arith, rest.1, length-append (spelling run) (spelling_of more)))
 
 -- Runs that a text spells fit where it does.
 pub spells_fit : (room : ℕ) (runs : List Run) (text : List ℕ) → room ≤ 30 → Spells runs text → length text ≤ room → fit_in room runs ≡ true

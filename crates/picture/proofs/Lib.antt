@@ -10,3 +10,4 @@ pub mod Divisions
 pub mod Regions
 pub mod Pictures
 mod Examples
+pub mod WrittenTexts

@@ -1,5 +1,6 @@
 -- A picture that is read is the picture of the text, and the only one; what its form bounds.
 use Rattle.std.proofs.Common.{◌≡◌, ◌≤◌, ◌+◌, ◌*◌, ◌==◌, ℕ, Bool, true, false, not, ◌||◌, if◌then◌else◌, List, [], ◌∷◌, length, Option, Some, None, Result, Ok, Err, IfOk, refl, sym, ap, ◌∙◌, subst, arith, lit≤}
+use Rattle.std.specs.declared.alloc.AllocError.{AllocError}
 use Rattle.answers.specs.Answer.{Gives}
 use Rattle.picture.specs.declared.run.Run.{Run}
 use Rattle.picture.specs.declared.description.Description.{Description}
@@ -27,7 +28,7 @@ use Rattle.picture.proofs.Divisions.{every_symbol, symbol_holds}
 use Rattle.picture.proofs.Counts.{scale_within}
 use Rattle.picture.proofs.Forms.{category_found, category_only}
 use Rattle.picture.proofs.Places.{length-places}
-use Rattle.picture.specs.Spelling.{are_spelled}
+use Rattle.picture.specs.Spelling.{are_spelled, spelling_of}
 use Rattle.picture.proofs.Fitting.{spelled, spells_fit}
 use Rattle.picture.proofs.Texts.{runs_spelled, runs_answered}
 
@@ -224,7 +225,7 @@ from_found runs picture e = go (are_spelled runs) refl e
     go true is e =
         let text = spelled 30 runs is in
         record {
-          read = (text.0, picture_found text.0 picture (ap of_runs (runs_answered text.0 runs text.1 text.2) ∙ e));
+          read = (spelling_of runs, picture_found (spelling_of runs) picture (ap of_runs (runs_answered (spelling_of runs) runs text.0 text.1) ∙ e));
           same = runs_of_form runs picture e;
         }
 
@@ -260,3 +261,20 @@ bounded_digits k.NumericEdited picture h = (h.0.1, h.0.2)
 
 pub any_digits : (picture : Description) → IsAnyPicture picture → (picture.digits ≤ 18) × (picture.scale ≤ picture.digits)
 any_digits picture h = bounded_digits picture.category picture (any_bounded picture h)
+
+-- A picture is that of the text of its runs, and no other picture has that text.
+pub any_spelled : (picture : Description) → IsAnyPicture picture → IsPicture (spelling_of picture.runs) picture
+any_spelled picture h =
+    let fits = spells_fit 30 picture.runs h.0 (lit≤ tt) h.1.spelled h.1.short in
+    let text = spelled 30 picture.runs fits in
+    record { short = text.1; spelled = text.0; form = h.1.form; told = h.1.told }
+
+pub one_spelling : (one other : Description) → IsAnyPicture one → IsAnyPicture other → spelling_of one.runs ≡ spelling_of other.runs → one ≡ other
+one_spelling one other h g e =
+    one_form (spelling_of other.runs) one other (subst (λ (text : List ℕ). IsPicture text one) e (any_spelled one h)) (any_spelled other g)
+
+pub read_again : (result : Result (List ℕ) AllocError) (given : List Run) (picture shown : Description) → given ≡ picture.runs → picture ≡ shown → IsAnyPicture picture
+    → IfOk result (λ text. text ≡ spelling_of given) → IfOk result (λ text. IsPicture text shown)
+read_again (Ok text) given picture shown same view h e =
+    subst (λ (t : List ℕ). IsPicture t shown) (sym (e ∙ ap spelling_of same)) (subst (λ (p : Description). IsPicture (spelling_of picture.runs) p) view (any_spelled picture h))
+read_again (Err fault) given picture shown same view h e = tt

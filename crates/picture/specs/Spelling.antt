@@ -47,3 +47,8 @@ fit_in room (run ∷ more) =
 
 abbrev pub are_spelled : List Run → Bool
 are_spelled runs = fit_in most_characters runs
+
+-- The text of the runs: of each the symbol, and its count in parentheses where that isn't 1.
+abbrev pub spelling_of : List Run → List ℕ
+spelling_of [] = []
+spelling_of (run ∷ more) = spelling run ++ spelling_of more

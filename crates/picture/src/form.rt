@@ -2,7 +2,8 @@
 
 ghost use Rattle.std.specs.Prelude.{◌≡◌, ℕ, List};
 ghost use Rattle.picture.specs.Forms.{whole, some_of, stretch, numeric_arrangement, any_numeric_arrangement, arrangement, any_arrangement};
-ghost use Rattle.picture.specs.Pictures.{IsPicture, IsBounded};
+ghost use Rattle.picture.specs.Pictures.{IsPicture, IsAnyPicture, IsBounded};
+ghost use Rattle.picture.specs.Spelling.{spelling_of};
 
 use crate::class::Class;
 use crate::description::Description;
@@ -12,6 +13,12 @@ use crate::symbol::Suppression;
 /// Each text is one picture at the most.
 pub fn one_form()
     ensures { (text : List ℕ) (one other : Description) → IsPicture text one → IsPicture text other → one ≡ other }
+{}
+
+/// No two pictures have the same spelling.
+#[tactic(auto, using(crate::proofs::Pictures::one_spelling))]
+pub fn one_spelling()
+    ensures { (one other : Description) → IsAnyPicture one → IsAnyPicture other → spelling_of one.runs ≡ spelling_of other.runs → one ≡ other }
 {}
 
 /// Digit places are 1 to 18 in numeric and numeric edited pictures and 0 in others, the scale is at most the digit places, and

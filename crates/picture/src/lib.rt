@@ -14,10 +14,11 @@ mod run;
 mod spelling;
 mod symbol;
 mod text;
+mod written;
 
 pub use category::Category;
 pub use fault::PictureFault;
-pub use form::{any_division, bounds, one_form};
+pub use form::{any_division, bounds, one_form, one_spelling};
 pub use picture::Picture;
 pub use place::{Place, Region};
 pub use run::Run;

@@ -8,6 +8,7 @@ ghost use Rattle.picture.specs.Runs.{total};
 ghost use Rattle.picture.specs.Pictures as spec;
 ghost use Rattle.picture.specs.Pictures.{IsPicture, IsAnswer, IsAnyPicture, IsOfRuns, IsBounded};
 ghost use Rattle.picture.specs.Regions.{IsEditing};
+ghost use Rattle.picture.specs.Spelling.{spelling_of};
 
 use crate::category::{Category, category_of};
 use crate::description::{Description, described};
@@ -16,6 +17,7 @@ use crate::place::{Place, Region};
 use crate::run::Run;
 use crate::spelling::are_spelled;
 use crate::text::runs_of;
+use crate::written::written;
 use sqlite_items::Items;
 use std::alloc::{AllocError, Global};
 use std::marker::Model;
@@ -174,6 +176,15 @@ impl Picture {
         ensures { result ≡ self.now.region }
     {
         self.description.region
+    }
+
+    /// The text of the picture: of each run the symbol, and its count in parentheses where that isn't 1. Reading it gives
+    /// this picture, and no other picture has the same text.
+    pub fn spelling(&self) -> Result<Items<u8>, AllocError>
+        ensures text { IfOk result (λ text. text ≡ spelling_of self.now.runs) }
+        ensures read { IfOk result (λ text. IsPicture text self.now) }
+    {
+        written(self.alloc, self.description.runs.as_slice())
     }
 
     /// The symbols in order.

@@ -1,6 +1,6 @@
 use Rattle.std.proofs.Common.{◌≡◌, ◌<◌, ◌^◌, drop}
 use Rattle.decimal18.specs.Digits.{digits_behind}
-use Rattle.decimal18.proofs.digits.number_behind.Given as goal
+use Rattle.decimal18.proofs.digits.long_number_behind.Given as goal
 
 abbrev pub invariant-loop-digit : goal.invariant-loop-digit
 invariant-loop-digit l = record {

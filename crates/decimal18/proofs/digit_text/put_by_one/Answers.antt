@@ -1,7 +1,7 @@
 use Rattle.std.proofs.Common.{arith, refl, ap, ◌∙◌, ◌≡◌, ◌<◌, ◌-◌, ◌+◌, ◌%◌, length, drop}
 use Rattle.std.proofs.Math.ListN.{set, length-set}
 use Rattle.decimal18.proofs.DigitTexts.{rest_divided, digit_written}
-use Rattle.decimal18.proofs.digit_text.write_digits.Goals as goal
+use Rattle.decimal18.proofs.digit_text.put_by_one.Goals as goal
 
 pub loop-place-preserved : goal.loop-place-preserved
 loop-place-preserved c =

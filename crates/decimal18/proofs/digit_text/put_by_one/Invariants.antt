@@ -1,6 +1,6 @@
 use Rattle.std.proofs.Common.{◌≡◌, ◌-◌, ◌/◌, ◌^◌, drop, length}
 use Rattle.decimal18.specs.Digits.{digit_text}
-use Rattle.decimal18.proofs.digit_text.write_digits.Given as goal
+use Rattle.decimal18.proofs.digit_text.put_by_one.Given as goal
 
 abbrev pub invariant-loop-place : goal.invariant-loop-place
 invariant-loop-place l = record {
