@@ -12,5 +12,5 @@ mod search;
 mod tree_page;
 
 pub use form::{Kind, MOST_ROW_BYTES, ROW_BYTES, TreeForm};
-pub use laws::{row_reads_back, spells_node};
+pub use laws::{beginnings_in_order, numbers_in_order, parts_in_order, row_reads_back, spells_node};
 pub use tree_page::TreePage;
