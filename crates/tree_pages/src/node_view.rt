@@ -13,10 +13,10 @@ use std::marker::Model;
 /// The rows of a page in bytes that another keeps. They are read and not copied.
 #[derive(Drop)]
 pub struct NodeView<'a> {
-    rows: &'a [u8],
-    form: TreeForm,
-    kind: Kind,
-    count: usize,
+    pub(crate) rows: &'a [u8],
+    pub(crate) form: TreeForm,
+    pub(crate) kind: Kind,
+    pub(crate) count: usize,
 }
 
 impl<'a> Model for NodeView<'a> {
