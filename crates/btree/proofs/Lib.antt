@@ -42,4 +42,7 @@ pub mod Marking
 pub mod Walking
 pub mod Checking
 pub mod Clearing
+pub mod Stays
+pub mod There
+pub mod Lengths
 mod Examples

@@ -6,9 +6,10 @@ use Rattle.std.proofs.lemmas.List.Elements.{All-drop}
 use Rattle.station.specs.Disk.{Sector}
 use Rattle.tree_pages.specs.declared.form.TreeForm.{TreeForm}
 use Rattle.tree_pages.specs.declared.form.Kind.{Kind}
-use Rattle.tree_pages.specs.Node.{Node}
+use Rattle.tree_pages.specs.Node.{Node, node_in}
 use Rattle.tree_pages.specs.Keys.{key_of, Precedes, AllAbove, AllBelow}
 use Rattle.btree.specs.Tree.{Part, Stands, node_at, node_on, node_of, fewest}
+use Rattle.btree.specs.Reading.{SpellsNoPart}
 use Rattle.btree.specs.Path.{IsChosen}
 use Rattle.btree.proofs.Order.{not_itself, not_both}
 use Rattle.btree.proofs.Descents.{rows_read, kind_read}
@@ -25,6 +26,14 @@ read_few form pages page node kind part read few same stands =
     let least : fewest kind ≡ fewest node.kind = ap fewest (kind_read form pages kind part page node same stands read) in
     let enough = stands.enough in
     omega arith
+
+-- What bytes spell, their page is.
+pub node_seen : (form : TreeForm) (pages : List (Option Sector)) (page : ℕ) (bytes : Sector) → slice_index_or pages page None ≡ Some bytes → node_at form pages page ≡ node_in form bytes
+node_seen form pages page bytes is = ap (node_on form) is
+
+pub no_part : (form : TreeForm) (pages : List (Option Sector)) (page : ℕ) (bytes : Sector) → slice_index_or pages page None ≡ Some bytes → SpellsNoPart form bytes → (kind : Kind) (part : Part) → part.page ≡ page → Stands form pages kind part → ⊥
+no_part form pages page bytes is none kind part same stands =
+    none kind part.rows (sym (node_seen form pages page bytes is) ∙ ap (node_at form pages) (sym same) ∙ stands.node) stands.enough
 
 -- The child for a key.
 pub chosen_at : (form : TreeForm) (key : List ℕ) (rows : List (List ℕ)) (place : ℕ) → place < length rows → key_of form (slice_index_or rows place []) ≡ key → AllAbove form key (drop (place + 1) rows) → IsChosen form key rows place

@@ -1,5 +1,5 @@
 -- The entries of a tree: an ascending list.
-use Rattle.std.specs.Prelude.{ℕ, List, [], ◌∷◌, map, Option, Some, None, if◌then◌else◌}
+use Rattle.std.specs.Prelude.{◌≡◌, ℕ, List, [], ◌∷◌, map, length, Option, Some, None, if◌then◌else◌}
 use Rattle.std.specs.Ordering.{is_lt, is_gt, is_eq}
 use Rattle.tree_pages.specs.declared.form.TreeForm.{TreeForm}
 use Rattle.tree_pages.specs.Keys.{key_cmp, key_of, rest_of}
@@ -11,6 +11,10 @@ pub record Entry : Type 0 where
 
 abbrev pub entry_of : TreeForm → List ℕ → Entry
 entry_of form row = record { key = key_of form row; value = rest_of form row }
+
+-- its key and value have the lengths that the form tells
+abbrev pub HasLengths : TreeForm → Entry → Type 0
+HasLengths form entry = (length entry.key ≡ form.key_length) × (length entry.value ≡ form.value_length)
 
 abbrev pub listed : TreeForm → List (List ℕ) → List Entry
 listed form rows = map (entry_of form) rows

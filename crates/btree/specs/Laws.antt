@@ -1,10 +1,11 @@
 -- What holds of every tree.
-use Rattle.std.specs.Prelude.{◌≡◌, ◌≤◌, ◌^◌, ℕ, List, [], ◌∷◌, length, Option, IfSome, option_map, ⊤}
+use Rattle.std.specs.Prelude.{◌≡◌, ◌≤◌, ◌↔◌, ◌^◌, ◌++◌, ℕ, List, [], ◌∷◌, map, length, Option, Some, IfSome, option_map, Contains, ⊤}
 use Rattle.station.specs.Disk.{Sector}
 use Rattle.tree_pages.specs.declared.form.TreeForm.{TreeForm}
 use Rattle.tree_pages.specs.Keys.{keys_of, Ascend}
-use Rattle.btree.specs.Entries.{Entry, entry_with, value_of}
-use Rattle.btree.specs.Tree.{Part, IsTree, Holds, rows_of}
+use Rattle.btree.specs.Entries.{Entry, entries_of, entry_with, value_of}
+use Rattle.btree.specs.Tree.{Part, IsTree, Holds, rows_of, pages_of}
+use Rattle.btree.specs.Moves.{Moves, Once}
 
 -- the keys of each level ascend
 abbrev pub AllAscend : TreeForm → List (List Part) → Type 0
@@ -28,3 +29,29 @@ OneTree = (form : TreeForm) (pages : List (Option Sector)) (root : ℕ) (one two
 
 abbrev pub FewLevels : Type 0
 FewLevels = (form : TreeForm) (pages : List (Option Sector)) (root : ℕ) (levels : List (List Part)) → IsSmall pages → Holds form pages root levels → length levels ≤ 20
+
+-- no number stands in both
+abbrev pub Apart : List ℕ → List ℕ → Type 0
+Apart one two = (page : ℕ) → Contains one page → Contains two page → ⊥
+
+-- A change of pages that a tree hasn't leaves it as it is, and it has none of the new ones.
+abbrev pub TreeStays : Type 0
+TreeStays = (form : TreeForm) (before after : List (Option Sector)) (old new : List ℕ) (root : ℕ) (levels : List (List Part)) →
+    Moves before old after new → Holds form before root levels → Apart (pages_of levels) old → Holds form after root levels × Apart (pages_of levels) new
+
+-- no page stands in a tree twice, or in two lists of pages of which none stands twice in both together
+abbrev pub PagesOnce : Type 0
+PagesOnce = (form : TreeForm) (pages : List (Option Sector)) (root : ℕ) (levels : List (List Part)) → Holds form pages root levels → Once (pages_of levels)
+
+abbrev pub OnceInParts : Type 0
+OnceInParts = (one two : List ℕ) → Once (one ++ two) ↔ (Once one × Once two × Apart one two)
+
+abbrev pub keys_listed : List Entry → List (List ℕ)
+keys_listed entries = map (λ (entry : Entry). entry.key) entries
+
+-- the keys of a tree's entries ascend, and each entry of such a list is the one of its key
+abbrev pub EntriesAscend : Type 0
+EntriesAscend = (form : TreeForm) (pages : List (Option Sector)) (root : ℕ) (levels : List (List Part)) → Holds form pages root levels → Ascend (keys_listed (entries_of form levels))
+
+abbrev pub EntryThere : Type 0
+EntryThere = (entries : List Entry) (entry : Entry) → Ascend (keys_listed entries) → Contains entries entry → entry_with entries entry.key ≡ Some entry

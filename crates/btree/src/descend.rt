@@ -3,6 +3,7 @@ ghost use Rattle.std.specs.Prelude.{true, ◌≡◌, ◌≤◌, ◌↔◌, Err, 
 ghost use Rattle.station.specs.Failures.{Blames};
 ghost use Rattle.pages.specs.Pages.{map_now, is_spent, sectors_of, Agrees, IsOpen};
 ghost use Rattle.tree_pages.specs.Form.{IsForm};
+ghost use Rattle.tree_pages.specs.Node.{IsNode};
 ghost use Rattle.btree.specs.Tree.{Part, IsTree};
 ghost use Rattle.btree.specs.Path.{EndsAt};
 ghost use Rattle.btree.specs.Reading.{Untouched, IsRefusal};
@@ -56,6 +57,7 @@ pub(crate) fn descend<D: Device>(
     ensures damaged { D.is_honest device.old → Agrees pages.old (D.state device.old).disk → result ≡ Err PagesError.Damaged →
         (levels : List (List Part)) → IsTree form (map_now pages.old (D.state device.old).disk.present).pages root levels → ⊥ }
     ensures leaf { IfOk result (λ descent. (descent.leaf.form ≡ form) × (descent.leaf.kind ≡ Kind.Leaf) × (length descent.leaf.rows ≤ 4080)) }
+    ensures node { IfOk result (λ descent. IsNode descent.leaf) }
     ensures spent { result ≡ Err PagesError.Spent ↔ is_spent pages.old ≡ true }
     ensures cause { IfErr result (IsRefusal form) }
 {

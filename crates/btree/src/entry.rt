@@ -2,7 +2,7 @@
 ghost use Rattle.std.specs.Prelude.{◌≡◌};
 
 use std::marker::Model;
-use tree_pages::TreePage;
+use tree_pages::{Kind, TreePage};
 
 /// An entry, as it stands in its leaf.
 #[derive(Drop)]
@@ -24,12 +24,16 @@ impl Model for Entry {
 
 impl Entry {
     ghost use Rattle.std.specs.Prelude.{◌<◌, [], length, slice_index_or};
-    ghost use Rattle.btree.specs.Entries.{entry_of};
+    ghost use Rattle.tree_pages.specs.Node.{IsNode};
+    ghost use Rattle.btree.specs.Entries.{HasLengths, entry_of};
 
     /// The entry at a place of a leaf.
     pub(crate) fn at(leaf: TreePage, place: usize) -> Entry
-        requires { place < length leaf.rows }
-        ensures { result ≡ entry_of leaf.form (slice_index_or leaf.rows place []) }
+        requires place { place < length leaf.rows }
+        requires node { IsNode leaf }
+        requires kind { leaf.kind ≡ Kind.Leaf }
+        ensures is { result ≡ entry_of leaf.form (slice_index_or leaf.rows place []) }
+        ensures lengths { HasLengths leaf.form result }
     {
         Entry { leaf, place }
     }

@@ -1,5 +1,5 @@
 //! The laws of trees.
-ghost use Rattle.btree.specs.Laws.{EntryOfKey, LevelsAscend, OneTree, FewLevels};
+ghost use Rattle.btree.specs.Laws.{EntriesAscend, EntryOfKey, EntryThere, FewLevels, LevelsAscend, OnceInParts, OneTree, PagesOnce, TreeStays};
 
 /// The entry that `get` answers has the key that was asked for, and that key's value.
 pub fn entry_of_key()
@@ -19,4 +19,25 @@ pub fn one_tree()
 /// A tree has at most 20 levels.
 pub fn few_levels()
     ensures { FewLevels }
+{}
+
+/// A change of another tree's pages leaves a tree as it is, where they have no page in common, and they have none then.
+pub fn tree_stays()
+    ensures { TreeStays }
+{}
+
+/// No page stands in a tree twice; and where no page stands twice in the pages of some trees, each has its own.
+pub fn pages_once()
+    ensures tree { PagesOnce }
+    ensures parts { OnceInParts }
+{}
+
+/// The keys of a tree's entries ascend.
+pub fn entries_ascend()
+    ensures { EntriesAscend }
+{}
+
+/// Among entries whose keys ascend each is the entry of its key.
+pub fn entry_there()
+    ensures { EntryThere }
 {}

@@ -30,5 +30,8 @@ mod tree;
 mod turn;
 
 pub use entry::Entry;
-pub use laws::{entry_of_key, few_levels, levels_ascend, one_tree};
+pub use laws::{
+    entries_ascend, entry_of_key, entry_there, few_levels, levels_ascend, one_tree, pages_once,
+    tree_stays,
+};
 pub use tree::Tree;

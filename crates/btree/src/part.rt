@@ -1,14 +1,15 @@
 //! A page of a tree is read.
-ghost use Rattle.std.specs.Prelude.{true, ◌≡◌, ◌≤◌, ◌<◌, ◌↔◌, Err, Some, ℕ, length, IfOk, IfErr};
+ghost use Rattle.std.specs.Prelude.{true, ◌≡◌, ◌≤◌, ◌<◌, ◌↔◌, Err, Some, ℕ, length, IfOk, IfErr, OnErr};
 ghost use Rattle.station.specs.Failures.{Blames};
 ghost use Rattle.pages.specs.Pages.{map_now, is_spent, sectors_of, Agrees, IsOpen};
 ghost use Rattle.tree_pages.specs.Form.{IsForm};
+ghost use Rattle.tree_pages.specs.Node.{IsNode, node_in};
 ghost use Rattle.btree.specs.Tree.{Part, node_at, fewest, Stands};
-ghost use Rattle.btree.specs.Reading.{Untouched, IsReadRefusal};
+ghost use Rattle.btree.specs.Reading.{Untouched, IsReadRefusal, SpellsNoPart};
 
 use pages::{PageMap, PagesError};
 use station::Device;
-use tree_pages::{Kind, TreeForm, TreePage};
+use tree_pages::{Kind, NodeView, TreeForm, TreePage};
 
 /// How many rows a page of a tree has at least.
 fn fewest_rows(kind: Kind) -> usize
@@ -18,6 +19,37 @@ fn fewest_rows(kind: Kind) -> usize
         Kind::Leaf => 1,
         Kind::Inner => 2,
     }
+}
+
+/// The page of a tree that these bytes spell. `Damaged` tells that they spell none, or one that has too few rows.
+pub(crate) fn part_in(bytes: &[u8; 4096], form: TreeForm) -> Result<NodeView<'_>, PagesError>
+    requires { IsForm form }
+    ensures part { IfOk result (λ part. node_in form bytes.now ≡ Some part) }
+    ensures shape { IfOk result (λ part. (part.form ≡ form) × (fewest part.kind ≤ length part.rows) × (length part.rows ≤ 4080)) }
+    ensures node { IfOk result IsNode }
+    ensures damaged { OnErr result (SpellsNoPart form bytes.now) }
+    ensures cause { OnErr result (result ≡ Err PagesError.Damaged) }
+{
+    let part = match NodeView::read(bytes, form) {
+        Some(part) => part,
+        None => return Err(PagesError::Damaged),
+    };
+    if part.count() < fewest_rows(part.kind()) {
+        return Err(PagesError::Damaged);
+    }
+    Ok(part)
+}
+
+/// The page of a tree that these bytes spell, of its own. Refusals are those of `part_in`.
+fn own_part_in(bytes: &[u8; 4096], form: TreeForm) -> Result<TreePage, PagesError>
+    requires { IsForm form }
+    ensures part { IfOk result (λ part. node_in form bytes.now ≡ Some part) }
+    ensures shape { IfOk result (λ part. (part.form ≡ form) × (fewest part.kind ≤ length part.rows) × (length part.rows ≤ 4080)) }
+    ensures node { IfOk result IsNode }
+    ensures damaged { OnErr result (SpellsNoPart form bytes.now) }
+    ensures cause { OnErr result (result ≡ Err PagesError.Damaged) }
+{
+    Ok(part_in(bytes, form)?.to_page())
 }
 
 /// The page of that number. `Damaged` tells that it is none of a tree, or has too few rows.
@@ -41,21 +73,18 @@ pub(crate) fn read_part<D: Device>(
     ensures part { D.is_honest device.old → Agrees pages.old (D.state device.old).disk →
         IfOk result (λ part. node_at form (map_now pages.old (D.state device.old).disk.present).pages page ≡ Some part) }
     ensures shape { IfOk result (λ part. (part.form ≡ form) × (fewest part.kind ≤ length part.rows) × (length part.rows ≤ 4080)) }
+    ensures node { IfOk result IsNode }
     ensures damaged { D.is_honest device.old → Agrees pages.old (D.state device.old).disk → result ≡ Err PagesError.Damaged →
         (kind : Kind) (part : Part) → part.page ≡ page → Stands form (map_now pages.old (D.state device.old).disk.present).pages kind part → ⊥ }
     ensures spent { result ≡ Err PagesError.Spent ↔ is_spent pages.old ≡ true }
     ensures cause { IfErr result IsReadRefusal }
 {
-    let bytes = match pages.read(device, page)? {
-        Some(bytes) => bytes,
-        None => return Err(PagesError::Damaged),
-    };
-    let part = match TreePage::read(bytes, form) {
-        Some(part) => part,
-        None => return Err(PagesError::Damaged),
-    };
-    if part.count() < fewest_rows(part.kind()) {
-        return Err(PagesError::Damaged);
+    pages.note_use(page);
+    if let Some(bytes) = pages.view(page) {
+        return own_part_in(bytes, form);
     }
-    Ok(part)
+    match pages.read(device, page)? {
+        Some(bytes) => own_part_in(&bytes, form),
+        None => Err(PagesError::Damaged),
+    }
 }

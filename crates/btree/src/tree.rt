@@ -3,9 +3,10 @@ ghost use Rattle.std.specs.Prelude.{true, ◌≡◌, ◌≢◌, ◌≤◌, ◌�
 ghost use Rattle.station.specs.Failures.{Blames};
 ghost use Rattle.pages.specs.Pages.{map_now, is_spent, sectors_of, Agrees, IsOpen};
 ghost use Rattle.tree_pages.specs.Form.{IsForm};
+ghost use Rattle.tree_pages.specs.Node.{IsNode};
 ghost use Rattle.btree.specs.Tree.{Part, Holds, IsTree, rows_in_order};
 ghost use Rattle.btree.specs.Path.{first_key};
-ghost use Rattle.btree.specs.Entries.{entry_of, entries_of, entry_with, value_of, first_from, first_after, first_entry, listed};
+ghost use Rattle.btree.specs.Entries.{HasLengths, entry_of, entries_of, entry_with, value_of, first_from, first_after, first_entry, listed};
 ghost use Rattle.btree.specs.Reading.{Untouched, IsRefusal};
 
 use crate::descend::{Descent, descend};
@@ -14,7 +15,7 @@ use pages::{PageMap, PagesError};
 use station::Device;
 use std::alloc::Global;
 use std::marker::Model;
-use tree_pages::{MOST_ROW_BYTES, TreeForm};
+use tree_pages::{Kind, MOST_ROW_BYTES, TreeForm};
 
 /// A key of zeros, which is below each other one.
 const ZEROS: [u8; MOST_ROW_BYTES] = [0; MOST_ROW_BYTES];
@@ -64,8 +65,8 @@ impl Tree {
         self.root
     }
 
-    /// The entry of a key, if it is there. `Damaged` tells that the pages under the root are no tree, `Memory` comes only where keys
-    /// are longer than 128 bytes.
+    /// The entry of a key, if it is there. Whatever the pages hold, its key and value have the lengths of the form. `Damaged` tells
+    /// that the pages under the root are no tree, `Memory` comes only where keys are longer than 128 bytes.
     pub fn get<D: Device>(
         &self,
         pages: &mut PageMap,
@@ -88,6 +89,7 @@ impl Tree {
         ensures damaged { D.is_honest device.old → Agrees pages.old (D.state device.old).disk → result ≡ Err PagesError.Damaged →
             (levels : List (List Part)) → Holds self.now.form (map_now pages.old (D.state device.old).disk.present).pages self.now.root levels → ⊥ }
         ensures spent { result ≡ Err PagesError.Spent ↔ ((is_spent pages.old ≡ true) × (self.now.root ≢ 0)) }
+        ensures lengths { IfOk result (λ entry. IfSome entry (HasLengths self.now.form)) }
         ensures cause { IfErr result (IsRefusal self.now.form) }
     {
         if self.root == 0 {
@@ -123,6 +125,7 @@ impl Tree {
         ensures damaged { D.is_honest device.old → Agrees pages.old (D.state device.old).disk → result ≡ Err PagesError.Damaged →
             (levels : List (List Part)) → Holds self.now.form (map_now pages.old (D.state device.old).disk.present).pages self.now.root levels → ⊥ }
         ensures spent { result ≡ Err PagesError.Spent ↔ ((is_spent pages.old ≡ true) × (self.now.root ≢ 0)) }
+        ensures lengths { IfOk result (λ entry. IfSome entry (HasLengths self.now.form)) }
         ensures cause { IfErr result (IsRefusal self.now.form) }
     {
         if self.root == 0 {
@@ -159,6 +162,7 @@ impl Tree {
         ensures damaged { D.is_honest device.old → Agrees pages.old (D.state device.old).disk → result ≡ Err PagesError.Damaged →
             (levels : List (List Part)) → Holds self.now.form (map_now pages.old (D.state device.old).disk.present).pages self.now.root levels → ⊥ }
         ensures spent { result ≡ Err PagesError.Spent ↔ ((is_spent pages.old ≡ true) × (self.now.root ≢ 0)) }
+        ensures lengths { IfOk result (λ entry. IfSome entry (HasLengths self.now.form)) }
         ensures cause { IfErr result (IsRefusal self.now.form) }
     {
         if self.root == 0 {
@@ -194,6 +198,7 @@ impl Tree {
         ensures damaged { D.is_honest device.old → Agrees pages.old (D.state device.old).disk → result ≡ Err PagesError.Damaged →
             (levels : List (List Part)) → Holds self.now.form (map_now pages.old (D.state device.old).disk.present).pages self.now.root levels → ⊥ }
         ensures spent { result ≡ Err PagesError.Spent ↔ ((is_spent pages.old ≡ true) × (self.now.root ≢ 0)) }
+        ensures lengths { IfOk result (λ entry. IfSome entry (HasLengths self.now.form)) }
         ensures cause { IfErr result (IsRefusal self.now.form) }
     {
         self.seek(pages, device, &ZEROS[..self.form.key_length])
@@ -210,6 +215,7 @@ impl Tree {
         requires open { IsOpen pages.old }
         requires sectors { sectors_of pages.old ≤ D.sectors device.old }
         requires form { descent.leaf.form ≡ self.now.form }
+        requires leaf { IsNode descent.leaf × (descent.leaf.kind ≡ Kind.Leaf) }
         ensures honest { D.is_honest device.old ↔ D.is_honest device.new }
         ensures sectors { D.sectors device.new ≡ D.sectors device.old }
         ensures failures { Blames (result ≡ Err PagesError.Device) (D.failures device.old) (D.failures device.new) }
@@ -226,6 +232,7 @@ impl Tree {
             IsTree self.now.form (map_now pages.old (D.state device.old).disk.present).pages self.now.root levels →
             (before after : List (List ℕ)) → rows_in_order levels ≡ before ++ (descent.leaf.rows ++ after) → descent.right ≡ first_key self.now.form after → ⊥ }
         ensures spent { result ≡ Err PagesError.Spent → is_spent pages.old ≡ true }
+        ensures lengths { IfOk result (λ entry. IfSome entry (HasLengths self.now.form)) }
         ensures cause { IfErr result (IsRefusal self.now.form) }
     {
         let Descent { leaf, right, .. } = descent;

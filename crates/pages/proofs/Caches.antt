@@ -1,6 +1,6 @@
 -- What the cache holds stays right.
-use Rattle.std.proofs.Common.{◌≡◌, ◌<◌, zero, suc, ◌⊎◌, ⊎_elim, inl, inr, ℕ, Bool, List, [], ◌∷◌, get_or, cond, true, false, refl, sym, ◌∙◌, ap, subst, arith}
-use Rattle.std.specs.Prelude.{Option, Some, None, Contains, IsSome, IfNone, nat_eq}
+use Rattle.std.proofs.Common.{◌≡◌, ◌<◌, zero, suc, ◌⊎◌, ⊎_elim, inl, inr, ℕ, Bool, List, [], ◌∷◌, get_or, cond, true, false, refl, sym, ◌∙◌, ap, subst, arith, Bor}
+use Rattle.std.specs.Prelude.{option_copied, Option, Some, None, Contains, IsSome, IfNone, IfSome, nat_eq}
 use Rattle.std.specs.List.{IsDistinct}
 use Rattle.std.specs.Map.{lookup, lookup_entry, remove_entry, keys_of}
 use Rattle.std.specs.Cmp.{nat_eq_equiv}
@@ -114,3 +114,14 @@ after_commit pages after changes left entries next none is = record {
       ∙ is.right e has;
   unchanged = λ e has. subst (λ (l : List Change). Contains (touched l) e.0 → ⊥) (sym none) (λ there. omega (arith, there.1));
 }
+
+-- what is seen of a page is the page
+pub viewed : (seen : Option (Bor Sector)) (page : Option Sector) → option_copied seen ≡ page → IfSome seen (λ bytes. page ≡ Some bytes.now)
+viewed None page is = tt
+viewed (Some bytes) page is = sym is
+
+-- a page of the cache is the page, where it wasn't changed
+pub held_page : (pages : List (Option Sector)) (changed : List ℕ) (entries : List (ℕ × Sector)) (page : ℕ) (now : Option Sector) (seen : Option (Bor Sector)) → IsCacheOf pages changed entries →
+    option_copied seen ≡ lookup (nat_eq page) entries → now ≡ get_or pages page None → IfSome seen (λ bytes. now ≡ Some bytes.now)
+held_page pages changed entries page now None cache seen same = tt
+held_page pages changed entries page now (Some bytes) cache seen same = same ∙ sym (hit_page pages changed entries page bytes.now cache (sym seen))

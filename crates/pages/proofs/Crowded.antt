@@ -133,7 +133,7 @@ pub crowded : (m : VolumeMap) (changes : List Change) → IsSound m → ((image 
 crowded m changes sound each =
     let list = names (volume_of m) in
     let used = each_used m.table.items changes (λ page some low. kept_where [] m.table.items changes page (each [] page (some, low))) in
-    let marked = marked_least m.sectors list m.used.items (omega (arith, sound.least)) sound.once sound.places sound.in_use in
+    let marked = marked_least m.sectors list m.used (omega (arith, sound.least)) sound.once sound.places sound.in_use in
     let both = sum_by-append (λ (s : ℕ). cond (not (s == 0)) 1 0) m.maps.items m.table.items in
     let wide = table_covers m.sectors (length m.maps.items) (length m.table.items) sound.maps_count sound.count in
-    omega (arith, used, marked, both, wide, true_or_not m.used.items, sound.in_use.count, counted m.sectors list m.used.items sound.in_use)
+    omega (arith, used, marked, both, wide, true_or_not m.used, sound.in_use.count, counted m.sectors list m.used sound.in_use)

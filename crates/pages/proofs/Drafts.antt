@@ -65,25 +65,25 @@ module _ (v : Volume) (m : VolumeMap) (d : Draft) (changes : List Change) (draft
       here = omega arith
 
   table_renamed : (s after : ℕ) → ((s ≡ 0) × (after ≡ d.next)) ⊎ ((d.next ≤ s) × IsFree v s × (after ≡ s + 1))
-      → Naming v m.used.items (maps ++ set table c.page s) (d.turns.items ++ turns_of (get_or table c.page 0) s) after
-  table_renamed s after choice = subst (λ (l : List ℕ). Naming v m.used.items l (d.turns.items ++ turns_of (get_or table c.page 0) s) after) (set_place s)
-      (subst (λ (t : ℕ). Naming v m.used.items (set (maps ++ table) place s) (d.turns.items ++ turns_of t s) after) at_place
-      (renamed v m.used.items (maps ++ table) d.turns.items d.next place s after draft.some (omega (arith, in_table, length-append maps table)) draft.naming choice))
+      → Naming v m.used (maps ++ set table c.page s) (d.turns.items ++ turns_of (get_or table c.page 0) s) after
+  table_renamed s after choice = subst (λ (l : List ℕ). Naming v m.used l (d.turns.items ++ turns_of (get_or table c.page 0) s) after) (set_place s)
+      (subst (λ (t : ℕ). Naming v m.used (set (maps ++ table) place s) (d.turns.items ++ turns_of t s) after) at_place
+      (renamed v m.used (maps ++ table) d.turns.items d.next place s after draft.some (omega (arith, in_table, length-append maps table)) draft.naming choice))
 
   -- a page with new bytes
-  pub page_drafted : (bytes : Sector) (mid last : Draft) (after : VolumeMap) (s : ℕ) → c.bytes ≡ Some bytes → PlacesBlock m.used.items d mid s bytes → SetsPage m after mid last c.page s → IsDraft v after last (changes ++ c ∷ [])
+  pub page_drafted : (bytes : Sector) (mid last : Draft) (after : VolumeMap) (s : ℕ) → c.bytes ≡ Some bytes → PlacesBlock m.used d mid s bytes → SetsPage m after mid last c.page s → IsDraft v after last (changes ++ c ∷ [])
   page_drafted bytes mid last after s is placed sets =
-      let free : IsFree v s = unused_free v m.used.items s draft.in_use placed.low placed.free in
+      let free : IsFree v s = unused_free v m.used s draft.in_use placed.low placed.free in
       let b : Block = record { sector = s; bytes = bytes } in
-      let unnamed = unnamed_yet v m.used.items (maps ++ table) d.turns.items d.next s draft.naming placed.later free in
+      let unnamed = unnamed_yet v m.used (maps ++ table) d.turns.items d.next s draft.naming placed.later free in
       record {
-        in_use = subst (λ (u : Vec Bool Global). IsUse v.root.sectors (names v) u.items) (sym sets.size.used) draft.in_use;
+        in_use = subst (λ (u : List Bool). IsUse v.root.sectors (names v) u) (sym sets.size.used) draft.in_use;
         some = draft.some;
         staged = staged_as v maps after.maps.items (set table c.page s) after.table.items (set d.dirty.items (c.page / 1024) true) last.dirty.items (d.blocks.items ++ b ∷ []) last.blocks.items (changes ++ c ∷ [])
             (ap (λ (x : Vec ℕ Global). x.items) sets.maps) sets.table (sets.dirty ∙ ap (λ (x : Vec Bool Global). set x.items (c.page / 1024) true) placed.dirty) (ap (λ (x : Vec Block Global). x.items) sets.blocks ∙ placed.blocks)
             (page_staged v maps table d.dirty.items d.blocks.items changes c draft.staged some low b free (λ has. unnamed (Contains-append_right maps table s has)) is);
-        naming = naming_as v m.used.items after.used.items (maps ++ set table c.page s) (after.maps.items ++ after.table.items) (d.turns.items ++ turns_of (get_or table c.page 0) s) last.turns.items (s + 1) last.next
-            (ap (λ (x : Vec Bool Global). x.items) sets.size.used) (ap (λ (x : Vec ℕ Global). x.items ++ after.table.items) sets.maps ∙ ap (λ (l : List ℕ). maps ++ l) sets.table)
+        naming = naming_as v m.used after.used (maps ++ set table c.page s) (after.maps.items ++ after.table.items) (d.turns.items ++ turns_of (get_or table c.page 0) s) last.turns.items (s + 1) last.next
+            sets.size.used (ap (λ (x : Vec ℕ Global). x.items ++ after.table.items) sets.maps ∙ ap (λ (l : List ℕ). maps ++ l) sets.table)
             (sets.turns ∙ ap (λ (x : Vec Turn Global). x.items ++ turns_of (get_or table c.page 0) s) placed.turns) (sets.next ∙ placed.next)
             (table_renamed s (s + 1) (inr (placed.later, free, refl)));
       }
@@ -100,13 +100,13 @@ module _ (v : Volume) (m : VolumeMap) (d : Draft) (changes : List Change) (draft
         naming = draft.naming;
       }))
   release_drafted last after is (HadOne some_there sets) = record {
-    in_use = subst (λ (u : Vec Bool Global). IsUse v.root.sectors (names v) u.items) (sym sets.size.used) draft.in_use;
+    in_use = subst (λ (u : List Bool). IsUse v.root.sectors (names v) u) (sym sets.size.used) draft.in_use;
     some = draft.some;
     staged = staged_as v maps after.maps.items (set table c.page 0) after.table.items (set d.dirty.items (c.page / 1024) true) last.dirty.items d.blocks.items last.blocks.items (changes ++ c ∷ [])
         (ap (λ (x : Vec ℕ Global). x.items) sets.maps) sets.table sets.dirty (ap (λ (x : Vec Block Global). x.items) sets.blocks)
         (page_released v maps table d.dirty.items d.blocks.items changes c draft.staged some low is (set d.dirty.items (c.page / 1024) true) (inl refl));
-    naming = naming_as v m.used.items after.used.items (maps ++ set table c.page 0) (after.maps.items ++ after.table.items) (d.turns.items ++ turns_of (get_or table c.page 0) 0) last.turns.items d.next last.next
-        (ap (λ (x : Vec Bool Global). x.items) sets.size.used) (ap (λ (x : Vec ℕ Global). x.items ++ after.table.items) sets.maps ∙ ap (λ (l : List ℕ). maps ++ l) sets.table) sets.turns sets.next
+    naming = naming_as v m.used after.used (maps ++ set table c.page 0) (after.maps.items ++ after.table.items) (d.turns.items ++ turns_of (get_or table c.page 0) 0) last.turns.items d.next last.next
+        sets.size.used (ap (λ (x : Vec ℕ Global). x.items ++ after.table.items) sets.maps ∙ ap (λ (l : List ℕ). maps ++ l) sets.table) sets.turns sets.next
         (table_renamed 0 d.next (inl (refl, refl)));
   }
 
@@ -117,10 +117,10 @@ module _ (v : Volume) (m : VolumeMap) (d : Draft) (changes : List Change) (j : �
   kept_mapped is = record { draft = draft.draft; mapped = map_kept v m.maps.items m.table.items d.dirty.items d.blocks.items changes j draft.draft.staged draft.mapped low is }
 
   maps_renamed : (s after : ℕ) → ((s ≡ 0) × (after ≡ d.next)) ⊎ ((d.next ≤ s) × IsFree v s × (after ≡ s + 1))
-      → Naming v m.used.items (set m.maps.items j s ++ m.table.items) (d.turns.items ++ turns_of (get_or m.maps.items j 0) s) after
-  maps_renamed s after choice = subst (λ (l : List ℕ). Naming v m.used.items l (d.turns.items ++ turns_of (get_or m.maps.items j 0) s) after) (set-append_left m.maps.items m.table.items j s low)
-      (subst (λ (t : ℕ). Naming v m.used.items (set (m.maps.items ++ m.table.items) j s) (d.turns.items ++ turns_of t s) after) (get_or_append_left m.maps.items m.table.items 0 j low)
-      (renamed v m.used.items (m.maps.items ++ m.table.items) d.turns.items d.next j s after draft.draft.some (omega (arith, low, length-append m.maps.items m.table.items)) draft.draft.naming choice))
+      → Naming v m.used (set m.maps.items j s ++ m.table.items) (d.turns.items ++ turns_of (get_or m.maps.items j 0) s) after
+  maps_renamed s after choice = subst (λ (l : List ℕ). Naming v m.used l (d.turns.items ++ turns_of (get_or m.maps.items j 0) s) after) (set-append_left m.maps.items m.table.items j s low)
+      (subst (λ (t : ℕ). Naming v m.used (set (m.maps.items ++ m.table.items) j s) (d.turns.items ++ turns_of t s) after) (get_or_append_left m.maps.items m.table.items 0 j low)
+      (renamed v m.used (m.maps.items ++ m.table.items) d.turns.items d.next j s after draft.draft.some (omega (arith, low, length-append m.maps.items m.table.items)) draft.draft.naming choice))
 
   -- one of zeros
   pub blank_mapped : (last : Draft) (after : VolumeMap) → map_part m.table.items j ≡ zeros → SetsMap m after d last j 0 → IsMappedDraft v after last changes (j + 1)
@@ -131,12 +131,12 @@ module _ (v : Volume) (m : VolumeMap) (d : Draft) (changes : List Change) (j : �
       let blocks_is = ap (λ (x : Vec Block Global). x.items) sets.blocks in
       record {
         draft = record {
-          in_use = subst (λ (u : Vec Bool Global). IsUse v.root.sectors (names v) u.items) (sym sets.size.used) draft.draft.in_use;
+          in_use = subst (λ (u : List Bool). IsUse v.root.sectors (names v) u) (sym sets.size.used) draft.draft.in_use;
           some = draft.draft.some;
           staged = staged_as v (set m.maps.items j 0) after.maps.items m.table.items after.table.items d.dirty.items last.dirty.items d.blocks.items last.blocks.items changes maps_is table_is dirty_is blocks_is
               (blank_staged v m.maps.items m.table.items d.dirty.items d.blocks.items changes j draft.draft.staged draft.mapped low);
-          naming = naming_as v m.used.items after.used.items (set m.maps.items j 0 ++ m.table.items) (after.maps.items ++ after.table.items) (d.turns.items ++ turns_of (get_or m.maps.items j 0) 0) last.turns.items d.next last.next
-              (ap (λ (x : Vec Bool Global). x.items) sets.size.used) (ap (λ (x : List ℕ). x ++ after.table.items) maps_is ∙ ap (λ (l : List ℕ). set m.maps.items j 0 ++ l) table_is) sets.turns sets.next
+          naming = naming_as v m.used after.used (set m.maps.items j 0 ++ m.table.items) (after.maps.items ++ after.table.items) (d.turns.items ++ turns_of (get_or m.maps.items j 0) 0) last.turns.items d.next last.next
+              sets.size.used (ap (λ (x : List ℕ). x ++ after.table.items) maps_is ∙ ap (λ (l : List ℕ). set m.maps.items j 0 ++ l) table_is) sets.turns sets.next
               (maps_renamed 0 d.next (inl (refl, refl)));
         };
         mapped = mapped_as v (set m.maps.items j 0) after.maps.items m.table.items after.table.items d.blocks.items last.blocks.items (j + 1) maps_is table_is blocks_is
@@ -144,23 +144,23 @@ module _ (v : Volume) (m : VolumeMap) (d : Draft) (changes : List Change) (j : �
       }
 
   -- one that is written
-  pub written_mapped : (bytes : Sector) (mid last : Draft) (after : VolumeMap) (s : ℕ) → words bytes ≡ map_part m.table.items j → PlacesBlock m.used.items d mid s bytes → SetsMap m after mid last j s → IsMappedDraft v after last changes (j + 1)
+  pub written_mapped : (bytes : Sector) (mid last : Draft) (after : VolumeMap) (s : ℕ) → words bytes ≡ map_part m.table.items j → PlacesBlock m.used d mid s bytes → SetsMap m after mid last j s → IsMappedDraft v after last changes (j + 1)
   written_mapped bytes mid last after s spells placed sets =
-      let free : IsFree v s = unused_free v m.used.items s draft.draft.in_use placed.low placed.free in
+      let free : IsFree v s = unused_free v m.used s draft.draft.in_use placed.low placed.free in
       let b : Block = record { sector = s; bytes = bytes } in
-      let unnamed = unnamed_yet v m.used.items (m.maps.items ++ m.table.items) d.turns.items d.next s draft.draft.naming placed.later free in
+      let unnamed = unnamed_yet v m.used (m.maps.items ++ m.table.items) d.turns.items d.next s draft.draft.naming placed.later free in
       let maps_is = sets.maps in
       let table_is = ap (λ (x : Vec ℕ Global). x.items) sets.table in
       let dirty_is = ap (λ (x : Vec Bool Global). x.items) (sets.dirty ∙ placed.dirty) in
       let blocks_is = ap (λ (x : Vec Block Global). x.items) sets.blocks ∙ placed.blocks in
       record {
         draft = record {
-          in_use = subst (λ (u : Vec Bool Global). IsUse v.root.sectors (names v) u.items) (sym sets.size.used) draft.draft.in_use;
+          in_use = subst (λ (u : List Bool). IsUse v.root.sectors (names v) u) (sym sets.size.used) draft.draft.in_use;
           some = draft.draft.some;
           staged = staged_as v (set m.maps.items j s) after.maps.items m.table.items after.table.items d.dirty.items last.dirty.items (d.blocks.items ++ b ∷ []) last.blocks.items changes maps_is table_is dirty_is blocks_is
               (written_staged v m.maps.items m.table.items d.dirty.items d.blocks.items changes j draft.draft.staged draft.mapped low b free unnamed);
-          naming = naming_as v m.used.items after.used.items (set m.maps.items j s ++ m.table.items) (after.maps.items ++ after.table.items) (d.turns.items ++ turns_of (get_or m.maps.items j 0) s) last.turns.items (s + 1) last.next
-              (ap (λ (x : Vec Bool Global). x.items) sets.size.used) (ap (λ (x : List ℕ). x ++ after.table.items) maps_is ∙ ap (λ (l : List ℕ). set m.maps.items j s ++ l) table_is)
+          naming = naming_as v m.used after.used (set m.maps.items j s ++ m.table.items) (after.maps.items ++ after.table.items) (d.turns.items ++ turns_of (get_or m.maps.items j 0) s) last.turns.items (s + 1) last.next
+              sets.size.used (ap (λ (x : List ℕ). x ++ after.table.items) maps_is ∙ ap (λ (l : List ℕ). set m.maps.items j s ++ l) table_is)
               (sets.turns ∙ ap (λ (x : Vec Turn Global). x.items ++ turns_of (get_or m.maps.items j 0) s) placed.turns) (sets.next ∙ placed.next)
               (maps_renamed s (s + 1) (inr (placed.later, free, refl)));
         };

@@ -1,5 +1,6 @@
 pub mod Words
 pub mod Roots
+pub mod Runs
 pub mod Frame
 pub mod Naming
 pub mod Staging

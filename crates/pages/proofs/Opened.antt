@@ -56,7 +56,7 @@ reads_now image m used root count entries marked all first = record {
 }
 
 pub sound_now : (m : VolumeMap) → m.generation < 2 ^ 63 → 1024 ≤ m.sectors → m.sectors ≤ 921600 → length m.maps.items ≡ map_count m.sectors → length m.table.items ≡ 1024 * length m.maps.items
-    → IsMarked (m.maps.items ++ m.table.items) m.used.items → length m.used.items ≡ m.sectors → get_or m.table.items 0 0 ≡ 0 → m.free ≡ unused_count m.used.items → IsSound m
+    → IsMarked (m.maps.items ++ m.table.items) m.used → length m.used ≡ m.sectors → get_or m.table.items 0 0 ≡ 0 → m.free ≡ unused_count m.used → IsSound m
 sound_now m generation least most maps count marked all first free = record {
   generation = generation;
   least = least;
@@ -66,7 +66,7 @@ sound_now m generation least most maps count marked all first free = record {
   places = λ s has. subst (λ (n : ℕ). IsPlace n s) all (marked.names.places s has);
   once = marked.names.once;
   unused = first;
-  in_use = subst (λ (n : ℕ). IsUse n (m.maps.items ++ m.table.items) m.used.items) all marked.in_use;
+  in_use = subst (λ (n : ℕ). IsUse n (m.maps.items ++ m.table.items) m.used) all marked.in_use;
   free = free;
 }
 

@@ -36,7 +36,7 @@ started m d sound fresh = record {
     places = sound.places;
     once = sound.once;
     fresh = λ s has. inl has;
-    in_use = subst (λ (l : List Turn). IsUse m.sectors (names (volume_of m)) (turned m.used.items l)) (sym fresh.turns) sound.in_use;
+    in_use = subst (λ (l : List Turn). IsUse m.sectors (names (volume_of m)) (turned m.used l)) (sym fresh.turns) sound.in_use;
     turns_low = subst (All (λ (t : Turn). t.sector < m.sectors)) (sym fresh.turns) (All-nil (λ (t : Turn). t.sector < m.sectors));
   };
 }
@@ -112,6 +112,6 @@ module _ (m staged : VolumeMap) (after : VolumeMap) (d : Draft) (changes : List 
     once = rw named_is done.draft.naming.once;
     unused = unused;
     in_use = rw same_used (rw named_is (rw sectors_is done.draft.naming.in_use));
-    free = same_free ∙ size.free ∙ sound.free ∙ ap (λ (x : Vec Bool Global). unused_count x.items) (sym (same_used ∙ size.used));
-    turns_low = λ k d lt. omega (arith, done.draft.naming.turns_low k d lt, ap length (ap (λ (x : Vec Bool Global). x.items) (same_used ∙ size.used)), sound.in_use.count);
+    free = same_free ∙ size.free ∙ sound.free ∙ ap unused_count (sym (same_used ∙ size.used));
+    turns_low = λ k d lt. omega (arith, done.draft.naming.turns_low k d lt, ap length (same_used ∙ size.used), sound.in_use.count);
   }

@@ -93,19 +93,19 @@ module _ (v : Volume) (m : VolumeMap) (d : Draft) (changes : List Change) (maps 
   entry_same : (page : ℕ) → Away page changes → names_sector (get_or m.table.items page 0) ≡ names_sector (get_or v.table page 0)
   entry_same page away = sym (named_at m.table.items page) ∙ ap (λ (l : List Bool). get_or l page false) counted.pages ∙ away_same is_some (map names_sector v.table) changes page false away ∙ named_at v.table page
 
-  more_blocks : (mid : Draft) (s : ℕ) (bytes : Sector) → PlacesBlock m.used.items d mid s bytes → length mid.blocks.items ≡ length d.blocks.items + 1
+  more_blocks : (mid : Draft) (s : ℕ) (bytes : Sector) → PlacesBlock m.used d mid s bytes → length mid.blocks.items ≡ length d.blocks.items + 1
   more_blocks mid s bytes placed = ap length placed.blocks ∙ length-append d.blocks.items (record { sector = s; bytes = bytes } ∷ [])
 
   module _ (c : Change) (away : Away c.page changes) (low : c.page / 1024 < length d.dirty.items) where
     -- a page with new bytes
-    pub page_counted : (bytes : Sector) (mid last : Draft) (after : VolumeMap) (s : ℕ) → c.bytes ≡ Some bytes → PlacesBlock m.used.items d mid s bytes → SetsPage m after mid last c.page s → IsCounted v after last (changes ++ c ∷ []) maps
+    pub page_counted : (bytes : Sector) (mid last : Draft) (after : VolumeMap) (s : ℕ) → c.bytes ≡ Some bytes → PlacesBlock m.used d mid s bytes → SetsPage m after mid last c.page s → IsCounted v after last (changes ++ c ∷ []) maps
     page_counted bytes mid last after s is placed sets =
         let some : is_some c.bytes ≡ true = ap is_some is in
         let sector : s ≢ 0 = λ e. omega (arith, e, placed.later, counted.taken.start) in
         record {
-          free = ap (λ (u : Vec Bool Global). unused_count u.items) sets.size.used ∙ counted.free;
-          taken = taken_as m.used.items after.used.items mid.next last.next mid.blocks.items last.blocks.items (ap (λ (u : Vec Bool Global). u.items) sets.size.used) sets.next (ap (λ (b : Vec Block Global). b.items) sets.blocks)
-              (taken_next m.used.items d mid s bytes counted.taken placed);
+          free = ap unused_count sets.size.used ∙ counted.free;
+          taken = taken_as m.used after.used mid.next last.next mid.blocks.items last.blocks.items sets.size.used sets.next (ap (λ (b : Vec Block Global). b.items) sets.blocks)
+              (taken_next m.used d mid s bytes counted.taken placed);
           blocks = omega (arith, ap (λ (b : Vec Block Global). length b.items) sets.blocks, more_blocks mid s bytes placed, counted.blocks, filled_yes changes c some);
           pages = ap (map names_sector) sets.table ∙ kept_set v m.table.items changes c s counted.pages (ap not (ne_eqb s 0 sector) ∙ sym some);
           dirty = subst (AreDirty v (changes ++ c ∷ [])) (sym (sets.dirty ∙ ap (λ (x : Vec Bool Global). set x.items (c.page / 1024) true) placed.dirty))
@@ -128,20 +128,20 @@ module _ (v : Volume) (m : VolumeMap) (d : Draft) (changes : List Change) (maps 
         let absent : is_some c.bytes ≡ false = ap is_some is in
         let entry : changes_entry v c ≡ true = or_right (is_some c.bytes) (names_sector (get_or v.table c.page 0)) (sym (entry_same c.page away) ∙ ap not (ne_eqb (get_or m.table.items c.page 0) 0 some)) in
         record {
-          free = ap (λ (u : Vec Bool Global). unused_count u.items) sets.size.used ∙ counted.free;
-          taken = taken_as m.used.items after.used.items d.next last.next d.blocks.items last.blocks.items (ap (λ (u : Vec Bool Global). u.items) sets.size.used) sets.next (ap (λ (b : Vec Block Global). b.items) sets.blocks) counted.taken;
+          free = ap unused_count sets.size.used ∙ counted.free;
+          taken = taken_as m.used after.used d.next last.next d.blocks.items last.blocks.items sets.size.used sets.next (ap (λ (b : Vec Block Global). b.items) sets.blocks) counted.taken;
           blocks = ap (λ (b : Vec Block Global). length b.items) sets.blocks ∙ counted.blocks ∙ ap (λ (n : ℕ). n + maps) (sym (filled_no changes c absent));
           pages = ap (map names_sector) sets.table ∙ kept_set v m.table.items changes c 0 counted.pages (sym absent);
           dirty = subst (AreDirty v (changes ++ c ∷ [])) (sym sets.dirty) (dirty_set v changes c d.dirty.items counted.dirty low entry);
         }
 
   -- no sector is left
-  pub full_count : ((s : ℕ) → d.next ≤ s → s < length m.used.items → get_or m.used.items s false ≡ true) → free_count v ≡ filled changes + maps
-  full_count all = sym counted.free ∙ count_rest m.used.items d.next all ∙ counted.taken.count ∙ counted.blocks
+  pub full_count : ((s : ℕ) → d.next ≤ s → s < length m.used → get_or m.used s false ≡ true) → free_count v ≡ filled changes + maps
+  full_count all = sym counted.free ∙ count_rest m.used d.next all ∙ counted.taken.count ∙ counted.blocks
 
   -- what was taken was free
   pub enough_free : filled changes + maps ≤ free_count v
-  enough_free = omega (arith, counted.free, counted.taken.count, counted.blocks, front_le (λ u. not u) m.used.items d.next)
+  enough_free = omega (arith, counted.free, counted.taken.count, counted.blocks, front_le (λ u. not u) m.used d.next)
 
 -- the next map sector, written or not
 step_yes : (v : Volume) (changes : List Change) (i : ℕ) → is_written v changes i ≡ true → written_below v changes (i + 1) ≡ written_below v changes i + 1
@@ -183,25 +183,25 @@ module _ (v : Volume) (m : VolumeMap) (d : Draft) (changes : List Change) (j : �
   -- one of zeros
   pub blank_counted : (last : Draft) (after : VolumeMap) → list_all (λ entry. entry == 0) (map_part m.table.items j) ≡ true → SetsMap m after d last j 0 → IsCounted v after last changes (written_below v changes (j + 1))
   blank_counted last after is sets = record {
-    free = ap (λ (u : Vec Bool Global). unused_count u.items) sets.size.used ∙ counted.free;
-    taken = taken_as m.used.items after.used.items d.next last.next d.blocks.items last.blocks.items (ap (λ (u : Vec Bool Global). u.items) sets.size.used) sets.next (ap (λ (b : Vec Block Global). b.items) sets.blocks) counted.taken;
+    free = ap unused_count sets.size.used ∙ counted.free;
+    taken = taken_as m.used after.used d.next last.next d.blocks.items last.blocks.items sets.size.used sets.next (ap (λ (b : Vec Block Global). b.items) sets.blocks) counted.taken;
     blocks = ap (λ (b : Vec Block Global). length b.items) sets.blocks ∙ counted.blocks ∙ ap (λ (n : ℕ). filled changes + n) (sym (step_no v changes j (blank_unwritten is)));
     pages = ap (λ (t : Vec ℕ Global). map names_sector t.items) sets.table ∙ counted.pages;
     dirty = subst (λ (x : Vec Bool Global). AreDirty v changes x.items) (sym sets.dirty) counted.dirty;
   }
 
   -- one that is written
-  pub written_counted : (bytes : Sector) (mid last : Draft) (after : VolumeMap) (s : ℕ) → is_written v changes j ≡ true → PlacesBlock m.used.items d mid s bytes → SetsMap m after mid last j s → IsCounted v after last changes (written_below v changes (j + 1))
+  pub written_counted : (bytes : Sector) (mid last : Draft) (after : VolumeMap) (s : ℕ) → is_written v changes j ≡ true → PlacesBlock m.used d mid s bytes → SetsMap m after mid last j s → IsCounted v after last changes (written_below v changes (j + 1))
   written_counted bytes mid last after s is placed sets = record {
-    free = ap (λ (u : Vec Bool Global). unused_count u.items) sets.size.used ∙ counted.free;
-    taken = taken_as m.used.items after.used.items mid.next last.next mid.blocks.items last.blocks.items (ap (λ (u : Vec Bool Global). u.items) sets.size.used) sets.next (ap (λ (b : Vec Block Global). b.items) sets.blocks)
-        (taken_next m.used.items d mid s bytes counted.taken placed);
+    free = ap unused_count sets.size.used ∙ counted.free;
+    taken = taken_as m.used after.used mid.next last.next mid.blocks.items last.blocks.items sets.size.used sets.next (ap (λ (b : Vec Block Global). b.items) sets.blocks)
+        (taken_next m.used d mid s bytes counted.taken placed);
     blocks = omega (arith, ap (λ (b : Vec Block Global). length b.items) sets.blocks, more_blocks v m d changes (written_below v changes j) counted mid s bytes placed, counted.blocks, step_yes v changes j is);
     pages = ap (λ (t : Vec ℕ Global). map names_sector t.items) sets.table ∙ counted.pages;
     dirty = subst (λ (x : Vec Bool Global). AreDirty v changes x.items) (sym (sets.dirty ∙ placed.dirty)) counted.dirty;
   }
 
-  pub full_map : is_written v changes j ≡ true → ((s : ℕ) → d.next ≤ s → s < length m.used.items → get_or m.used.items s false ≡ true) → free_count v < filled changes + written_below v changes (j + 1)
+  pub full_map : is_written v changes j ≡ true → ((s : ℕ) → d.next ≤ s → s < length m.used → get_or m.used s false ≡ true) → free_count v < filled changes + written_below v changes (j + 1)
   full_map is all = omega (arith, full_count v m d changes (written_below v changes j) counted all, step_yes v changes j is)
 
 pub written_mono : (v : Volume) (changes : List Change) (i j : ℕ) → i ≤ j → written_below v changes i ≤ written_below v changes j
@@ -223,8 +223,8 @@ front_away changes i d once some low k e lt is =
 -- nothing is staged yet
 pub counted_start : (m : VolumeMap) (d : Draft) → IsSound m → IsFresh (length m.maps.items) d → IsCounted (volume_of m) m d [] 0
 counted_start m d sound fresh = record {
-  free = counted m.sectors (names (volume_of m)) m.used.items sound.in_use;
-  taken = taken_start m.sectors (names (volume_of m)) m.used.items d.next d.blocks.items (omega (arith, sound.least)) sound.in_use fresh.next fresh.blocks;
+  free = counted m.sectors (names (volume_of m)) m.used sound.in_use;
+  taken = taken_start m.sectors (names (volume_of m)) m.used d.next d.blocks.items (omega (arith, sound.least)) sound.in_use fresh.next fresh.blocks;
   blocks = ap length fresh.blocks;
   pages = refl;
   dirty = λ i lt. ap (λ (l : List Bool). get_or l i false) fresh.dirty ∙ get_or-replicate (length m.maps.items) i false false (omega (arith, lt, ap length fresh.dirty, length-replicate (length m.maps.items) false));

@@ -1,4 +1,5 @@
 pub mod Layout
+pub mod Runs
 pub mod Image
 pub mod Changes
 pub mod Cache

@@ -1,6 +1,6 @@
 -- A volume in memory.
 use Rattle.std.specs.List.{All, list_any}
-use Rattle.std.specs.Prelude.{◌≡◌, ◌≢◌, ◌<◌, ◌≤◌, ◌+◌, ◌*◌, ◌^◌, ◌/◌, ◌==◌, not, count_by, map, take, replicate, Bool, true, false, ℕ, List, [], ◌∷◌, ◌++◌, length, slice_index, slice_index_or, slice_set, Contains}
+use Rattle.std.specs.Prelude.{◌≡◌, ◌≢◌, ◌<◌, ◌≤◌, ◌+◌, ◌*◌, ◌^◌, ◌/◌, ◌==◌, not, map, take, replicate, Bool, true, false, ℕ, List, [], ◌∷◌, ◌++◌, length, slice_index, slice_index_or, slice_set, Contains}
 use Rattle.station.specs.Disk.{Sector}
 use Rattle.station.specs.declared.blocks.Block.{Block}
 use Rattle.pages.specs.Layout.{map_count}
@@ -9,6 +9,7 @@ use Rattle.pages.specs.Use.{IsUse, turned, turns_of, free_count}
 use Rattle.pages.specs.Changes.{kept}
 use Rattle.pages.specs.Needed.{filled, alters}
 use Rattle.pages.specs.Draft.{Naming, IsStaged, IsMapped}
+pub use Rattle.pages.specs.Runs.{unused_count}
 use Rattle.pages.specs.declared.volume.VolumeMap.{VolumeMap}
 use Rattle.pages.specs.declared.draft.Draft.{Draft}
 use Rattle.pages.specs.declared.draft.Turn.{Turn}
@@ -16,10 +17,6 @@ use Rattle.pages.specs.declared.change.Change.{Change}
 
 abbrev pub volume_of : VolumeMap → Volume
 volume_of m = record { root = record { generation = m.generation; sectors = m.sectors; catalog = m.catalog; maps = m.maps.items }; table = m.table.items }
-
--- how many sectors aren't marked as used
-abbrev pub unused_count : List Bool → ℕ
-unused_count used = count_by (λ u. not u) used
 
 -- what is named is within the volume, each sector once, and the use is right
 pub record IsSound (m : VolumeMap) : Type 0 where
@@ -31,15 +28,15 @@ pub record IsSound (m : VolumeMap) : Type 0 where
   pub places : (s : ℕ) → Contains (names (volume_of m)) s → IsPlace m.sectors s
   pub once : NamesOnce (names (volume_of m))
   pub unused : slice_index m.table.items 0 ≡ 0
-  pub in_use : IsUse m.sectors (names (volume_of m)) m.used.items
-  pub free : m.free ≡ unused_count m.used.items
+  pub in_use : IsUse m.sectors (names (volume_of m)) m.used
+  pub free : m.free ≡ unused_count m.used
 
 -- the next volume after v, with these changes
 pub record IsDraft (v : Volume) (m : VolumeMap) (d : Draft) (changes : List Change) : Type 0 where
-  pub in_use : IsUse v.root.sectors (names v) m.used.items
+  pub in_use : IsUse v.root.sectors (names v) m.used
   pub some : 0 < v.root.sectors
   pub staged : IsStaged v m.maps.items m.table.items d.dirty.items d.blocks.items changes
-  pub naming : Naming v m.used.items (m.maps.items ++ m.table.items) d.turns.items d.next
+  pub naming : Naming v m.used (m.maps.items ++ m.table.items) d.turns.items d.next
 
 -- the first maps of it are on their way too
 pub record IsMappedDraft (v : Volume) (m : VolumeMap) (d : Draft) (changes : List Change) (next : ℕ) : Type 0 where
@@ -59,8 +56,8 @@ pub record IsTaken (used : List Bool) (next : ℕ) (blocks : List Block) : Type 
 
 -- There are as many blocks as these changes with bytes, and so many maps. The table has the pages after the changes.
 pub record IsCounted (v : Volume) (m : VolumeMap) (d : Draft) (changes : List Change) (maps : ℕ) : Type 0 where
-  pub free : unused_count m.used.items ≡ free_count v
-  pub taken : IsTaken m.used.items d.next d.blocks.items
+  pub free : unused_count m.used ≡ free_count v
+  pub taken : IsTaken m.used d.next d.blocks.items
   pub blocks : length d.blocks.items ≡ filled changes + maps
   pub pages : map (λ s. not (s == 0)) m.table.items ≡ kept v.table changes
   pub dirty : (i : ℕ) → i < length d.dirty.items → slice_index_or d.dirty.items i false ≡ list_any (alters v i) changes
@@ -138,6 +135,6 @@ pub record IsSoundAfter (m : VolumeMap) (turns : List Turn) : Type 0 where
   pub places : (s : ℕ) → Contains (names (volume_of m)) s → IsPlace m.sectors s
   pub once : NamesOnce (names (volume_of m))
   pub unused : slice_index m.table.items 0 ≡ 0
-  pub in_use : IsUse m.sectors (names (volume_of m)) (turned m.used.items turns)
-  pub turns_low : All (λ (t : Turn). t.sector < length m.used.items) turns
-  pub free : m.free ≡ unused_count m.used.items
+  pub in_use : IsUse m.sectors (names (volume_of m)) (turned m.used turns)
+  pub turns_low : All (λ (t : Turn). t.sector < length m.used) turns
+  pub free : m.free ≡ unused_count m.used

@@ -1,5 +1,5 @@
 //! Pages as committed, so many as the cache may hold, the most recently used first.
-ghost use Rattle.std.specs.Prelude.{◌≡◌, ◌⊎◌, ◌<◌, ◌↔◌, ℕ, List, [], Ok, Err, None, slice_index_or, nat_eq, Contains, IfOk, IfNone, OnErr, IsSome};
+ghost use Rattle.std.specs.Prelude.{◌≡◌, ◌⊎◌, ◌<◌, ◌↔◌, ℕ, List, [], Ok, Err, None, slice_index_or, nat_eq, option_copied, Contains, IfOk, IfNone, OnErr, IsSome};
 ghost use Rattle.std.specs.List.{All};
 ghost use Rattle.std.specs.Map.{lookup};
 ghost use Rattle.station.specs.Failures.{Blames};
@@ -37,6 +37,23 @@ fn cached_page(cache: &mut LruCache<u32, PageBytes>, page: u32) -> Option<[u8; 4
         Some(kept) => Some(kept.bytes()),
         None => None,
     }
+}
+
+/// The page of a number, if the cache has it. The order of use stays.
+pub(crate) fn seen_page(cache: &LruCache<u32, PageBytes>, page: u32) -> Option<&[u8; 4096]>
+    ensures { option_copied result ≡ lookup (nat_eq page) cache.now.entries }
+{
+    match cache.peek(&page) {
+        Some(kept) => Some(kept.view()),
+        None => None,
+    }
+}
+
+/// A page of the cache becomes the most recently used one.
+pub(crate) fn promote_page(cache: &mut LruCache<u32, PageBytes>, page: u32)
+    ensures { cache.new ≡ lru_cache (promoted (nat_eq page) cache.old.entries) cache.old.cap }
+{
+    cache.promote(&page);
 }
 
 /// The page of a number in a table, or none: from the cache where it is there, and otherwise from the device, by way of the cache.

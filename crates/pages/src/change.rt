@@ -1,5 +1,5 @@
 //! The pages that were changed since the last commit.
-ghost use Rattle.std.specs.Prelude.{◌≡◌, ◌≢◌, ◌<◌, ◌≤◌, ℕ, List, ◌+◌, ◌++◌, ◌∷◌, is_some, if◌then◌else◌, [], length, slice_set, Option, IfOk, OnOk, OnErr, IfSome, IfNone, slice_index_or, None, false, true, ◌^◌};
+ghost use Rattle.std.specs.Prelude.{◌≡◌, ◌≢◌, ◌<◌, ◌≤◌, ℕ, List, ◌+◌, ◌++◌, ◌∷◌, is_some, option_copied, if◌then◌else◌, [], length, slice_set, Option, IfOk, OnOk, OnErr, IfSome, IfNone, slice_index_or, None, false, true, ◌^◌};
 ghost use Rattle.std.specs.List.{All, HoldsAt};
 ghost use Rattle.station.specs.Disk.{Sector};
 ghost use Rattle.pages.specs.Image.{NamesOnce};
@@ -25,6 +25,16 @@ impl Change {
     {
         match &self.bytes {
             Some(kept) => Some(kept.bytes()),
+            None => None,
+        }
+    }
+
+    /// The page's new bytes where they stand, or none.
+    pub(crate) fn view(&self) -> Option<&[u8; 4096]>
+        ensures { option_copied result ≡ self.now.bytes }
+    {
+        match &self.bytes {
+            Some(kept) => Some(kept.view()),
             None => None,
         }
     }

@@ -1,10 +1,11 @@
 //! The next volume, while its blocks are chosen.
-ghost use Rattle.std.specs.Prelude.{◌≡◌, ◌<◌, ◌≤◌, ◌^◌, ◌++◌, ℕ, length, slice_index_or, false, true, Err, IfOk, OnOk, IfSome, IfNone, IsOkUnless, ◌/◌};
+ghost use Rattle.std.specs.Prelude.{◌≡◌, ◌<◌, ◌≤◌, ◌^◌, ◌++◌, ℕ, length, slice_index_or, false, true, Err, IfOk, OnOk, IsOkUnless, ◌/◌};
 ghost use Rattle.pages.specs.Errors.{IsPlanError};
 ghost use Rattle.pages.specs.Use.{turns_of};
 ghost use Rattle.pages.specs.Volumes.{PlacesBlock, SetsPage, SetsMap};
 
 use crate::error::PagesError;
+use crate::sector_use::SectorUse;
 use crate::volume::{MAP_ENTRIES, VolumeMap};
 use station::Block;
 use std::alloc::AllocError;
@@ -28,21 +29,6 @@ pub(crate) struct Draft {
     pub next: u32,
 }
 
-/// The first sector from here on that isn't used.
-pub(crate) fn next_unused(used: &[bool], from: u32) -> Option<u32>
-    requires { length used.now < 2 ^ 32 }
-    ensures found { IfSome result (λ s. (from ≤ s) × (s < length used.now) × (slice_index_or used.now s false ≡ false)) }
-    ensures first { IfSome result (λ s. (t : ℕ) → from ≤ t → t < s → slice_index_or used.now t false ≡ true) }
-    ensures full { IfNone result ((t : ℕ) → from ≤ t → t < length used.now → slice_index_or used.now t false ≡ true) }
-{
-    for i in from as usize..used.len() {
-        if !used[i] {
-            return Some(i as u32);
-        }
-    }
-    None
-}
-
 /// Notes that a name was replaced by another.
 pub(crate) fn note_turns(turns: &mut Vec<Turn>, old: u32, new: u32) -> Result<(), AllocError>
     ensures { OnOk result (turns.new.items ≡ turns.old.items ++ turns_of old new) }
@@ -64,7 +50,7 @@ pub(crate) fn note_turns(turns: &mut Vec<Turn>, old: u32, new: u32) -> Result<()
 
 /// Places a block in the next sector that isn't used.
 pub(crate) fn place_block(
-    used: &[bool],
+    used: &SectorUse,
     draft: &mut Draft,
     bytes: &[u8; 4096],
 ) -> Result<u32, PagesError>
@@ -73,7 +59,7 @@ pub(crate) fn place_block(
     ensures full { result ≡ Err PagesError.Full → (s : ℕ) → draft.old.next ≤ s → s < length used.now → slice_index_or used.now s false ≡ true }
     ensures cause { IsPlanError result }
 {
-    let sector = match next_unused(used, draft.next) {
+    let sector = match used.next_unused(draft.next) {
         Some(sector) => sector,
         None => return Err(PagesError::Full),
     };

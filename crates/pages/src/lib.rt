@@ -19,6 +19,7 @@ mod payload;
 mod plan;
 mod reading;
 mod root;
+mod sector_use;
 mod stage;
 mod volume;
 

@@ -14,6 +14,7 @@ use crate::error::PagesError;
 use crate::marks::mark_names;
 use crate::reading::read_table;
 use crate::root::read_root;
+use crate::sector_use::SectorUse;
 use crate::volume::{VolumeMap, count_free};
 use station::Device;
 use std::alloc::{AllocError, Global};
@@ -57,6 +58,7 @@ pub(crate) fn read_volume<D: Device>(alloc: Global, device: &mut D) -> Result<Vo
         return Err(PagesError::Damaged);
     }
     let free = count_free(&used);
+    let used = SectorUse::new(alloc, used)?;
     Ok(VolumeMap {
         generation: root.generation,
         sectors: root.sectors,

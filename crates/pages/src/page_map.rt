@@ -13,7 +13,7 @@ ghost use Rattle.pages.specs.Changes.{BeforeOrAfter, Touches};
 ghost use Rattle.pages.specs.Errors.{IsEditRefusal, IsAllocateRefusal, IsCommitRefusal};
 ghost use Rattle.pages.specs.Use.{free_count};
 
-use crate::cache::{forget_page, new_cache, recall_page};
+use crate::cache::{forget_page, new_cache, promote_page, recall_page, seen_page};
 use crate::change::{
     Change, find_change, forget_run, is_kept, keep_bytes, pass_runs, set_change, unused_page,
 };
@@ -49,7 +49,8 @@ pub struct PageMap {
 impl PageMap {
     ghost use Rattle.pages.specs.Pages.{committed_of, map_now, page_of, touched_of, filled_of, FillsPage, HasChanges, catalog_of, is_spent, sectors_of, page_count, IsPage, HasEachPage, IsFull, Agrees, IsOpen, advanced, SamePages, SameCommitted, cache_of};
     ghost use Rattle.std.specs.Map.{lookup};
-    ghost use Rattle.std.specs.Prelude.{Ok, nat_eq, Contains, IsSome};
+    ghost use Rattle.std.specs.Prelude.{Ok, nat_eq, option_copied, Contains, IsSome};
+    ghost use Rattle.lru.specs.LruCache.{lru_cache, promoted};
     ghost use Rattle.pages.specs.Cache.{Recalls, forgotten};
     ghost use Rattle.station.specs.Disk.{Disk};
 
@@ -240,6 +241,37 @@ impl PageMap {
                 page,
             ),
         }
+    }
+
+    /// The bytes of a page where they stand in memory: of one that was changed since the last commit, or is in the cache. The order of
+    /// use stays; `note_use` changes it. A value that is spent has none.
+    pub fn view(&self, page: u32) -> Option<&[u8; 4096]>
+        requires { IsOpen self.now }
+        ensures page { (disk : Disk) → Agrees self.now disk → IfSome result (λ bytes. page_of (map_now self.now disk.present) page ≡ Some bytes.now) }
+        ensures changed { is_spent self.now ≡ false → Contains (touched_of self.now) page → (image : List Sector) → option_copied result ≡ page_of (map_now self.now image) page }
+        ensures cached { is_spent self.now ≡ false → (Contains (touched_of self.now) page → ⊥) → option_copied result ≡ lookup (nat_eq page) (cache_of self.now).entries }
+        ensures spent { is_spent self.now ≡ true → result ≡ None }
+    {
+        if self.spent {
+            return None;
+        }
+        match find_change(&self.changes, &self.places, page) {
+            Some(i) => self.changes[i].view(),
+            None => seen_page(&self.cache, page),
+        }
+    }
+
+    /// A page of the cache becomes the most recently used one.
+    pub fn note_use(&mut self, page: u32)
+        ensures map { (image : List Sector) → map_now self.new image ≡ map_now self.old image }
+        ensures touched { touched_of self.new ≡ touched_of self.old }
+        ensures filled { filled_of self.new ≡ filled_of self.old }
+        ensures committed { SameCommitted self.old self.new }
+        ensures agrees { (disk : Disk) → Agrees self.old disk → Agrees self.new disk }
+        ensures cache { cache_of self.new ≡ lru_cache (promoted (nat_eq page) (cache_of self.old).entries) (cache_of self.old).cap }
+        ensures open { IsOpen self.old → IsOpen self.new }
+    {
+        promote_page(&mut self.cache, page);
     }
 
     /// Gives a page new bytes. A page that isn't in the map comes into it.

@@ -12,6 +12,7 @@ ghost use Rattle.pages.specs.Volumes.{volume_of, IsSound, IsSoundAfter, SameSize
 use crate::change::Change;
 use crate::draft::{Draft, Turn};
 use crate::error::PagesError;
+use crate::sector_use::SectorUse;
 use crate::stage::{stage_changes, stage_maps};
 use crate::volume::VolumeMap;
 use roots::GENERATIONS;
@@ -65,30 +66,29 @@ pub(crate) fn next_volume(
 }
 
 /// Marks a sector whose use changed.
-fn mark_turn(used: &mut Vec<bool>, free: &mut u32, turn: Turn)
-    requires low { turn.sector < length used.old.items }
-    requires few { length used.old.items < 2 ^ 32 }
-    requires free { free.old ≡ unused_count used.old.items }
-    ensures used { used.new.items ≡ slice_set used.old.items turn.sector turn.used }
-    ensures free { free.new ≡ unused_count used.new.items }
+fn mark_turn(used: &mut SectorUse, free: &mut u32, turn: Turn)
+    requires low { turn.sector < length used.old }
+    requires few { length used.old < 2 ^ 32 }
+    requires free { free.old ≡ unused_count used.old }
+    ensures used { used.new ≡ slice_set used.old turn.sector turn.used }
+    ensures free { free.new ≡ unused_count used.new }
 {
-    let place = turn.sector as usize;
-    if used[place] {
+    if used.is_used(turn.sector) {
         *free += 1;
     }
-    used[place] = turn.used;
+    used.set(turn.sector, turn.used);
     if turn.used {
         *free -= 1;
     }
 }
 
 /// Marks the sectors whose use changed.
-pub(crate) fn mark_turns(used: &mut Vec<bool>, free: &mut u32, turns: &[Turn])
-    requires low { All (λ t. t.sector < length used.old.items) turns.now }
-    requires few { length used.old.items < 2 ^ 32 }
-    requires free { free.old ≡ unused_count used.old.items }
-    ensures used { used.new.items ≡ turned used.old.items turns.now }
-    ensures free { free.new ≡ unused_count used.new.items }
+pub(crate) fn mark_turns(used: &mut SectorUse, free: &mut u32, turns: &[Turn])
+    requires low { All (λ t. t.sector < length used.old) turns.now }
+    requires few { length used.old < 2 ^ 32 }
+    requires free { free.old ≡ unused_count used.old }
+    ensures used { used.new ≡ turned used.old turns.now }
+    ensures free { free.new ≡ unused_count used.new }
 {
     for turn in turns {
         mark_turn(used, free, *turn);

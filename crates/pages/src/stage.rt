@@ -21,7 +21,7 @@ pub(crate) fn stage_change(
     draft: &mut Draft,
     change: &Change,
 ) -> Result<(), PagesError>
-    requires few { length volume.old.used.items < 2 ^ 32 }
+    requires few { length volume.old.used < 2 ^ 32 }
     requires page { change.now.page < length volume.old.table.items }
     requires dirty { change.now.page / 1024 < length draft.old.dirty.items }
     ensures cause { IsPlanError result }
@@ -67,7 +67,7 @@ pub(crate) fn stage_changes(
     draft: &mut Draft,
     changes: &[Change],
 ) -> Result<(), PagesError>
-    requires few { length volume.old.used.items < 2 ^ 32 }
+    requires few { length volume.old.used < 2 ^ 32 }
     requires pages { All (λ c. (0 < c.page) × (c.page < length volume.old.table.items)) changes.now }
     requires count { length volume.old.table.items ≡ 1024 * length draft.old.dirty.items }
     ensures cause { IsPlanError result }
@@ -109,7 +109,7 @@ pub(crate) fn stage_map(
     draft: &mut Draft,
     map: usize,
 ) -> Result<(), PagesError>
-    requires few { length volume.old.used.items < 2 ^ 32 }
+    requires few { length volume.old.used < 2 ^ 32 }
     requires map { map < length volume.old.maps.items }
     requires dirty { map < length draft.old.dirty.items }
     requires count { length volume.old.table.items ≡ 1024 * length volume.old.maps.items }
@@ -135,7 +135,7 @@ pub(crate) fn stage_map(
 
 /// Stages each map whose entries changed.
 pub(crate) fn stage_maps(volume: &mut VolumeMap, draft: &mut Draft) -> Result<(), PagesError>
-    requires few { length volume.old.used.items < 2 ^ 32 }
+    requires few { length volume.old.used < 2 ^ 32 }
     requires count { length volume.old.table.items ≡ 1024 * length volume.old.maps.items }
     requires dirty { length draft.old.dirty.items ≡ length volume.old.maps.items }
     ensures cause { IsPlanError result }

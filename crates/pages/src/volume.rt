@@ -1,6 +1,8 @@
 //! A volume, as memory knows it.
 ghost use Rattle.std.specs.Prelude.{◌≡◌, ◌<◌, ◌^◌, length};
-ghost use Rattle.pages.specs.Volumes.{unused_count};
+ghost use Rattle.pages.specs.Runs.{unused_count};
+
+use crate::sector_use::SectorUse;
 
 /// Pages and map sectors that a map names.
 pub(crate) const MAP_ENTRIES: usize = 1024;
@@ -17,7 +19,7 @@ pub(crate) struct VolumeMap {
     /// The sector of each page, 0 for none.
     pub table: Vec<u32>,
     /// Whether a sector is a root or is named.
-    pub used: Vec<bool>,
+    pub used: SectorUse,
     /// How many aren't.
     pub free: u32,
 }

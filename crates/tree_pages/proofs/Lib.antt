@@ -1,7 +1,9 @@
+pub mod Beginnings
 pub mod Changed
 pub mod Edited
 mod Examples
 pub mod Halving
+pub mod Numbers
 pub mod Order
 pub mod Places
 pub mod Rows

@@ -1,12 +1,11 @@
 //! A page of a tree.
 ghost use Rattle.std.specs.Prelude.{◌≡◌, ◌≤◌, ◌<◌, ◌↔◌, [], IsTrue, length, slice_index_or};
-ghost use Rattle.tree_pages.specs.Form.{IsForm, capacity, rest_length, row_length};
+ghost use Rattle.tree_pages.specs.Form.{IsForm, capacity, rest_length};
 ghost use Rattle.tree_pages.specs.Keys.{key_of, rest_of, child_of};
 ghost use Rattle.tree_pages.specs.Node.{IsNode, node_in};
 
 use crate::form::{Kind, TreeForm};
-use crate::layout::{COUNT_AT, ROWS_AT, kind_of};
-use byteorder::{BigEndian, ByteOrder};
+use crate::node_view::NodeView;
 use std::marker::Model;
 
 /// A page of a tree, as its rows.
@@ -37,21 +36,19 @@ impl TreePage {
         requires { IsForm form }
         ensures { result ≡ node_in form bytes }
     {
-        let kind = kind_of(bytes[0])?;
-        let (_, number) = bytes.split_at(COUNT_AT);
-        let count = BigEndian::read_u16(number) as usize;
-        if form.capacity(kind) < count {
-            return None;
+        Some(NodeView::read(&bytes, form)?.to_page())
+    }
+
+    /// The page where it stands.
+    pub fn view(&self) -> NodeView<'_>
+        ensures { result ≡ self.now }
+    {
+        NodeView {
+            rows: &self.bytes,
+            form: self.form,
+            kind: self.kind,
+            count: self.count,
         }
-        let (_, spelled) = bytes.split_at(ROWS_AT);
-        let mut rows = [0; 4080];
-        rows.copy_from_slice(spelled);
-        Some(TreePage {
-            bytes: rows,
-            form,
-            kind,
-            count,
-        })
     }
 
     /// How many rows there are.
@@ -82,26 +79,13 @@ impl TreePage {
         self.form().capacity(self.kind()) <= count
     }
 
-    /// The row at this place.
-    fn row(&self, place: usize) -> &[u8]
-        requires { place < length self.now.rows }
-        ensures row { result.now ≡ slice_index_or self.now.rows place [] }
-        ensures length { length result.now ≡ row_length self.now.form self.now.kind }
-    {
-        let length = self.form.row_length(self.kind);
-        let (_, from) = self.bytes.split_at(place * length);
-        let (row, _) = from.split_at(length);
-        row
-    }
-
     /// The key of the row at this place.
     pub fn key(&self, place: usize) -> &[u8]
         requires { place < length self.now.rows }
         ensures key { result.now ≡ key_of self.now.form (slice_index_or self.now.rows place []) }
         ensures length { length result.now ≡ self.now.form.key_length }
     {
-        let (key, _) = self.row(place).split_at(self.form().key_length);
-        key
+        self.view().key(place)
     }
 
     /// What stands behind the key of the row at this place: a leaf's value, or an inner page's page number in 4 bytes.
@@ -110,8 +94,7 @@ impl TreePage {
         ensures rest { result.now ≡ rest_of self.now.form (slice_index_or self.now.rows place []) }
         ensures length { length result.now ≡ rest_length self.now.form self.now.kind }
     {
-        let (_, rest) = self.row(place).split_at(self.form().key_length);
-        rest
+        self.view().rest(place)
     }
 
     /// The page of the child that the row at this place of an inner page names.
@@ -120,6 +103,6 @@ impl TreePage {
         requires place { place < length self.now.rows }
         ensures { result ≡ child_of self.now.form (slice_index_or self.now.rows place []) }
     {
-        BigEndian::read_u32(self.rest(place))
+        self.view().child(place)
     }
 }

@@ -62,7 +62,7 @@ returns-clause-map g c = λ honest rests.
 pub returns-clause-sound : goal.returns-clause-sound
 returns-clause-sound g c =
     let after = c.in_ok-draft.ensures.sound in
-    let marked : c.mark_turns.new.used.items ≡ turned c.next_volume.new.volume.used.items c.in_ok-draft.draft.turns.items = c.mark_turns.ensures.used ∙ ap (turned c.next_volume.new.volume.used.items) c.deref-2.ensures.value in
+    let marked : c.mark_turns.new.used ≡ turned c.next_volume.new.volume.used c.in_ok-draft.draft.turns.items = c.mark_turns.ensures.used ∙ ap (turned c.next_volume.new.volume.used) c.deref-2.ensures.value in
     record {
       generation = after.generation;
       least = after.least;

@@ -1,4 +1,4 @@
-use Rattle.std.proofs.Common.{◌≡◌, ◌<◌, ◌+◌, ◌*◌, ◌/◌, ◌∙◌, ℕ, List, [], ◌++◌, length, get_or, ap, sym, subst, arith, ⊎_elim}
+use Rattle.std.proofs.Common.{◌≡◌, ◌<◌, ◌+◌, ◌*◌, ◌/◌, ◌∙◌, ℕ, Bool, List, [], ◌++◌, length, get_or, ap, sym, subst, arith, ⊎_elim}
 use Rattle.std.specs.List.{All}
 use Rattle.std.proofs.lemmas.List.Elements.{All-from_get_or, Contains-get_or}
 use Rattle.std.proofs.lemmas.List.{get_or_read}
@@ -7,7 +7,7 @@ use Rattle.pages.specs.Image.{map_at, map_part}
 use Rattle.pages.specs.Marked.{IsMarked, AreNames}
 use Rattle.pages.specs.Found.{found_root}
 use Rattle.pages.specs.declared.volume.VolumeMap.{VolumeMap}
-use Rattle.pages.specs.Volumes.{unused_count}
+use Rattle.pages.specs.Volumes.{unused_count, IsSound}
 use Rattle.pages.proofs.Opened.{reads_now, sound_now}
 use Rattle.pages.proofs.Refused.{bad_maps, bad_table, bad_first}
 use Rattle.pages.proofs.open.read_volume.Goals as goal
@@ -36,7 +36,7 @@ returns-clause-reads g c = λ honest.
     let table = c.in_ok-table.table in
     let within = c.in_ok-root.ensures.within in
     let present = (g.D.Device.state c.args.device.now).disk.present in
-    let m : VolumeMap = record { generation = root.generation; sectors = root.sectors; catalog = root.catalog; maps = root.maps; table = table; used = c.mark_names-2.new.used; free = c.count_free-free.result } in
+    let m : VolumeMap = record { generation = root.generation; sectors = root.sectors; catalog = root.catalog; maps = root.maps; table = table; used = c.mark_names-2.new.used.items; free = c.count_free-free.result } in
     let honest' = c.in_ok-root.ensures.honest.0 honest in
     let maps : length root.maps.items ≡ (root.sectors + 1023) / 1024 = within.maps in
     let count : length table.items ≡ 1024 * length root.maps.items = c.in_ok-table.ensures.count ∙ ap (λ (l : List ℕ). 1024 * length l) c.deref-2.ensures.value in
@@ -54,15 +54,16 @@ returns-clause-sound g c =
     let root = c.in_ok-root.root in
     let table = c.in_ok-table.table in
     let within = c.in_ok-root.ensures.within in
-    let m : VolumeMap = record { generation = root.generation; sectors = root.sectors; catalog = root.catalog; maps = root.maps; table = table; used = c.mark_names-2.new.used; free = c.count_free-free.result } in
+    let m : List Bool → VolumeMap = λ used. record { generation = root.generation; sectors = root.sectors; catalog = root.catalog; maps = root.maps; table = table; used = used; free = c.count_free-free.result } in
     let maps : length root.maps.items ≡ (root.sectors + 1023) / 1024 = within.maps in
     let count : length table.items ≡ 1024 * length root.maps.items = c.in_ok-table.ensures.count ∙ ap (λ (l : List ℕ). 1024 * length l) c.deref-2.ensures.value in
     let marked : IsMarked root.maps.items c.mark_names.new.used.items = subst (λ (l : List ℕ). IsMarked l c.mark_names.new.used.items) c.deref.ensures.value (c.mark_names.ensures.marked c.if-not-mark_names.false [] c.in_ok-used.ensures.marked) in
     let all_marked : IsMarked (root.maps.items ++ table.items) c.mark_names-2.new.used.items = subst (λ (l : List ℕ). IsMarked (root.maps.items ++ l) c.mark_names-2.new.used.items) c.deref-3.ensures.value (c.mark_names-2.ensures.marked c.if-not-mark_names-2.false root.maps.items marked) in
     let some : 0 < length table.items = omega (arith, maps, count, within.least) in
-    sound_now m within.generation within.least within.most within.maps count all_marked (c.mark_names-2.ensures.count ∙ c.mark_names.ensures.count ∙ c.in_ok-used.ensures.count)
+    subst (λ (used : List Bool). IsSound (m used)) (sym c.in_ok-used-2.ensures)
+    (sound_now (m c.mark_names-2.new.used.items) within.generation within.least within.most within.maps count all_marked (c.mark_names-2.ensures.count ∙ c.mark_names.ensures.count ∙ c.in_ok-used.ensures.count)
     (sym (get_or_read table.items 0 c.index-first.result.now some c.index-first.ensures 0) ∙ c.if-first-ne0.false)
-    (c.count_free-free.ensures ∙ ap unused_count c.deref-4.ensures.value)
+    (c.count_free-free.ensures ∙ ap unused_count c.deref-4.ensures.value))
 
 pub returns-then-not-mark_names-clause-refused : goal.returns-then-not-mark_names-clause-refused
 returns-then-not-mark_names-clause-refused g c = λ honest.

@@ -5,7 +5,7 @@ use Rattle.pages.proofs.plan.mark_turns.Given as goal
 
 abbrev pub invariant-loop-turn : goal.invariant-loop-turn
 invariant-loop-turn l = record {
-  count : length l.used.items ≡ length l.initial.used.items;
-  marked : l.used.items ≡ turned l.initial.used.items (take l.turn-index l.turns);
-  free : l.free ≡ unused_count l.used.items;
+  count : length l.used ≡ length l.initial.used;
+  marked : l.used ≡ turned l.initial.used (take l.turn-index l.turns);
+  free : l.free ≡ unused_count l.used;
 }

@@ -4,7 +4,7 @@ use Rattle.std.proofs.Common.{rules}
 use Rattle.std.proofs.lemmas.List.{get_or_read}
 use Rattle.station.proofs.TwoPhase.{on_ok}
 use Rattle.pages.specs.Image.{map_part}
-use Rattle.pages.proofs.Drafts.{kept_mapped, blank_mapped, written_mapped, placed_in}
+use Rattle.pages.proofs.Drafts.{kept_mapped, blank_mapped, written_mapped}
 use Rattle.pages.proofs.Words.{all_zeros}
 use Rattle.pages.proofs.Taking.{kept_counted, blank_counted, written_counted, now_written, full_map}
 use Rattle.pages.proofs.stage.stage_map.Goals as goal
@@ -24,7 +24,7 @@ returns-clause-mapped c = λ v changes draft.
     let entries : c.map_entries-entries.result ≡ map_part c.args.volume.now.table.items c.args.map = c.map_entries-entries.ensures ∙ ap (λ (t : List ℕ). map_part t c.args.map) c.deref.ensures.value in
     on_ok c.set_map-2.result (λ sets. written_mapped v c.args.volume.now c.args.draft.now changes c.args.map draft c.requires.map c.spelled_numbers-bytes.result c.place_block.new.draft c.set_map-2.new.draft c.set_map-2.new.volume c.in_ok-sector.sector
     (c.spelled_numbers-bytes.ensures.reads ∙ entries)
-    (placed_in c.deref-2.ensures.value c.in_ok-sector.ensures.placed) sets) c.set_map-2.ensures.set
+    c.in_ok-sector.ensures.placed sets) c.set_map-2.ensures.set
 
 pub returns-then-not-index-clause-counted : goal.returns-then-not-index-clause-counted
 returns-then-not-index-clause-counted c = λ v changes counted.
@@ -42,7 +42,7 @@ returns-clause-counted c = λ v changes counted.
     let written = now_written v c.args.volume.now c.args.draft.now changes c.args.map counted c.requires.dirty (sym (get_or_read c.args.draft.now.dirty.items c.args.map c.index.result.now c.requires.dirty c.index.ensures false) ∙ c.if-not-index.false)
     (sym (ap (list_all (λ entry. entry == 0)) entries) ∙ sym c.is_blank.ensures ∙ c.if-is_blank.false) in
     on_ok c.set_map-2.result (λ sets. written_counted v c.args.volume.now c.args.draft.now changes c.args.map counted c.requires.dirty c.spelled_numbers-bytes.result c.place_block.new.draft c.set_map-2.new.draft c.set_map-2.new.volume c.in_ok-sector.sector written
-    (placed_in c.deref-2.ensures.value c.in_ok-sector.ensures.placed) sets) c.set_map-2.ensures.set
+    c.in_ok-sector.ensures.placed sets) c.set_map-2.ensures.set
 
 pub returns-in_err-sector-clause-full : goal.returns-in_err-sector-clause-full
 returns-in_err-sector-clause-full c = λ v changes counted full.
@@ -51,4 +51,4 @@ returns-in_err-sector-clause-full c = λ v changes counted full.
     let written = now_written v c.args.volume.now c.args.draft.now changes c.args.map counted c.requires.dirty (sym (get_or_read c.args.draft.now.dirty.items c.args.map c.index.result.now c.requires.dirty c.index.ensures false) ∙ c.if-not-index.false)
     (sym (ap (list_all (λ entry. entry == 0)) entries) ∙ sym c.is_blank.ensures ∙ c.if-is_blank.false) in
     full_map v c.args.volume.now c.args.draft.now changes c.args.map counted c.requires.dirty written
-    (subst (λ (l : List Bool). (s : ℕ) → c.args.draft.now.next ≤ s → s < length l → get_or l s false ≡ true) c.deref-2.ensures.value (c.in_err-sector.ensures.full (cc (told))))
+    (c.in_err-sector.ensures.full (cc (told)))

@@ -20,7 +20,7 @@ returns-in-Ok-clause-entry g c = λ honest agrees levels holds.
     let W : Rooted → Type 0 = λ t. IsTree t.form pages t.root levels → EndsAt t.form c.args.key.now levels descent.path.items descent.page descent.leaf.rows descent.right in
     let ends : EndsAt view.form c.args.key.now levels descent.path.items descent.page descent.leaf.rows descent.right = subst W c.self.view_is (c.in_ok-descent.ensures.way honest agrees levels) tree in
     let leaf = leaf_among view.form pages view.root c.args.key.now levels descent.path.items descent.page descent.leaf.rows descent.right tree ends in
-    ap Some c.at.ensures ∙ got_in view.form descent.leaf.form c.args.key.now levels descent.leaf.rows descent.right c.in-Ok.place (c.in_ok-descent.ensures.leaf.0 ∙ form_is) leaf c.in-Ok.ensures.found.0 c.in-Ok.ensures.found.1 c.in-Ok.ensures.around
+    ap Some c.at.ensures.is ∙ got_in view.form descent.leaf.form c.args.key.now levels descent.leaf.rows descent.right c.in-Ok.place (c.in_ok-descent.ensures.leaf.0 ∙ form_is) leaf c.in-Ok.ensures.found.0 c.in-Ok.ensures.found.1 c.in-Ok.ensures.around
 
 pub returns-clause-entry : goal.returns-clause-entry
 returns-clause-entry g c = λ honest agrees levels holds.

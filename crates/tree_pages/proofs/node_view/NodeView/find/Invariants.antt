@@ -1,6 +1,6 @@
 use Rattle.std.proofs.Common.{◌-◌}
 use Rattle.tree_pages.proofs.Halving.{IsLeft}
-use Rattle.tree_pages.proofs.tree_page.TreePage.find.Given as goal
+use Rattle.tree_pages.proofs.node_view.NodeView.find.Given as goal
 
 abbrev pub invariant-loop-low : goal.invariant-loop-low
 invariant-loop-low l = IsLeft l.self.form l.self.rows l.key l.low l.high

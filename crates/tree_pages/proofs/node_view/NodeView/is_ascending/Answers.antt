@@ -2,7 +2,7 @@ use Rattle.std.proofs.Common.{◌≡◌, refl, ◌-◌, [], get_or, arith, rules
 use Rattle.std.specs.declared.cmp.Ordering.TheVariants.{Less}
 use Rattle.tree_pages.specs.Keys.{key_cmp, key_of}
 use Rattle.tree_pages.proofs.Order.{ascending, ordered}
-use Rattle.tree_pages.proofs.tree_page.TreePage.is_ascending.Goals as goal
+use Rattle.tree_pages.proofs.node_view.NodeView.is_ascending.Goals as goal
 
 pub returns-in_default : goal.returns-in_default
 returns-in_default c =

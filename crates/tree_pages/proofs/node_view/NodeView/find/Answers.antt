@@ -3,7 +3,7 @@ use Rattle.std.specs.declared.cmp.Ordering.TheVariants.{Less, Equal, Greater}
 use Rattle.tree_pages.specs.Keys.{key_cmp, key_of}
 use Rattle.tree_pages.proofs.Halving.{left_left, left_right}
 use Rattle.tree_pages.proofs.Order.{above_found, below_found, same_key}
-use Rattle.tree_pages.proofs.tree_page.TreePage.find.Goals as goal
+use Rattle.tree_pages.proofs.node_view.NodeView.find.Goals as goal
 
 pub loop-low-preserved-in-Less : goal.loop-low-preserved-in-Less
 loop-low-preserved-in-Less c =

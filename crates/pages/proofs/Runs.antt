@@ -1,0 +1,127 @@
+-- Runs of sectors, and how many of each aren't marked.
+use Rattle.std.proofs.Common.{◌≡◌, ◌≢◌, ⊎_elim, ◌<◌, ◌≤◌, ◌+◌, ◌-◌, ◌*◌, ◌/◌, min, inl, inr, cond, Bool, true, false, not, ℕ, zero, suc, List, [], length, take, take_all, drop, set, get_or, refl, sym, ◌∙◌, ap, subst, arith, length-set, get_or-set_other, get_or-set_same}
+use Rattle.std.specs.Prelude.{count_by}
+use Rattle.std.proofs.lemmas.Bool.{cases_lt, cases_eq, cases_Bool}
+use Rattle.std.proofs.lemmas.List.{take-take, take-set-le, take-append-drop, get_or-take, get_or_past, length-take-le, drop-take}
+use Rattle.std.proofs.Math.Seq.{take-set-lt}
+use Rattle.std.proofs.lemmas.List.Sums.{count_by_more_yes, count_by-le-length, sum_by-append, sum_by-set, sum_by-take-drop}
+use Rattle.pages.specs.Runs.{unused_count, unused_below, AreRuns}
+
+-- 1 for a sector that isn't marked
+abbrev pub bit : Bool → ℕ
+bit b = cond (not b) 1 0
+
+-- more sectors have no fewer
+pub below_le : (used : List Bool) (n m : ℕ) → n ≤ m → unused_below used n ≤ unused_below used m
+below_le used n m le =
+    let parts : unused_count (take n (take m used)) + unused_count (drop n (take m used)) ≡ unused_count (take m used) = sum_by-take-drop bit (take m used) n in
+    let same : unused_count (take n (take m used)) ≡ unused_count (take n used) = ap unused_count (take-take n m used le) in
+    omega (arith, parts, same)
+
+-- where as many aren't marked below one place as below another, each between them is
+pub none_between : (used : List Bool) (n m t : ℕ) → unused_below used m ≡ unused_below used n → n ≤ t → t < m → t < length used → get_or used t false ≡ true
+none_between used n m t same from below low = ⊎_elim
+    (λ yes. yes)
+    (λ no.
+    let more : unused_below used (t + 1) ≡ unused_below used t + 1 = count_by_more_yes (λ u. not u) used t false low (ap not no) in
+    let left = below_le used n t from in
+    let right = below_le used (t + 1) m (omega arith) in
+    absurd (omega (arith, more, left, right, same)))
+    (cases_Bool (get_or used t false))
+
+-- one that isn't marked counts
+pub some_between : (used : List Bool) (n m s : ℕ) → n ≤ s → s < m → s < length used → get_or used s false ≡ false → unused_below used n < unused_below used m
+some_between used n m s from below low unset =
+    let more : unused_below used (s + 1) ≡ unused_below used s + 1 = count_by_more_yes (λ u. not u) used s false low (ap not unset) in
+    omega (arith, more, below_le used n s from, below_le used (s + 1) m (omega arith))
+
+-- a sector turns
+pub below_before : (used : List Bool) (s n : ℕ) (b : Bool) → n ≤ s → unused_below (set used s b) n ≡ unused_below used n
+below_before used s n b le = ap unused_count (take-set-le n used s b le)
+
+pub below_behind : (used : List Bool) (s n : ℕ) (b : Bool) → s < n → s < length used → unused_below (set used s b) n + bit (get_or used s false) ≡ unused_below used n + bit b
+below_behind used s n b lt low =
+    let moved : unused_below (set used s b) n ≡ unused_count (set (take n used) s b) = ap unused_count (take-set-lt n used s b lt) in
+    let there : s < length (take n used) = ⊎_elim
+        (λ short. omega (arith, lt, length-take-le n used (omega (arith, short))))
+        (λ long. let all : take n used ≡ used = take_all n used long in omega (arith, low, ap length all))
+        (cases_lt n (length used)) in
+    let sum : unused_count (set (take n used) s b) + bit (get_or (take n used) s false) ≡ unused_count (take n used) + bit b = sum_by-set bit (take n used) s b false there in
+    let same : get_or (take n used) s false ≡ get_or used s false = get_or-take n used s false lt in
+    let bits : bit (get_or (take n used) s false) ≡ bit (get_or used s false) = ap bit same in
+    omega (arith, moved, sum, bits)
+
+bit_is : (b : Bool) → cond b 0 1 ≡ bit b
+bit_is true = refl
+bit_is false = refl
+
+-- so many of the next sectors aren't marked
+pub part_counted : (used : List Bool) (n k : ℕ) → unused_below used (n + k) ≡ unused_below used n + unused_count (take k (drop n used))
+part_counted used n k =
+    let parts : unused_count (take n (take (n + k) used)) + unused_count (drop n (take (n + k) used)) ≡ unused_count (take (n + k) used) = sum_by-take-drop bit (take (n + k) used) n in
+    let front : unused_count (take n (take (n + k) used)) ≡ unused_count (take n used) = ap unused_count (take-take n (n + k) used (omega arith)) in
+    let back : unused_count (drop n (take (n + k) used)) ≡ unused_count (take k (drop n used)) = ap unused_count (drop-take n k used) in
+    omega (arith, parts, front, back)
+
+-- behind the last sector there is none
+pub below_end : (used : List Bool) (m : ℕ) → length used ≤ m → unused_below used m ≡ unused_below used (length used)
+below_end used m le = ap unused_count (take_all m used le ∙ sym (take_all (length used) used (omega arith)))
+
+pub run_counted : (used : List Bool) (start end : ℕ) → start ≤ length used → end ≡ min (length used) (start + 1024) → unused_below used (start + 1024) ≡ unused_below used start + unused_count (take (end - start) (drop start used))
+run_counted used start end there is =
+    let parts = part_counted used start (end - start) in
+    let up : start + (end - start) ≡ end = omega (arith, there, is) in
+    let to : unused_below used (start + (end - start)) ≡ unused_below used end = ap (unused_below used) up in
+    let last : unused_below used (start + 1024) ≡ unused_below used end = ⊎_elim
+        (λ lt. let e : start + 1024 ≡ end = omega (arith, lt, is) in ap (unused_below used) e)
+        (λ le. let e : length used ≡ end = omega (arith, le, is) in below_end used (start + 1024) le ∙ ap (unused_below used) e)
+        (cases_lt (start + 1024) (length used)) in
+    omega (arith, parts, to, last)
+
+module _ (used : List Bool) (counts : List ℕ) (are : AreRuns used counts) where
+  -- a run without any is marked
+  pub run_full : (run t : ℕ) → run < length counts → get_or counts run 0 ≡ 0 → 1024 * run ≤ t → t < 1024 * run + 1024 → t < length used → get_or used t false ≡ true
+  run_full run t low none from below there =
+      let e : unused_below used (1024 * run + 1024) ≡ unused_below used (1024 * run) = omega (arith, are.each run low, none) in
+      none_between used (1024 * run) (1024 * run + 1024) t e from below there
+
+  pub run_few : (run : ℕ) → run < length counts → get_or counts run 0 ≤ 921600
+  run_few run low =
+      let all : unused_count (take (1024 * run + 1024) used) + unused_count (drop (1024 * run + 1024) used) ≡ unused_count used = sum_by-take-drop bit used (1024 * run + 1024) in
+      let most : unused_count used ≤ length used = count_by-le-length (λ u. not u) used in
+      omega (arith, are.each run low, all, most, are.few)
+
+  pub run_there : (s : ℕ) → s < length used → s / 1024 < length counts
+  run_there s low = omega (arith, low, are.all)
+
+  pub run_some : (s : ℕ) → s < length used → get_or used s false ≡ false → 0 < get_or counts (s / 1024) 0
+  run_some s low unset =
+      let some = some_between used (1024 * (s / 1024)) (1024 * (s / 1024) + 1024) s (omega arith) (omega arith) low unset in
+      omega (arith, some, are.each (s / 1024) (run_there s low))
+
+  pub runs_set : (s c : ℕ) (b : Bool) → s < length used → c + cond (get_or used s false) 0 1 ≡ get_or counts (s / 1024) 0 + cond b 0 1 → AreRuns (set used s b) (set counts (s / 1024) c)
+  runs_set s c b low is =
+      let r = s / 1024 in
+      let there = run_there s low in
+      let now : c + bit (get_or used s false) ≡ get_or counts r 0 + bit b = omega (arith, is, bit_is (get_or used s false), bit_is b) in
+      record {
+        few = omega (arith, length-set used s b, are.few);
+        all = omega (arith, length-set used s b, length-set counts r c, are.all);
+        each = λ q lt.
+            let q_low : q < length counts = omega (arith, lt, length-set counts r c) in
+            let old = are.each q q_low in
+            ⊎_elim
+            (λ same.
+            let at : get_or (set counts r c) q 0 ≡ c = ap (λ k. get_or (set counts r c) k 0) same ∙ get_or-set_same counts r c 0 there in
+            let here : get_or counts q 0 ≡ get_or counts r 0 = ap (λ k. get_or counts k 0) same in
+            let first = below_before used s (1024 * q) b (omega (arith, same)) in
+            let last = below_behind used s (1024 * q + 1024) b (omega (arith, same)) low in
+            omega (arith, at, here, first, last, old, now))
+            (λ other.
+            let at : get_or (set counts r c) q 0 ≡ get_or counts q 0 = get_or-set_other counts r q c 0 other in
+            ⊎_elim
+            (λ below. omega (arith, at, old, below_before used s (1024 * q) b (omega (arith, below)), below_before used s (1024 * q + 1024) b (omega (arith, below))))
+            (λ from. omega (arith, at, old, below_behind used s (1024 * q) b (omega (arith, from, other)) low, below_behind used s (1024 * q + 1024) b (omega (arith, from, other)) low))
+            (cases_lt q r))
+            (cases_eq q r);
+      }

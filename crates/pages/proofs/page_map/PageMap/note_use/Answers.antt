@@ -1,0 +1,17 @@
+use Rattle.std.proofs.Common.{List, ℕ, subst, sym}
+use Rattle.station.specs.Disk.{Sector}
+use Rattle.lru.specs.LruCache.{LruCache}
+use Rattle.pages.specs.Image.{pages_in}
+use Rattle.pages.specs.Cache.{IsCacheOf}
+use Rattle.pages.specs.Changes.{touched}
+use Rattle.pages.proofs.Caches.{after_promoted}
+use Rattle.pages.proofs.page_map.PageMap.note_use.Goals as goal
+
+pub returns-clause-agrees : goal.returns-clause-agrees
+returns-clause-agrees c = λ disk agrees.
+    let pages = pages_in disk.present c.args.self.now.volume.table.items in
+    let changed = touched c.args.self.now.changes.items in
+    record {
+      committed = agrees.committed;
+      cache = subst (λ (l : LruCache ℕ Sector). IsCacheOf pages changed l.entries) (sym c.promote_page.ensures) (after_promoted pages changed c.args.self.now.cache.entries c.args.page agrees.cache);
+    }

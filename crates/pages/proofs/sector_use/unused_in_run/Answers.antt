@@ -1,0 +1,6 @@
+use Rattle.pages.proofs.Runs.{run_full}
+use Rattle.pages.proofs.sector_use.unused_in_run.Goals as goal
+
+pub returns-then-counts-run-eq0-clause-full : goal.returns-then-counts-run-eq0-clause-full
+returns-then-counts-run-eq0-clause-full c = λ t after from below there.
+    run_full c.args.used.now c.args.counts.now c.requires.runs c.args.run t c.requires.run c.if-counts-run-eq0.true from below there

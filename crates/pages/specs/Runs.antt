@@ -1,0 +1,16 @@
+-- Runs of 1,024 sectors, and how many of each aren't marked as used.
+use Rattle.std.specs.Prelude.{◌≡◌, ◌<◌, ◌≤◌, ◌+◌, ◌*◌, not, count_by, take, Bool, ℕ, List, length, slice_index}
+
+-- how many sectors aren't marked as used
+abbrev pub unused_count : List Bool → ℕ
+unused_count used = count_by (λ u. not u) used
+
+-- how many of those below a number
+abbrev pub unused_below : List Bool → ℕ → ℕ
+unused_below used n = unused_count (take n used)
+
+-- a volume has few sectors, each is in a run, and of each run it is known how many of its sectors aren't marked
+pub record AreRuns (used : List Bool) (counts : List ℕ) : Type 0 where
+  pub few : length used ≤ 921600
+  pub all : length used ≤ 1024 * length counts
+  pub each : (run : ℕ) → run < length counts → unused_below used (1024 * run + 1024) ≡ unused_below used (1024 * run) + slice_index counts run

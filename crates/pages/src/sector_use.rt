@@ -1,0 +1,145 @@
+//! Which sectors of a volume are used.
+ghost use Rattle.std.specs.Prelude.{◌≡◌, ◌<◌, ◌≤◌, ◌+◌, ◌*◌, ℕ, false, true, if◌then◌else◌, length, slice_index_or, IfOk, IfSome, IfNone};
+ghost use Rattle.pages.specs.Runs.{unused_below, AreRuns};
+
+use crate::volume::count_free;
+use std::alloc::{AllocError, Global};
+use std::marker::Model;
+
+/// The sectors of a run.
+const RUN: usize = 1024;
+
+/// For each sector whether it is used, and of each run of 1,024 sectors how many aren't: so a search passes over runs without one.
+#[derive(Drop)]
+pub(crate) struct SectorUse {
+    used: Vec<bool>,
+    unused: Vec<u32>,
+}
+
+impl Model for SectorUse {
+    ghost use Rattle.std.specs.Prelude.{Bool, List};
+    ghost use Rattle.pages.specs.Runs.{AreRuns};
+
+    ghost Value = { List Bool };
+
+    ghost view = { λ sectors. sectors.used.items };
+
+    ghost invariant = { λ sectors. AreRuns sectors.used.items sectors.unused.items };
+}
+
+/// How many sectors of a run aren't used.
+fn count_run(used: &[bool], run: usize) -> u32
+    requires few { length used.now ≤ 921600 }
+    requires start { 1024 * run ≤ length used.now }
+    ensures { unused_below used.now (1024 * run + 1024) ≡ unused_below used.now (1024 * run) + result }
+{
+    let start = RUN * run;
+    let end = used.len().min(start + RUN);
+    count_free(&used[start..end])
+}
+
+/// How many sectors of each run aren't used.
+fn count_runs(alloc: Global, used: &[bool]) -> Result<Vec<u32>, AllocError>
+    requires { length used.now ≤ 921600 }
+    ensures { IfOk result (λ counts. AreRuns used.now counts.items) }
+{
+    let mut counts = Vec::new(alloc);
+    for run in 0..(used.len() + RUN - 1) / RUN {
+        counts.push(count_run(used, run))?;
+    }
+    Ok(counts)
+}
+
+/// How many sectors of a run aren't used, after one of them turned.
+fn turned_count(count: u32, was: bool, used: bool) -> u32
+    requires few { count ≤ 921600 }
+    requires some { was ≡ false → 0 < count }
+    ensures { result + (if was then 0 else 1) ≡ count + (if used then 0 else 1) }
+{
+    if was == used {
+        return count;
+    }
+    if used { count - 1 } else { count + 1 }
+}
+
+/// The first sector of some that isn't used.
+fn first_unused(used: &[bool], start: usize, end: usize) -> Option<u32>
+    requires few { length used.now ≤ 921600 }
+    requires end { end ≤ length used.now }
+    ensures found { IfSome result (λ s. (start ≤ s) × (s < end) × (slice_index_or used.now s false ≡ false)) }
+    ensures first { IfSome result (λ s. (t : ℕ) → start ≤ t → t < s → slice_index_or used.now t false ≡ true) }
+    ensures full { IfNone result ((t : ℕ) → start ≤ t → t < end → slice_index_or used.now t false ≡ true) }
+{
+    for sector in start..end {
+        if !used[sector] {
+            return Some(sector as u32);
+        }
+    }
+    None
+}
+
+/// The first sector of a run, and from this one on, that isn't used.
+fn unused_in_run(used: &[bool], counts: &[u32], from: usize, run: usize) -> Option<u32>
+    requires runs { AreRuns used.now counts.now }
+    requires run { run < length counts.now }
+    ensures found { IfSome result (λ s. (from ≤ s) × (1024 * run ≤ s) × (s < length used.now) × (slice_index_or used.now s false ≡ false)) }
+    ensures first { IfSome result (λ s. (t : ℕ) → from ≤ t → 1024 * run ≤ t → t < s → slice_index_or used.now t false ≡ true) }
+    ensures full { IfNone result ((t : ℕ) → from ≤ t → 1024 * run ≤ t → t < 1024 * run + 1024 → t < length used.now → slice_index_or used.now t false ≡ true) }
+{
+    if counts[run] == 0 {
+        return None;
+    }
+    let start = RUN.saturating_mul(run);
+    let end = used.len().min(start.saturating_add(RUN));
+    match first_unused(used, from.max(start), end) {
+        Some(sector) => Some(sector),
+        None => None,
+    }
+}
+
+impl SectorUse {
+    ghost use Rattle.std.specs.Prelude.{slice_set};
+
+    /// The use of sectors that are marked so.
+    pub(crate) fn new(alloc: Global, used: Vec<bool>) -> Result<SectorUse, AllocError>
+        requires { length used.items ≤ 921600 }
+        ensures { IfOk result (λ sectors. sectors ≡ used.items) }
+    {
+        let unused = count_runs(alloc, &used)?;
+        Ok(SectorUse { used, unused })
+    }
+
+    /// Whether a sector is used.
+    pub(crate) fn is_used(&self, sector: u32) -> bool
+        requires { sector < length self.now }
+        ensures { result ≡ slice_index_or self.now sector false }
+    {
+        self.used[sector as usize]
+    }
+
+    /// A sector becomes used, or is used no longer.
+    pub(crate) fn set(&mut self, sector: u32, used: bool)
+        requires { sector < length self.old }
+        ensures { self.new ≡ slice_set self.old sector used }
+    {
+        let place = sector as usize;
+        let run = place / RUN;
+        self.unused[run] = turned_count(self.unused[run], self.used[place], used);
+        self.used[place] = used;
+    }
+
+    /// The first sector from this one on that isn't used.
+    pub(crate) fn next_unused(&self, from: u32) -> Option<u32>
+        ensures found { IfSome result (λ s. (from ≤ s) × (s < length self.now) × (slice_index_or self.now s false ≡ false)) }
+        ensures first { IfSome result (λ s. (t : ℕ) → from ≤ t → t < s → slice_index_or self.now t false ≡ true) }
+        ensures full { IfNone result ((t : ℕ) → from ≤ t → t < length self.now → slice_index_or self.now t false ≡ true) }
+    {
+        let from = from as usize;
+        for run in from / RUN..self.unused.len() {
+            if let Some(sector) = unused_in_run(&self.used, &self.unused, from, run) {
+                return Some(sector);
+            }
+        }
+        None
+    }
+}
