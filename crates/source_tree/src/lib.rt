@@ -2,6 +2,7 @@
 #![tactic(auto)]
 
 mod ending;
+mod entry;
 mod expression;
 mod laws;
 mod literal;
@@ -13,6 +14,9 @@ mod statement;
 mod text;
 
 pub use ending::Ending;
+pub use entry::{
+    ConditionEntry, Entry, ItemEntry, PictureText, SignClause, SignPosition, UsageClause, ValueRange,
+};
 pub use expression::{Expression, Operand, Operator};
 pub use laws::{budget_law, depth_law, output_law};
 pub use literal::{Figurative, Integer, Literal, LiteralValue, NumericLiteral, Sign};
