@@ -1,5 +1,5 @@
 -- Rules of entries, each broken alone, and entries that nearly break them.
-use Rattle.std.proofs.Common.{◌≡◌, ℕ, true, false, List, [], ◌∷◌, ◌++◌, None, Some, refl}
+use Rattle.std.proofs.Common.{◌≡◌, ℕ, true, List, [], ◌∷◌, ◌++◌, refl}
 use Rattle.std.specs.Prelude.{codes, map, replicate}
 use Rattle.source_tree.specs.declared.entry.SignPosition.TheVariants as position
 use Rattle.source_tree.specs.declared.literal.Figurative.TheVariants as figurative
@@ -10,7 +10,7 @@ use Rattle.source_tree.specs.declared.entry.Entry.TheVariants as entry
 use Rattle.source_tree.specs.Broken.{Broken}
 use Rattle.source_tree.specs.EntryRules.{entry_rules, storage_rules}
 use Rattle.source_tree.specs.Levels.{nested}
-use Rattle.source_tree.proofs.Samples.{group, item, unnamed, redefining, occurring, valued, binary, packed, displayed, signed, justified, blank, entries, one_value, range, condition, number, minus, decimal, text, constant, all}
+use Rattle.source_tree.proofs.Samples.{group, item, redefining, occurring, valued, binary, packed, displayed, signed, justified, blank, entries, one_value, range, condition, number, minus, decimal, text, constant, all}
 unfoldable use Rattle.source_tree.proofs.Computing.{computing}
 
 abbrev rules : List Broken → List ℕ
@@ -50,12 +50,18 @@ occurs : Break ((entries (occurring (codes "3") (item (codes "01") (codes "A") (
     ∷ (in_group (occurring (codes "0") (item (codes "02") (codes "A") (codes "X")) ∷ []), 44 ∷ [])
     ∷ (in_group (occurring (codes "65535") (item (codes "02") (codes "A") (codes "X")) ∷ []), [])
     ∷ (in_group (occurring (codes "65536") (item (codes "02") (codes "A") (codes "X")) ∷ []), 48 ∷ 69 ∷ [])
-    ∷ (in_group (occurring (codes "1") (group (codes "02") (codes "A")) ∷ occurring (codes "1") (group (codes "03") (codes "B")) ∷ occurring (codes "1") (group (codes "04") (codes "C"))
-        ∷ occurring (codes "1") (group (codes "05") (codes "D")) ∷ occurring (codes "1") (group (codes "06") (codes "E")) ∷ occurring (codes "1") (group (codes "07") (codes "F"))
-        ∷ occurring (codes "1") (group (codes "08") (codes "H")) ∷ item (codes "09") (codes "I") (codes "X") ∷ []), [])
-    ∷ (in_group (occurring (codes "1") (group (codes "02") (codes "A")) ∷ occurring (codes "1") (group (codes "03") (codes "B")) ∷ occurring (codes "1") (group (codes "04") (codes "C"))
-        ∷ occurring (codes "1") (group (codes "05") (codes "D")) ∷ occurring (codes "1") (group (codes "06") (codes "E")) ∷ occurring (codes "1") (group (codes "07") (codes "F"))
-        ∷ occurring (codes "1") (group (codes "08") (codes "H")) ∷ occurring (codes "1") (item (codes "09") (codes "I") (codes "X")) ∷ []), 44 ∷ [])
+    ∷ (
+      in_group (occurring (codes "1") (group (codes "02") (codes "A")) ∷ occurring (codes "1") (group (codes "03") (codes "B")) ∷ occurring (codes "1") (group (codes "04") (codes "C"))
+          ∷ occurring (codes "1") (group (codes "05") (codes "D")) ∷ occurring (codes "1") (group (codes "06") (codes "E")) ∷ occurring (codes "1") (group (codes "07") (codes "F"))
+          ∷ occurring (codes "1") (group (codes "08") (codes "H")) ∷ item (codes "09") (codes "I") (codes "X") ∷ []),
+      [],
+    )
+    ∷ (
+      in_group (occurring (codes "1") (group (codes "02") (codes "A")) ∷ occurring (codes "1") (group (codes "03") (codes "B")) ∷ occurring (codes "1") (group (codes "04") (codes "C"))
+          ∷ occurring (codes "1") (group (codes "05") (codes "D")) ∷ occurring (codes "1") (group (codes "06") (codes "E")) ∷ occurring (codes "1") (group (codes "07") (codes "F"))
+          ∷ occurring (codes "1") (group (codes "08") (codes "H")) ∷ occurring (codes "1") (item (codes "09") (codes "I") (codes "X")) ∷ []),
+      44 ∷ [],
+    )
     ∷ [])
 unfolding computing
 occurs = (refl, (refl, (refl, (refl, (refl, (refl, (refl, (refl, tt))))))))

@@ -1,16 +1,16 @@
 -- Where items stand, and what storage holds at the start.
-use Rattle.std.proofs.Common.{◌≡◌, ℕ, true, false, List, [], ◌∷◌, None, Some, refl}
+use Rattle.std.proofs.Common.{◌≡◌, ℕ, true, false, List, [], ◌∷◌, refl}
 use Rattle.std.specs.Prelude.{codes, map, Ok, Err}
 use Rattle.source_tree.specs.declared.entry.SignPosition.TheVariants as position
 use Rattle.source_tree.specs.declared.literal.Figurative.TheVariants as figurative
 use Rattle.source_tree.specs.declared.reference.Subscript.{Subscript}
 use Rattle.source_tree.specs.declared.entry.Entry.{Entry}
-use Rattle.source_tree.specs.Places.{Placed, Dimension, items_of}
+use Rattle.source_tree.specs.Places.{Placed, items_of}
 use Rattle.source_tree.specs.Evaluated as fault
 use Rattle.source_tree.specs.Evaluated.{Evaluated, ◌>>=◌}
 use Rattle.source_tree.specs.References.{place_of}
 use Rattle.source_tree.specs.Starts.{areas_at_start}
-use Rattle.source_tree.proofs.Samples.{group, item, unnamed, redefining, occurring, valued, binary, packed, displayed, signed, justified, blank, entries, number, minus, decimal, text, constant, all, reference, counted, by_item, by_item_less, by_item_more}
+use Rattle.source_tree.proofs.Samples.{group, item, unnamed, redefining, occurring, valued, binary, packed, signed, justified, blank, entries, number, minus, decimal, text, constant, all, reference, counted, by_item, by_item_less, by_item_more}
 unfoldable use Rattle.source_tree.proofs.Computing.{computing}
 
 -- its area, its offset, its length

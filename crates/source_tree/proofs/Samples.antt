@@ -1,6 +1,6 @@
 -- Short ways to write entries and references down.
-use Rattle.std.proofs.Common.{ℕ, Bool, true, false, List, [], ◌∷◌, None, Some}
-use Rattle.std.specs.Prelude.{Option, codes, map}
+use Rattle.std.proofs.Common.{ℕ, Bool, true, false, List, [], None, Some}
+use Rattle.std.specs.Prelude.{map}
 use Rattle.source_tree.specs.declared.place.Place.{Place}
 use Rattle.source_tree.specs.declared.name.Name.{Name}
 use Rattle.source_tree.specs.declared.literal.Integer.{Integer}

@@ -1,5 +1,5 @@
 -- ACCEPT (COBOL-85, Nucleus, "The ACCEPT statement").
-use Rattle.std.specs.Prelude.{ℕ, List, [], ◌∷◌, Option, Some, None, Ok}
+use Rattle.std.specs.Prelude.{ℕ, List, [], ◌∷◌, Ok}
 use Rattle.items.specs.declared.usage.OperationalSign.TheVariants as operational
 use Rattle.items.specs.declared.usage.Usage.TheVariants as usage
 use Rattle.items.specs.Texts.{padded}

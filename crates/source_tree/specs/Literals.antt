@@ -6,7 +6,6 @@ use Rattle.items.specs.declared.usage.OperationalSign.{OperationalSign}
 use Rattle.items.specs.declared.usage.OperationalSign.TheVariants as operational
 use Rattle.items.specs.declared.usage.Usage.TheVariants as usage
 use Rattle.items.specs.declared.numeric.Numeric.{Numeric}
-use Rattle.items.specs.declared.item.Kind.{Kind}
 use Rattle.items.specs.declared.item.Kind.TheVariants as kind
 use Rattle.items.specs.declared.item.Item.{Item}
 use Rattle.items.specs.declared.taken.Figurative.{Figurative}

@@ -1,6 +1,6 @@
 -- The rules of references: 40 unknown name, or one of another kind, 41 ambiguous name, 50 number of subscripts, 51 numbers (COBOL-85,
 -- Nucleus, "Uniqueness of reference").
-use Rattle.std.specs.Prelude.{◌==◌, Bool, true, false, not, ◌&&◌, List, [], ◌∷◌, ◌++◌, length}
+use Rattle.std.specs.Prelude.{◌==◌, Bool, false, not, List, [], ◌∷◌, ◌++◌, length}
 use Rattle.items.specs.declared.item.Kind.{Kind}
 use Rattle.items.specs.declared.item.Kind.TheVariants as kind
 use Rattle.source_tree.specs.declared.place.Place.{Place}

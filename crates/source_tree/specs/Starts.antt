@@ -8,8 +8,6 @@ use Rattle.items.specs.Items.{initial, initial_text}
 use Rattle.items.specs.Texts.{padded}
 use Rattle.edited_move.specs.Moves.{moved}
 use Rattle.source_tree.specs.declared.literal.Literal.{Literal}
-use Rattle.source_tree.specs.declared.entry.ItemEntry.{ItemEntry}
-use Rattle.source_tree.specs.declared.entry.ConditionEntry.{ConditionEntry}
 use Rattle.source_tree.specs.declared.entry.Entry.{Entry}
 use Rattle.source_tree.specs.Levels.{Forest, End, Tree, nested}
 use Rattle.source_tree.specs.Clauses.{Around, nothing_around, inside, occurrences}

@@ -1,6 +1,6 @@
 -- The rules of VALUE: 47 a literal that its item can't hold as it is, 55 a range of values that is backwards (COBOL-85, Nucleus,
 -- "The VALUE clause").
-use Rattle.std.specs.Prelude.{ℕ, nat_lt, Bool, true, false, not, ◌&&◌, ◌||◌, if◌then◌else◌, List, [], ◌∷◌, ◌++◌, length, Option, Some, None}
+use Rattle.std.specs.Prelude.{ℕ, nat_lt, Bool, true, false, not, ◌&&◌, ◌||◌, List, [], ◌∷◌, ◌++◌, length, Option, Some, None}
 use Rattle.std.specs.declared.cmp.Ordering.{Ordering}
 use Rattle.std.specs.declared.cmp.Ordering.TheVariants.{Greater}
 use Rattle.decimal18.specs.Fraction.{Fraction, is_negative}
@@ -17,7 +17,6 @@ use Rattle.items.specs.Numbers.{is_signed}
 use Rattle.items.specs.Texts.{character_of}
 use Rattle.text_ops.specs.Compare.{compared, order_of_texts}
 use Rattle.source_tree.specs.declared.literal.Figurative.TheVariants as figurative
-use Rattle.source_tree.specs.declared.literal.NumericLiteral.{NumericLiteral}
 use Rattle.source_tree.specs.declared.literal.LiteralValue.{LiteralValue}
 use Rattle.source_tree.specs.declared.literal.LiteralValue.TheVariants as literal
 use Rattle.source_tree.specs.declared.literal.Literal.{Literal}

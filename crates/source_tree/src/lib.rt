@@ -15,7 +15,8 @@ mod text;
 
 pub use ending::Ending;
 pub use entry::{
-    ConditionEntry, Entry, ItemEntry, PictureText, SignClause, SignPosition, UsageClause, ValueRange,
+    ConditionEntry, Entry, ItemEntry, PictureText, SignClause, SignPosition, UsageClause,
+    ValueRange,
 };
 pub use expression::{Expression, Operand, Operator};
 pub use laws::{budget_law, depth_law, output_law};
