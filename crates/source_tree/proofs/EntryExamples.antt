@@ -37,7 +37,7 @@ levels : Break ((in_group (item (codes "05") (codes "A") (codes "X") ∷ item (c
     ∷ (entries (group (codes "77") (codes "A") ∷ item (codes "78") (codes "B") (codes "X") ∷ []), 43 ∷ 43 ∷ [])
     ∷ (entries (group (codes "77") (codes "A") ∷ item (codes "02") (codes "B") (codes "X") ∷ []), 43 ∷ [])
     ∷ (condition (codes "C") (one_value (text (codes "A")) ∷ []) ∷ entries (item (codes "01") (codes "A") (codes "X") ∷ []), 43 ∷ [])
-    ∷ (entry.Item (item (codes "01") (codes "A") (codes "X")) ∷ condition (codes "C") (one_value (text (codes "A")) ∷ []) ∷ entries (item (codes "90") (codes "B") (codes "X") ∷ []), 45 ∷ 43 ∷ [])
+    ∷ (entry.Item (item (codes "01") (codes "A") (codes "X")) ∷ condition (codes "C") (one_value (text (codes "A")) ∷ []) ∷ entries (item (codes "90") (codes "B") (codes "X") ∷ []), 43 ∷ 45 ∷ [])
     ∷ [])
 unfolding computing
 levels = (refl, (refl, (refl, (refl, (refl, (refl, (refl, (refl, (refl, (refl, tt))))))))))
@@ -49,7 +49,7 @@ occurs : Break ((entries (occurring (codes "3") (item (codes "01") (codes "A") (
     ∷ (in_group (occurring (codes "3") (item (codes "02") (codes "A") (codes "X")) ∷ []), [])
     ∷ (in_group (occurring (codes "0") (item (codes "02") (codes "A") (codes "X")) ∷ []), 44 ∷ [])
     ∷ (in_group (occurring (codes "65535") (item (codes "02") (codes "A") (codes "X")) ∷ []), [])
-    ∷ (in_group (occurring (codes "65536") (item (codes "02") (codes "A") (codes "X")) ∷ []), 48 ∷ 69 ∷ [])
+    ∷ (in_group (occurring (codes "65536") (item (codes "02") (codes "A") (codes "X")) ∷ []), 69 ∷ 48 ∷ [])
     ∷ (
       in_group (occurring (codes "1") (group (codes "02") (codes "A")) ∷ occurring (codes "1") (group (codes "03") (codes "B")) ∷ occurring (codes "1") (group (codes "04") (codes "C"))
           ∷ occurring (codes "1") (group (codes "05") (codes "D")) ∷ occurring (codes "1") (group (codes "06") (codes "E")) ∷ occurring (codes "1") (group (codes "07") (codes "F"))

@@ -15,9 +15,10 @@ use Rattle.items.specs.declared.item.Item.{Item}
 use Rattle.items.specs.Numbers.{has_sign}
 use Rattle.source_tree.specs.declared.entry.UsageClause.{UsageClause}
 use Rattle.source_tree.specs.declared.entry.UsageClause.TheVariants as clause
+use Rattle.source_tree.specs.declared.entry.Around.{Around}
 use Rattle.source_tree.specs.declared.entry.ItemEntry.{ItemEntry}
 use Rattle.source_tree.specs.Levels.{Forest, End, Tree}
-use Rattle.source_tree.specs.Clauses.{Around, usage_of, picture_in, occurrences}
+use Rattle.source_tree.specs.Clauses.{usage_of, picture_in, occurrences}
 
 abbrev pub most_item_bytes : ℕ
 most_item_bytes = 65535

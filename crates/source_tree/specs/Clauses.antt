@@ -20,13 +20,9 @@ use Rattle.source_tree.specs.declared.entry.UsageClause.TheVariants as clause
 use Rattle.source_tree.specs.declared.entry.SignPosition.{SignPosition}
 use Rattle.source_tree.specs.declared.entry.SignPosition.TheVariants as position
 use Rattle.source_tree.specs.declared.entry.SignClause.{SignClause}
+use Rattle.source_tree.specs.declared.entry.Around.{Around}
 use Rattle.source_tree.specs.declared.entry.ItemEntry.{ItemEntry}
 use Rattle.source_tree.specs.Integers.{number_of}
-
--- what the groups around an entry say of its items
-pub record Around : Type 0 where
-  pub usage : Option UsageClause
-  pub sign : Option SignClause
 
 abbrev pub nothing_around : Around
 nothing_around = record { usage = None; sign = None }

@@ -1,15 +1,16 @@
--- The rules of entries: 43 level order (COBOL-85, Nucleus, "Level-numbers"), and those of their clauses, in the order of writing.
-use Rattle.std.specs.Prelude.{ℕ, ◌+◌, ◌*◌, ◌==◌, nat_lt, Bool, false, not, ◌&&◌, ◌||◌, is_some, is_none, if◌then◌else◌, List, [], ◌∷◌, ◌++◌, drop, Option, Some, None}
+-- The rules of entries: 43 level order (COBOL-85, Nucleus, "Level-numbers"), and those of their clauses.
+use Rattle.std.specs.Prelude.{ℕ, ◌+◌, ◌*◌, ◌==◌, nat_lt, nat_le, Bool, false, not, ◌&&◌, ◌||◌, is_some, is_none, if◌then◌else◌, List, [], ◌∷◌, ◌++◌, drop, Option, Some, None}
 use Rattle.items.specs.declared.item.Item.{Item}
 use Rattle.source_tree.specs.declared.place.Place.{Place}
 use Rattle.source_tree.specs.declared.name.Name.{Name}
+use Rattle.source_tree.specs.declared.entry.Around.{Around}
 use Rattle.source_tree.specs.declared.entry.ItemEntry.{ItemEntry}
 use Rattle.source_tree.specs.declared.entry.ConditionEntry.{ConditionEntry}
 use Rattle.source_tree.specs.declared.entry.Entry.{Entry}
 use Rattle.source_tree.specs.declared.entry.Entry.TheVariants as entry
 use Rattle.source_tree.specs.Integers.{number_of}
 use Rattle.source_tree.specs.Levels.{Forest, End, Tree, nested, leading}
-use Rattle.source_tree.specs.Clauses.{Around, nothing_around, inside, occurrences}
+use Rattle.source_tree.specs.Clauses.{nothing_around, inside, occurrences}
 use Rattle.source_tree.specs.Rooms.{redefines, item_with, area_length}
 use Rattle.source_tree.specs.Broken.{Broken, where_so, each}
 use Rattle.source_tree.specs.ClauseRules.{has_items, wrong_clause, wrong_picture, too_large, too_many}
@@ -38,10 +39,18 @@ is_outermost at = is_none at.level
 abbrev pub most_level : ℕ
 most_level = 49
 
--- 01 and 77 stand outermost, and 77 holds no items; the items of a group have one level, at most 49.
+-- 01 to 49 and 77
+abbrev pub is_level : ℕ → Bool
+is_level level = (nat_le 1 level && nat_le level most_level) || (level == 77)
+
+abbrev pub level_rules : Entry → List Broken
+level_rules (entry.Item one) = where_so (not (is_level (number_of one.level))) 43 one.level.place
+level_rules (entry.Condition one) = []
+
+-- 01 and 77 stand outermost, and 77 holds no items; the items of a group have one level.
 abbrev pub wrong_level : Option ℕ → ℕ → Forest → Bool
 wrong_level None level inner = not ((level == 1) || ((level == 77) && not (has_items inner)))
-wrong_level (Some wanted) level inner = not (level == wanted) || nat_lt most_level level
+wrong_level (Some wanted) level inner = not (level == wanted)
 
 abbrev pub first_level : Forest → ℕ
 first_level End = 0
@@ -55,13 +64,13 @@ redefinition_rules is_record one bytes (Some name) last = where_so (wrong_redefi
 
 abbrev pub own_rules : Position → ItemEntry → Item → Forest → Option Redefinable → List Broken
 own_rules at one item inner last =
-    where_so (wrong_level at.level (number_of one.level) inner) 43 one.level.place
+    where_so (too_many one) 69 one.level.place
+    ++ where_so (too_large item) 48 one.level.place
+    ++ where_so (wrong_level at.level (number_of one.level) inner) 43 one.level.place
     ++ where_so (wrong_clause (is_outermost at) at.nesting at.around one item) 44 one.level.place
     ++ where_so (wrong_picture one inner) 45 one.level.place
     ++ redefinition_rules (is_outermost at && at.in_file) one (occurrences one * item.length) one.redefines last
     ++ value_rules (at.in_file || at.has_no_value || redefines one) item one.value
-    ++ where_so (too_large item) 48 one.level.place
-    ++ where_so (too_many one) 69 one.level.place
 
 abbrev pub below : Position → ItemEntry → Forest → Position
 below at one inner = record {
@@ -72,14 +81,14 @@ below at one inner = record {
   nesting = (if is_some one.occurs then 1 else 0) + at.nesting;
 }
 
--- Each entry, its condition names, and the entries in it, in order.
+-- Each entry after those in it, and its condition names.
 abbrev pub forest_rules : Position → Option Redefinable → Forest → List Broken
 forest_rules at last End = []
 forest_rules at last (Tree one conditions inner next) =
     let item : Item = item_with at.around one inner in
-    own_rules at one item inner last
+    forest_rules (below at one inner) None inner
+    ++ (own_rules at one item inner last
     ++ (each (condition_rules item) conditions
-    ++ (forest_rules (below at one inner) None inner
     ++ forest_rules at (remembered one (occurrences one * item.length) last) next))
 
 -- ---- all of working storage
@@ -110,10 +119,11 @@ storage_rules before (Tree one conditions inner next) =
 abbrev pub excess : Entry → List Broken
 excess one = record { rule = 69; place = place_of_entry one } ∷ []
 
--- The broken rules of working storage.
+-- The broken rules of working storage, the first that is looked for first.
 abbrev pub entry_rules : List Entry → List Broken
 entry_rules entries =
-    each homeless (leading entries)
-    ++ forest_rules (outermost false) None (nested entries)
-    ++ storage_rules 0 (nested entries)
-    ++ each excess (drop most_entries entries)
+    each excess (drop most_entries entries)
+    ++ (each level_rules entries
+    ++ (each homeless (leading entries)
+    ++ (forest_rules (outermost false) None (nested entries)
+    ++ storage_rules 0 (nested entries))))

@@ -4,13 +4,14 @@ use Rattle.picture.specs.declared.picture.Picture.{Picture}
 use Rattle.items.specs.declared.item.Item.{Item}
 use Rattle.source_tree.specs.declared.literal.Integer.{Integer}
 use Rattle.source_tree.specs.declared.name.Name.{Name}
+use Rattle.source_tree.specs.declared.entry.Around.{Around}
 use Rattle.source_tree.specs.declared.entry.ItemEntry.{ItemEntry}
 use Rattle.source_tree.specs.declared.entry.ConditionEntry.{ConditionEntry}
 use Rattle.source_tree.specs.declared.entry.Entry.{Entry}
 use Rattle.source_tree.specs.Integers.{number_of}
 use Rattle.source_tree.specs.Names.{with_name}
 use Rattle.source_tree.specs.Levels.{Forest, End, Tree, nested}
-use Rattle.source_tree.specs.Clauses.{Around, nothing_around, inside, editing_of, occurrences}
+use Rattle.source_tree.specs.Clauses.{nothing_around, inside, editing_of, occurrences}
 use Rattle.source_tree.specs.Rooms.{redefines, item_with}
 
 -- one dimension of a table

@@ -1,10 +1,11 @@
 -- How many bytes entries take (COBOL-85, Nucleus, "Data description entry": PICTURE, OCCURS, REDEFINES).
 use Rattle.std.specs.Prelude.{ℕ, ◌+◌, ◌*◌, max, Bool, is_some, if◌then◌else◌, List}
 use Rattle.items.specs.declared.item.Item.{Item}
+use Rattle.source_tree.specs.declared.entry.Around.{Around}
 use Rattle.source_tree.specs.declared.entry.ItemEntry.{ItemEntry}
 use Rattle.source_tree.specs.declared.entry.ConditionEntry.{ConditionEntry}
 use Rattle.source_tree.specs.Levels.{Forest, End, Tree}
-use Rattle.source_tree.specs.Clauses.{Around, nothing_around, inside, item_of, occurrences}
+use Rattle.source_tree.specs.Clauses.{nothing_around, inside, item_of, occurrences}
 
 abbrev pub redefines : ItemEntry → Bool
 redefines one = is_some one.redefines

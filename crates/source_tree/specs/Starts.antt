@@ -8,9 +8,10 @@ use Rattle.items.specs.Items.{initial, initial_text}
 use Rattle.items.specs.Texts.{padded}
 use Rattle.edited_move.specs.Moves.{moved}
 use Rattle.source_tree.specs.declared.literal.Literal.{Literal}
+use Rattle.source_tree.specs.declared.entry.Around.{Around}
 use Rattle.source_tree.specs.declared.entry.Entry.{Entry}
 use Rattle.source_tree.specs.Levels.{Forest, End, Tree, nested}
-use Rattle.source_tree.specs.Clauses.{Around, nothing_around, inside, occurrences}
+use Rattle.source_tree.specs.Clauses.{nothing_around, inside, occurrences}
 use Rattle.source_tree.specs.Rooms.{redefines, item_with, area_length}
 use Rattle.source_tree.specs.Literals.{Sender, literal_sender}
 

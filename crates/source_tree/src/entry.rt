@@ -34,6 +34,13 @@ pub struct SignClause {
     pub separate: bool,
 }
 
+/// What the groups around an entry say of the numeric items in them, each clause by the nearest group that has it.
+#[derive(Clone, Copy, Debug, PartialEq, Eq)]
+pub struct Around {
+    pub usage: Option<UsageClause>,
+    pub sign: Option<SignClause>,
+}
+
 /// An item or a group, with its clauses as they were written. SYNCHRONIZED, which has no effect, isn't kept.
 #[derive(Debug, Drop)]
 pub struct ItemEntry {

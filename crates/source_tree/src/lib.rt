@@ -15,7 +15,7 @@ mod text;
 
 pub use ending::Ending;
 pub use entry::{
-    ConditionEntry, Entry, ItemEntry, PictureText, SignClause, SignPosition, UsageClause,
+    Around, ConditionEntry, Entry, ItemEntry, PictureText, SignClause, SignPosition, UsageClause,
     ValueRange,
 };
 pub use expression::{Expression, Operand, Operator};
