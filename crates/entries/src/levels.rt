@@ -3,6 +3,7 @@
 ghost use Rattle.std.specs.Prelude.{◌≡◌, ◌+◌, ◌<◌, ◌≤◌, length, min, nat_lt};
 ghost use Rattle.source_tree.specs.Levels.{level_of, deeper, beyond, leading, nested};
 ghost use Rattle.entries.specs.Nesting as spec;
+ghost use Rattle.entries.specs.Nesting.{HasLevel, IsNextItem};
 
 use crate::integers::{MOST, number};
 use source_tree::{Entry, ItemEntry};
@@ -55,4 +56,27 @@ pub fn split_group(group: u32, entries: &[Entry]) -> (&[Entry], &[Entry])
     ensures lengths { length result.0.now + length result.1.now ≡ length entries.now }
 {
     entries.split_at(deeper_count(group, entries))
+}
+
+/// An item, the entries in it with its condition names at the front, and the entries after it.
+#[derive(Clone, Copy)]
+pub struct Sibling<'a> {
+    pub entry: &'a ItemEntry,
+    pub inner: &'a [Entry],
+    pub next: &'a [Entry],
+}
+
+/// The first item of the entries.
+pub fn next_item(entries: &[Entry]) -> Option<Sibling<'_>>
+    requires { HasLevel (nested entries.now) }
+    ensures { IsNextItem entries.now result }
+{
+    match entries {
+        [Entry::Item(entry), more @ ..] => {
+            let (inner, next) = split_group(level(entry), more);
+            Some(Sibling { entry, inner, next })
+        }
+        [Entry::Condition(_), more @ ..] => next_item(more),
+        [] => None,
+    }
 }

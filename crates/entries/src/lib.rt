@@ -8,5 +8,5 @@ mod pictures;
 
 pub use clauses::{inside, kind};
 pub use integers::{MOST, number, occurrences};
-pub use levels::{level, split_group};
-pub use pictures::{elementary, picture_of};
+pub use levels::{Sibling, level, next_item, split_group};
+pub use pictures::{editing, elementary, elementary_length, picture_of};

@@ -1,20 +1,15 @@
 //! The item of an entry with a picture.
 
-ghost use Rattle.std.specs.Prelude.{◌≡◌, ◌≤◌, IfOk, None, Some, if◌then◌else◌};
+ghost use Rattle.std.specs.Prelude.{◌≡◌, ◌≤◌, IfOk};
 ghost use Rattle.picture.specs.declared.category.Category.TheVariants as category;
-ghost use Rattle.items.specs.Numbers.{IsNumeric};
-ghost use Rattle.items.specs.Items.{most_length};
 ghost use Rattle.source_tree.specs.Clauses as spec;
-ghost use Rattle.source_tree.specs.ClauseRules.{too_large};
+ghost use Rattle.source_tree.specs.ClauseRules.{most_item_bytes};
 
 use crate::clauses::kind;
 use items::{Item, Kind};
 use picture::{Picture, PictureFault};
 use source_tree::{Around, ItemEntry};
 use std::alloc::{AllocError, Global};
-
-/// The greatest length of an item, in bytes.
-const MOST_LENGTH: u128 = 65_535;
 
 /// The picture that the entry's clause spells; none without a clause, or where its characters have no form.
 pub fn picture_of(alloc: Global, entry: &ItemEntry) -> Result<Option<Picture>, AllocError>
@@ -40,9 +35,9 @@ fn digits_are_bounded(picture: &Picture)
     picture.laws();
 }
 
-/// The length of an item of that kind with that picture.
-fn length(around: Around, entry: &ItemEntry, picture: &Picture) -> u128
-    ensures { result ≡ spec.length_by (spec.kind_of around entry.now picture.now) picture.now }
+/// The length of the elementary item with that picture, in bytes.
+pub fn elementary_length(around: Around, entry: &ItemEntry, picture: &Picture) -> u128
+    ensures { result ≡ (spec.elementary around entry.now picture.now).length }
 {
     match kind(around, entry, picture) {
         Kind::Numeric(numeric) => {
@@ -53,17 +48,23 @@ fn length(around: Around, entry: &ItemEntry, picture: &Picture) -> u128
     }
 }
 
-/// The elementary item with that picture, if it isn't too large.
-pub fn elementary(around: Around, entry: &ItemEntry, picture: &Picture) -> Option<Item>
-    ensures { result ≡ (if too_large (spec.elementary around entry.now picture.now) then None else Some (spec.elementary around entry.now picture.now)) }
+/// The elementary item with that picture. Its length is one that items may have.
+pub fn elementary(around: Around, entry: &ItemEntry, picture: &Picture) -> Item
+    requires { (spec.elementary around entry.now picture.now).length ≤ most_item_bytes }
+    ensures { result ≡ spec.elementary around entry.now picture.now }
 {
-    let length = length(around, entry, picture);
-    if length > MOST_LENGTH {
-        return None;
+    Item {
+        kind: kind(around, entry, picture),
+        length: elementary_length(around, entry, picture) as u32,
     }
-    let kind = kind(around, entry, picture);
-    Some(Item {
-        kind,
-        length: length as u32,
-    })
+}
+
+/// The picture by which an elementary item is edited; none where it isn't edited.
+pub fn editing(around: Around, entry: &ItemEntry, picture: Picture) -> Option<Picture>
+    ensures { result ≡ spec.editing_by (spec.kind_of around entry.now picture) picture }
+{
+    match kind(around, entry, &picture) {
+        Kind::AlphanumericEdited | Kind::NumericEdited { .. } => Some(picture),
+        _ => None,
+    }
 }

@@ -4,6 +4,7 @@ use Rattle.picture.specs.declared.picture.Picture.{Picture}
 use Rattle.items.specs.declared.item.Item.{Item}
 use Rattle.source_tree.specs.declared.literal.Integer.{Integer}
 use Rattle.source_tree.specs.declared.name.Name.{Name}
+use Rattle.source_tree.specs.declared.table.Dimension.{Dimension}
 use Rattle.source_tree.specs.declared.entry.Around.{Around}
 use Rattle.source_tree.specs.declared.entry.ItemEntry.{ItemEntry}
 use Rattle.source_tree.specs.declared.entry.ConditionEntry.{ConditionEntry}
@@ -13,12 +14,6 @@ use Rattle.source_tree.specs.Names.{with_name}
 use Rattle.source_tree.specs.Levels.{Forest, End, Tree, nested}
 use Rattle.source_tree.specs.Clauses.{nothing_around, inside, editing_of, occurrences}
 use Rattle.source_tree.specs.Rooms.{redefines, item_with}
-
--- one dimension of a table
-pub record Dimension : Type 0 where
-  -- bytes from one occurrence to the next
-  pub stride : ℕ
-  pub count : ℕ
 
 -- An item where it stands: its first occurrence is `offset` bytes behind the start of its area.
 pub record Placed : Type 0 where
@@ -80,7 +75,7 @@ places around last here (Tree one conditions inner next) =
     let item : Item = item_with around.around one inner in
     let at : ℕ = if redefines one then last else here in
     placed around one conditions item inner at ∷ (places (within around one item) at at inner
-    ++ places around at (if redefines one then here else here + occurrences one * item.length) next)
+    ++ places around at (here + (if redefines one then 0 else occurrences one * item.length)) next)
 
 abbrev pub top : ℕ → List Name → Surroundings
 top area groups = record { around = nothing_around; groups = groups; area = area; dimensions = [] }

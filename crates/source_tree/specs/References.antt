@@ -11,7 +11,8 @@ use Rattle.source_tree.specs.declared.reference.Subscript as written
 use Rattle.source_tree.specs.declared.reference.Subscript.TheVariants as subscript
 use Rattle.source_tree.specs.declared.reference.Reference.{Reference}
 use Rattle.source_tree.specs.Integers.{number_of}
-use Rattle.source_tree.specs.Places.{Placed, Dimension}
+use Rattle.source_tree.specs.declared.table.Dimension.{Dimension}
+use Rattle.source_tree.specs.Places.{Placed}
 use Rattle.source_tree.specs.Storage.{Storage, bytes_at, with_bytes}
 use Rattle.source_tree.specs.Evaluated.{Subscript, Evaluated, ◌>>=◌, needed}
 use Rattle.source_tree.specs.LookUp.{items_named, first}

@@ -1,5 +1,5 @@
 -- How many bytes entries take (COBOL-85, Nucleus, "Data description entry": PICTURE, OCCURS, REDEFINES).
-use Rattle.std.specs.Prelude.{ℕ, ◌+◌, ◌*◌, max, Bool, is_some, if◌then◌else◌, List}
+use Rattle.std.specs.Prelude.{ℕ, ◌+◌, ◌*◌, max, Bool, is_some, if◌then◌else◌, List, [], ◌∷◌}
 use Rattle.items.specs.declared.item.Item.{Item}
 use Rattle.source_tree.specs.declared.entry.Around.{Around}
 use Rattle.source_tree.specs.declared.entry.ItemEntry.{ItemEntry}
@@ -37,3 +37,9 @@ redefining (Tree one conditions inner next) = if redefines one then Tree one con
 -- The bytes of the area that a 01 or 77 begins: those of the longest of it and the ones after it that redefine it.
 abbrev pub area_length : ItemEntry → List ConditionEntry → Forest → Forest → ℕ
 area_length one conditions inner next = longest nothing_around (Tree one conditions inner (redefining next))
+
+-- The lengths of all areas of working storage.
+abbrev pub area_lengths : Forest → List ℕ
+area_lengths End = []
+area_lengths (Tree one conditions inner next) =
+    if redefines one then area_lengths next else area_length one conditions inner next ∷ area_lengths next

@@ -11,6 +11,7 @@ mod place;
 mod program;
 mod reference;
 mod statement;
+mod table;
 mod text;
 
 pub use ending::Ending;
@@ -26,4 +27,5 @@ pub use place::Place;
 pub use program::{Paragraph, Program, Section, Sentence};
 pub use reference::{Adjustment, QualifiedName, Reference, Subscript};
 pub use statement::{Statement, Verb};
+pub use table::Dimension;
 pub use text::Text;
