@@ -1,20 +1,27 @@
 -- A program's code is verified.
-use Rattle.std.proofs.Common.{◌≡◌, ℕ, ◌+◌, ◌-◌, ◌≤◌, List, [], ◌∷◌, ◌++◌, length, ap, ◌∙◌, arith, length-append}
+use Rattle.std.proofs.Common.{◌≡◌, ℕ, ◌+◌, ◌-◌, ◌≤◌, List, [], ◌∷◌, ◌++◌, length, sym, ap, ◌∙◌, subst, arith, length-append}
 use Rattle.std.specs.Prelude.{slice_get}
 use Rattle.std.specs.List.{AllByRecursion}
 use Rattle.std.proofs.lemmas.List.Elements.{All-from_recursion}
 use Rattle.source_tree.specs.declared.text.Text.TheVariants as text
 use Rattle.source_tree.specs.declared.ending.Ending.TheVariants as ending
+use Rattle.source_tree.specs.declared.performing.Performed.{Performed}
+use Rattle.source_tree.specs.declared.performing.Performed.TheVariants.{Statements}
+use Rattle.source_tree.specs.declared.performing.Turns.{Turns}
+use Rattle.source_tree.specs.declared.performing.Turns.TheVariants.{Once}
 use Rattle.source_tree.specs.declared.statement.Verb.{Verb}
 use Rattle.source_tree.specs.declared.statement.Verb.TheVariants as verb
-use Rattle.source_tree.specs.declared.statement.Statement.{Statement, out-Statement}
+use Rattle.source_tree.specs.declared.statement.Statement.{Statement, roll-Statement}
+use Rattle.source_tree.specs.declared.statement.Statement.TheOpen.{Statement-F}
+use Rattle.source_tree.specs.declared.statement.Statement.TheFolds.{map-Statement, ind-Statement}
 use Rattle.source_tree.specs.declared.program.Program.{Program}
 use Rattle.source_tree.specs.declared.program.Paragraph.{Paragraph}
 use Rattle.code_image.specs.declared.code.Code.{Code}
 use Rattle.code_image.specs.declared.instruction.Instruction.{Instruction}
 use Rattle.code_image.specs.declared.instruction.Instruction.TheVariants.{Tick, Show, Stop}
 use Rattle.code_image.specs.Demands.{NamesLiteral, IsAddress, IsVerified}
-use Rattle.codegen.specs.Layout.{Piece, nothing, joined, in_order, verb_piece, statement_piece, sentence_piece, start_piece, paragraph_piece, section_piece, end_piece, code_of}
+use Rattle.codegen.specs.Layout.{Piece, nothing, joined, in_order, tick_piece, performed_piece, turns_piece, verb_piece, statement_piece, sentence_piece, start_piece, paragraph_piece, section_piece, end_piece, code_of}
+use Rattle.codegen.proofs.Layers.{verb_map, rolled_is}
 use Rattle.codegen.proofs.Standing.{at_seam}
 
 all_weaker : {A : Type 0} (P Q : A → Type 0) → ((x : A) → P x → Q x) → (xs : List A) → AllByRecursion P xs → AllByRecursion Q xs
@@ -57,13 +64,41 @@ in_order_meets : {A : Type 0} (piece : A → Piece) → AllMeet piece → (all :
 in_order_meets piece f [] before = record { literals = tt; starts = tt }
 in_order_meets piece f (one ∷ more) before = both before (piece one before) (in_order piece more (joined before (piece one before))) (f.by one before) (in_order_meets piece f more (joined before (piece one before)))
 
-verb_meets : {S : Type 0} (line : ℕ) (one : Verb S) (before : Code) → Meets before (verb_piece line one before)
-verb_meets line (verb.Text (text.Display operands advancing)) before = record { literals = (tt, (omega arith, tt)); starts = tt }
-verb_meets line (verb.Ending ending.StopRun inside) before = record { literals = (tt, (tt, tt)); starts = tt }
-verb_meets line (verb.Ending ending.Continue inside) before = record { literals = (tt, tt); starts = tt }
+module _ {S : Type 0} (inside : S → Piece) (each : AllMeet inside) where
+  performed_meets : (one : Performed S) (before : Code) → Meets before (performed_piece inside one before)
+  performed_meets (Statements statements) before = in_order_meets inside each statements before
+
+  turns_meet : (one : Turns) (body : Piece) → ((before : Code) → Meets before (body before)) → (before : Code) → Meets before (turns_piece inside one body before)
+  turns_meet Once body met before = met before
+
+  verb_meets : (line : ℕ) (one : Verb S) (before : Code) → Meets before (verb_piece inside line one before)
+  verb_meets line (verb.Performing one) before =
+      let tick = tick_piece line before in
+      both before tick (turns_piece inside one.turns (performed_piece inside one.performed) (joined before tick)) (record { literals = (tt, tt); starts = tt })
+      (turns_meet one.turns (performed_piece inside one.performed) (performed_meets one.performed) (joined before tick))
+  verb_meets line (verb.Text (text.Display operands advancing)) before = record { literals = (tt, (omega arith, tt)); starts = tt }
+  verb_meets line (verb.Ending ending.StopRun) before = record { literals = (tt, (tt, tt)); starts = tt }
+  verb_meets line (verb.Ending ending.Continue) before = record { literals = (tt, tt); starts = tt }
+
+-- what is known of a statement's code
+record IsMet (one : Statement) : Type 0 where
+  by : (before : Code) → Meets before (statement_piece one before)
+
+abbrev Met : Type 0
+Met = (one : Statement) × IsMet one
+
+met_inside : (l : Statement-F Met) → IsMet (roll-Statement (map-Statement Met Statement (λ m. m.0) l))
+met_inside l = record {
+  by = λ before.
+      let is = rolled_is (map-Statement Met Statement (λ m. m.0) l) before ∙ verb_map (λ m. m.0) statement_piece l.place l.verb before in
+      subst (Meets before) (sym is) (verb_meets (λ (m : Met). statement_piece m.0) (record { by = λ m now. m.1.by now }) l.place.line l.verb before);
+}
+
+statement_met : (one : Statement) → IsMet one
+statement_met = ind-Statement IsMet (λ one l is. subst (λ k. IsMet (roll-Statement k)) is (met_inside l))
 
 statement_meets : (one : Statement) (before : Code) → Meets before (statement_piece one before)
-statement_meets one before = verb_meets (out-Statement one).place.line (out-Statement one).verb before
+statement_meets one before = (statement_met one).by before
 
 sentences_meets : AllMeet sentence_piece
 sentences_meets = record { by = λ one before. in_order_meets statement_piece (record { by = statement_meets }) one.statements before }

@@ -1,5 +1,6 @@
 -- Pieces of code, and what stands where in the whole
 pub mod Pieces
+pub mod Layers
 pub mod Standing
 -- The machine does what the tree means
 pub mod Simulation

@@ -4,9 +4,16 @@ use Rattle.source_tree.specs.declared.text.Text.{Text}
 use Rattle.source_tree.specs.declared.text.Text.TheVariants as text
 use Rattle.source_tree.specs.declared.ending.Ending.{Ending}
 use Rattle.source_tree.specs.declared.ending.Ending.TheVariants as ending
+use Rattle.source_tree.specs.declared.performing.Performed.{Performed}
+use Rattle.source_tree.specs.declared.performing.Performed.TheVariants.{Statements}
+use Rattle.source_tree.specs.declared.performing.Turns.{Turns}
+use Rattle.source_tree.specs.declared.performing.Turns.TheVariants.{Once}
+use Rattle.source_tree.specs.declared.performing.Performing.{Performing}
 use Rattle.source_tree.specs.declared.statement.Verb.{Verb}
 use Rattle.source_tree.specs.declared.statement.Verb.TheVariants as verb
-use Rattle.source_tree.specs.declared.statement.Statement.{Statement, out-Statement}
+use Rattle.source_tree.specs.declared.statement.Statement.{Statement}
+use Rattle.source_tree.specs.declared.statement.Statement.TheOpen.{Statement-F}
+use Rattle.source_tree.specs.declared.statement.Statement.TheFolds.{fold-Statement}
 use Rattle.source_tree.specs.declared.program.Sentence.{Sentence}
 use Rattle.source_tree.specs.declared.program.Paragraph.{Paragraph}
 use Rattle.source_tree.specs.declared.program.Section.{Section}
@@ -41,23 +48,41 @@ display_piece line bytes before = record {
 abbrev pub stop_run_piece : ℕ → Piece
 stop_run_piece line before = record { literals = []; starts = []; instructions = Tick line ∷ Stop ∷ [] }
 
-abbrev pub continue_piece : ℕ → Piece
-continue_piece line before = record { literals = []; starts = []; instructions = Tick line ∷ [] }
+-- one of the budget, and nothing else: CONTINUE
+abbrev pub tick_piece : ℕ → Piece
+tick_piece line before = record { literals = []; starts = []; instructions = Tick line ∷ [] }
 
 abbrev pub text_piece : ℕ → Text → Piece
 text_piece line (text.Display operands advancing) = display_piece line (shown_display operands advancing)
 
 abbrev pub ending_piece : ℕ → Ending → Piece
 ending_piece line ending.StopRun = stop_run_piece line
-ending_piece line ending.Continue = continue_piece line
+ending_piece line ending.Continue = tick_piece line
 
--- a statement at this line, by its family
-abbrev pub verb_piece : {S : Type 0} → ℕ → Verb S → Piece
-verb_piece line (verb.Text one) = text_piece line one
-verb_piece line (verb.Ending one inside) = ending_piece line one
+-- Statements that hold statements; `inside` is the code of those.
+module _ {S : Type 0} (inside : S → Piece) where
+  abbrev pub performed_piece : Performed S → Piece
+  performed_piece (Statements statements) = in_order inside statements
 
-abbrev pub statement_piece : Statement → Piece
-statement_piece one = verb_piece (out-Statement one).place.line (out-Statement one).verb
+  abbrev pub turns_piece : Turns → Piece → Piece
+  turns_piece Once body = body
+
+  abbrev pub performing_piece : ℕ → Performing S → Piece
+  performing_piece line one before =
+      joined (tick_piece line before) (turns_piece one.turns (performed_piece one.performed) (joined before (tick_piece line before)))
+
+  -- a statement at this line, by its family
+  abbrev pub verb_piece : ℕ → Verb S → Piece
+  verb_piece line (verb.Performing one) = performing_piece line one
+  verb_piece line (verb.Text one) = text_piece line one
+  verb_piece line (verb.Ending one) = ending_piece line one
+
+-- a statement, by the code of those that stand in it
+abbrev pub statement_layer : Statement-F Piece → Piece
+statement_layer one = verb_piece (λ piece. piece) one.place.line one.verb
+
+unfoldable pub statement_piece : Statement → Piece
+statement_piece = fold-Statement Piece statement_layer
 
 abbrev pub sentence_piece : Sentence → Piece
 sentence_piece sentence = in_order statement_piece sentence.statements

@@ -2,11 +2,14 @@
 
 ghost use Rattle.std.specs.Prelude.{◌≡◌, OnOk};
 ghost use Rattle.source_tree.specs.Display.{shown_display};
-ghost use Rattle.codegen.specs.Layout.{joined, display_piece, text_piece, stop_run_piece, continue_piece, statement_piece, sentence_piece, start_piece, paragraph_piece, section_piece, in_order, end_piece};
+ghost use Rattle.codegen.specs.Layout.{joined, display_piece, text_piece, stop_run_piece, tick_piece, performing_piece, statement_piece, sentence_piece, start_piece, paragraph_piece, section_piece, in_order, end_piece};
 
 use crate::display::display_bytes;
 use code_image::{Code, Instruction, LiteralIndex};
-use source_tree::{Ending, Literal, Paragraph, Section, Sentence, Statement, Text, Verb};
+use source_tree::{
+    Ending, Literal, Paragraph, Performed, Performing, Section, Sentence, Statement, Text, Turns,
+    Verb,
+};
 use std::alloc::{AllocError, Global};
 
 fn emit_display(
@@ -46,31 +49,66 @@ fn emit_stop_run(code: &mut Code, line: u32) -> Result<(), AllocError>
     Ok(())
 }
 
-fn emit_continue(code: &mut Code, line: u32) -> Result<(), AllocError>
-    ensures { OnOk result (code.new ≡ joined code.old (continue_piece line code.old)) }
+fn emit_tick(code: &mut Code, line: u32) -> Result<(), AllocError>
+    ensures { OnOk result (code.new ≡ joined code.old (tick_piece line code.old)) }
 {
     code.instructions.push(Instruction::Tick { line })?;
     Ok(())
 }
 
+#[cycle(statement)]
+#[tactic(auto, using(crate::proofs::Layers::statement_is))]
 fn emit_statement(alloc: Global, code: &mut Code, statement: &Statement) -> Result<(), AllocError>
     ensures { OnOk result (code.new ≡ joined code.old (statement_piece statement.now code.old)) }
 {
     let line = statement.place.line;
     match &statement.verb {
+        Verb::Performing(
+            Performing {
+                performed: Performed::Statements(inside),
+                turns,
+            },
+        ) => emit_performing(alloc, code, line, turns, inside.as_slice()),
         Verb::Text(text) => emit_text(alloc, code, line, text),
-        Verb::Ending(Ending::StopRun, _) => emit_stop_run(code, line),
-        Verb::Ending(Ending::Continue, _) => emit_continue(code, line),
+        Verb::Ending(Ending::StopRun) => emit_stop_run(code, line),
+        Verb::Ending(Ending::Continue) => emit_tick(code, line),
     }
+}
+
+#[cycle(statement)]
+fn emit_performing(
+    alloc: Global,
+    code: &mut Code,
+    line: u32,
+    turns: &Turns,
+    inside: &[Statement],
+) -> Result<(), AllocError>
+    ensures { OnOk result (code.new ≡ joined code.old (performing_piece statement_piece line (record { performed = Performed.Statements inside.now; turns = turns.now }) code.old)) }
+{
+    emit_tick(code, line)?;
+    match turns {
+        Turns::Once => emit_statements(alloc, code, inside),
+    }
+}
+
+#[cycle(statement)]
+fn emit_statements(
+    alloc: Global,
+    code: &mut Code,
+    statements: &[Statement],
+) -> Result<(), AllocError>
+    ensures { OnOk result (code.new ≡ joined code.old (in_order statement_piece statements.now code.old)) }
+{
+    for statement in statements {
+        emit_statement(alloc, code, statement)?;
+    }
+    Ok(())
 }
 
 fn emit_sentence(alloc: Global, code: &mut Code, sentence: &Sentence) -> Result<(), AllocError>
     ensures { OnOk result (code.new ≡ joined code.old (sentence_piece sentence.now code.old)) }
 {
-    for statement in sentence.statements.as_slice() {
-        emit_statement(alloc, code, statement)?;
-    }
-    Ok(())
+    emit_statements(alloc, code, sentence.statements.as_slice())
 }
 
 fn emit_sentences(alloc: Global, code: &mut Code, sentences: &[Sentence]) -> Result<(), AllocError>

@@ -6,7 +6,7 @@ use Rattle.tokens.specs.declared.reserved.Reserved.TheVariants as w
 use Rattle.tokens.specs.declared.token.Kind.{Kind}
 use Rattle.tokens.specs.declared.token.Kind.TheVariants as k
 use Rattle.tokens.specs.declared.token.Token.{Token}
-use Rattle.source_tree.specs.declared.place.Place.{Place}
+use Rattle.lexical.specs.declared.place.Place.{Place}
 use Rattle.source_tree.specs.declared.name.Name.{Name}
 use Rattle.source_tree.specs.declared.program.Sentence.{Sentence}
 use Rattle.source_tree.specs.declared.program.Paragraph.{Paragraph}
@@ -153,7 +153,7 @@ no_verb k.RightParenthesis place given e = cc
 no_verb (k.Operator operator) place given e = cc
 
 name_begins_none : (given : Name) (i rest : List Token) → parts.name given i rest → begins_statement i ≡ false
-name_begins_none given i rest (first, is, tell) = ap begins_statement is ∙ ap is_some (no_verb first.kind (parts.place_in first) given tell)
+name_begins_none given i rest (first, is, tell) = ap begins_statement is ∙ ap is_some (no_verb first.kind first.place given tell)
 
 pub body_complete : (depth depth' : ℕ) → Complete (Deeper depth depth') (g.body depth') (r.body depth)
 unfolding r.body r.opening

@@ -6,14 +6,14 @@ use Rattle.tokens.specs.declared.reserved.Reserved.TheVariants as w
 use Rattle.tokens.specs.declared.token.Kind.{Kind}
 use Rattle.tokens.specs.declared.token.Kind.TheVariants as k
 use Rattle.tokens.specs.declared.token.Token.{Token}
-use Rattle.tokens.specs.declared.token.Sign.TheVariants as written
-use Rattle.source_tree.specs.declared.literal.Sign.TheVariants as sign
+use Rattle.lexical.specs.declared.number.Sign.TheVariants as sign
 use Rattle.source_tree.specs.declared.literal.LiteralValue.TheVariants as value
 use Rattle.source_tree.specs.declared.literal.Literal.{Literal}
 use Rattle.source_tree.specs.declared.program.Sentence.{Sentence}
 use Rattle.source_tree.specs.declared.program.Paragraph.{Paragraph}
 use Rattle.source_tree.specs.declared.program.Program.{Program}
 use Rattle.source_tree.proofs.Examples.{display, stop_run, hello, hello_bytes}
+use Rattle.tokens.specs.Reserved.{same_word}
 use Rattle.grammar.specs.Reading as read
 use Rattle.statements.specs.Display as display_rule
 use Rattle.statements.specs.StopRun as stop_run_rule
@@ -52,11 +52,11 @@ hello_tokens =
 abbrev show_tokens : ℕ → List Token
 show_tokens line =
     at line 12 (k.Word (83 ∷ 72 ∷ 79 ∷ 87 ∷ []))
-    ∷ at line 17 (k.Numeric (record { sign = written.Unsigned; whole = 49 ∷ []; decimals = [] })) ∷ period line 18 ∷ []
+    ∷ at line 17 (k.Numeric (record { sign = sign.Unsigned; whole = 49 ∷ []; decimals = [] })) ∷ period line 18 ∷ []
 
 -- every step of reading, so that a program's tree is computed
 unfoldable computing : Unit {0}
-unfolding r.program r.identification r.procedure r.body r.opening r.sentences r.any_sentences r.paragraph r.paragraphs r.any_paragraphs r.ending r.end_program read.same_word read.after_word read.past_word read.expect read.skip read.left_out read.period read.heading read.nothing read.here read.one_token read.name read.literal read.several_from read.several read.any display_rule.after_no_advancing display_rule.display_reader stop_run_rule.stop_run_reader statements.statements statements.verb statements.line statements.statement statements.sentence
+unfolding r.program r.identification r.procedure r.body r.opening r.sentences r.any_sentences r.paragraph r.paragraphs r.any_paragraphs r.ending r.end_program same_word read.after_word read.past_word read.expect read.skip read.left_out read.period read.heading read.nothing read.here read.one_token read.name read.literal read.several_from read.several read.any display_rule.after_no_advancing display_rule.display_reader stop_run_rule.stop_run_reader statements.statements statements.verb statements.line statements.statement statements.sentence
 computing = tt
 
 -- the six lines of HELLO
@@ -104,7 +104,7 @@ unnamed sentences = record { name = None; sentences = sentences }
 abbrev three_tokens : List Token
 three_tokens =
     at 4 20 (k.Nonnumeric (65 ∷ []))
-    ∷ at 4 24 (k.Numeric (record { sign = written.Unsigned; whole = 49 ∷ 50 ∷ []; decimals = 53 ∷ 48 ∷ [] }))
+    ∷ at 4 24 (k.Numeric (record { sign = sign.Unsigned; whole = 49 ∷ 50 ∷ []; decimals = 53 ∷ 48 ∷ [] }))
     ∷ at 4 30 (k.Nonnumeric (105 ∷ 116 ∷ 39 ∷ 115 ∷ [])) ∷ []
 
 abbrev three_operands : List Literal

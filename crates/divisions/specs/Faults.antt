@@ -1,19 +1,18 @@
 -- The faults of tokens that make no program.
 use Rattle.std.specs.Prelude.{◌≡◌, ◌<◌, ◌-◌, ℕ, List, length, Option, None, Some, Result, Ok, Err, slice_get}
 use Rattle.tokens.specs.declared.token.Token.{Token}
-use Rattle.source_tree.specs.declared.place.Place.{Place}
+use Rattle.lexical.specs.declared.place.Place.{Place}
 use Rattle.source_tree.specs.declared.program.Program.{Program}
 use Rattle.grammar.specs.declared.fault.Halt.{Halt}
 use Rattle.grammar.specs.declared.fault.Halt.TheVariants.{Unexpected, TooDeep}
-use Rattle.grammar.specs.Parts.{place_in}
 use Rattle.grammar.specs.Reading.{Outcome}
 use Rattle.statements.specs.Spelling.{max_nesting}
 use Rattle.divisions.specs.Reading.{program}
 use Rattle.divisions.specs.declared.fault.FaultKind.{FaultKind}
 use Rattle.divisions.specs.declared.fault.FaultKind.TheVariants.{UnexpectedToken, NestedTooDeep}
-use Rattle.divisions.specs.declared.fault.Fault.{Fault}
 use Rattle.divisions.specs.declared.fault.ParseFault.{ParseFault}
-use Rattle.divisions.specs.declared.fault.ParseFault.TheVariants.{Memory, Refused}
+use Rattle.divisions.specs.declared.fault.ParseError.{ParseError}
+use Rattle.divisions.specs.declared.fault.ParseError.TheVariants.{Memory, Refused}
 
 abbrev pub number_of : FaultKind → ℕ
 number_of UnexpectedToken = 30
@@ -22,7 +21,7 @@ number_of NestedTooDeep = 31
 -- the place of a token, or another where there is none
 abbrev pub place_or : Place → Option Token → Place
 place_or other None = other
-place_or other (Some one) = place_in one
+place_or other (Some one) = one.place
 
 abbrev pub first_place : Place
 first_place = record { line = 1; column = 1 }
@@ -31,25 +30,25 @@ first_place = record { line = 1; column = 1 }
 abbrev pub placed_at : List Token → ℕ → Place
 placed_at tokens left = place_or (place_or first_place (slice_get tokens (length tokens - 1))) (slice_get tokens (length tokens - left))
 
-abbrev pub fault_at : List Token → Halt → Fault
+abbrev pub fault_at : List Token → Halt → ParseFault
 fault_at tokens (Unexpected left) = record { kind = UnexpectedToken; place = placed_at tokens left }
 fault_at tokens (TooDeep left) = record { kind = NestedTooDeep; place = placed_at tokens left }
 
 -- the fault of an error, or none where memory ran out
-abbrev pub fault_of : ParseFault → Option Fault
+abbrev pub fault_of : ParseError → Option ParseFault
 fault_of Memory = None
 fault_of (Refused fault) = Some fault
 
-abbrev pub placed : List Token → Outcome Program → Result Program Fault
+abbrev pub placed : List Token → Outcome Program → Result Program ParseFault
 placed tokens (Ok read) = Ok read.0
 placed tokens (Err halt) = Err (fault_at tokens halt)
 
 -- the tree of the tokens, or the fault at the token where reading stops
-abbrev pub parse_of : List Token → Result Program Fault
+abbrev pub parse_of : List Token → Result Program ParseFault
 parse_of tokens = placed tokens (program max_nesting tokens)
 
 -- What may be answered where a tree of that depth spells the tokens: it, or that it nests too deep.
-abbrev pub IsAnswer : ℕ → Program → Result Program ParseFault → Type 0
+abbrev pub IsAnswer : ℕ → Program → Result Program ParseError → Type 0
 IsAnswer depth tree (Ok answer) = answer ≡ tree
 IsAnswer depth tree (Err Memory) = Unit {0}
 IsAnswer depth tree (Err (Refused fault)) = (fault.kind ≡ NestedTooDeep) × (max_nesting < depth)

@@ -6,7 +6,7 @@ ghost use Rattle.divisions.specs.Faults as spec;
 ghost use Rattle.divisions.specs.Faults.{number_of, placed_at, fault_at};
 
 use grammar::Halt;
-use source_tree::Place;
+use lexical::Place;
 use std::alloc::{AllocError, AllocFailed};
 use thiserror::Error;
 use tokens::Token;
@@ -34,39 +34,39 @@ impl FaultKind {
 /// A fault and where it stands: the token at which reading stopped, the last one where none was left, and line 1,
 /// column 1 where there is none at all.
 #[derive(Clone, Copy, Debug, PartialEq, Eq)]
-pub struct Fault {
+pub struct ParseFault {
     pub kind: FaultKind,
     pub place: Place,
 }
 
 /// Why tokens make no tree.
 #[derive(Clone, Copy, Debug, PartialEq, Eq, Error)]
-pub enum ParseFault {
+pub enum ParseError {
     #[error("out of memory")]
     Memory,
     #[error("the tokens make no program")]
-    Refused(Fault),
+    Refused(ParseFault),
 }
 
-impl From<AllocError> for ParseFault {
+impl From<AllocError> for ParseError {
     ghost use Rattle.std.specs.Prelude.{◌≡◌};
-    ghost use Rattle.divisions.specs.declared.fault.ParseFault.TheVariants.{Memory};
+    ghost use Rattle.divisions.specs.declared.fault.ParseError.TheVariants.{Memory};
 
     ghost from_gives = { λ _ e. e ≡ Memory };
 
-    fn from(_: AllocError) -> ParseFault {
-        ParseFault::Memory
+    fn from(_: AllocError) -> ParseError {
+        ParseError::Memory
     }
 }
 
-impl<T: Drop> From<AllocFailed<T>> for ParseFault {
+impl<T: Drop> From<AllocFailed<T>> for ParseError {
     ghost use Rattle.std.specs.Prelude.{◌≡◌};
-    ghost use Rattle.divisions.specs.declared.fault.ParseFault.TheVariants.{Memory};
+    ghost use Rattle.divisions.specs.declared.fault.ParseError.TheVariants.{Memory};
 
     ghost from_gives = { λ _ e. e ≡ Memory };
 
-    fn from(_: AllocFailed<T>) -> ParseFault {
-        ParseFault::Memory
+    fn from(_: AllocFailed<T>) -> ParseError {
+        ParseError::Memory
     }
 }
 
@@ -75,10 +75,7 @@ fn place_or(other: Place, token: Option<&Token>) -> Place
     ensures { result ≡ spec.place_or other (option_copied token.entry) }
 {
     match token {
-        Some(token) => Place {
-            line: token.place.line,
-            column: token.place.column,
-        },
+        Some(token) => token.place,
         None => other,
     }
 }
@@ -92,15 +89,15 @@ fn place_at(tokens: &[Token], left: usize) -> Place
 }
 
 /// The fault of these tokens where reading halts so.
-pub fn refusal(tokens: &[Token], halt: Halt) -> Fault
+pub fn refusal(tokens: &[Token], halt: Halt) -> ParseFault
     ensures { result ≡ fault_at tokens.now halt }
 {
     match halt {
-        Halt::Unexpected(left) => Fault {
+        Halt::Unexpected(left) => ParseFault {
             kind: FaultKind::UnexpectedToken,
             place: place_at(tokens, left),
         },
-        Halt::TooDeep(left) => Fault {
+        Halt::TooDeep(left) => ParseFault {
             kind: FaultKind::NestedTooDeep,
             place: place_at(tokens, left),
         },

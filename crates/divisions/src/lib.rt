@@ -7,5 +7,5 @@ mod identification;
 mod paragraphs;
 mod program;
 
-pub use fault::{Fault, FaultKind, ParseFault};
+pub use fault::{FaultKind, ParseError, ParseFault};
 pub use program::{one_tree, parse};

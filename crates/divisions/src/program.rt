@@ -11,7 +11,7 @@ ghost use Rattle.divisions.specs.Reading as spec;
 ghost use Rattle.divisions.specs.Faults.{fault_of, parse_of, IsAnswer};
 
 use crate::body::procedure;
-use crate::fault::{ParseFault, refusal};
+use crate::fault::{ParseError, refusal};
 use crate::identification::{ending, identification};
 use grammar::{ReadFault, Tokens};
 use source_tree::{Program, Section};
@@ -41,7 +41,7 @@ fn program(alloc: Global, tokens: &[Token]) -> Result<Program, ReadFault>
 ///
 /// `Refused` with number 30 where no tree spells the tokens, at the token where reading stopped; with 31 where
 /// statements stand in one another more than 64 deep, at the statement that is one too deep.
-pub fn parse(alloc: Global, tokens: &[Token]) -> Result<Program, ParseFault>
+pub fn parse(alloc: Global, tokens: &[Token]) -> Result<Program, ParseError>
     // What is answered spells the tokens.
     ensures spelled { IfOk result (λ tree. Spells max_nesting tree tokens.now) }
     // What spells the tokens is answered, unless it nests too deep or memory runs out.
@@ -51,8 +51,8 @@ pub fn parse(alloc: Global, tokens: &[Token]) -> Result<Program, ParseFault>
 {
     match program(alloc, tokens) {
         Ok(tree) => Ok(tree),
-        Err(ReadFault::Memory) => Err(ParseFault::Memory),
-        Err(ReadFault::Halted(halt)) => Err(ParseFault::Refused(refusal(tokens, halt))),
+        Err(ReadFault::Memory) => Err(ParseError::Memory),
+        Err(ReadFault::Halted(halt)) => Err(ParseError::Refused(refusal(tokens, halt))),
     }
 }
 

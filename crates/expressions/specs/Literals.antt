@@ -6,13 +6,13 @@ use Rattle.tokens.specs.declared.reserved.Reserved.TheVariants as w
 use Rattle.tokens.specs.declared.token.Kind.{Kind}
 use Rattle.tokens.specs.declared.token.Kind.TheVariants as k
 use Rattle.tokens.specs.declared.token.Token.{Token}
-use Rattle.source_tree.specs.declared.place.Place.{Place}
+use Rattle.lexical.specs.declared.place.Place.{Place}
 use Rattle.source_tree.specs.declared.literal.Figurative.{Figurative}
 use Rattle.source_tree.specs.declared.literal.Figurative.TheVariants as figurative
 use Rattle.source_tree.specs.declared.literal.LiteralValue.{LiteralValue}
 use Rattle.source_tree.specs.declared.literal.LiteralValue.TheVariants as value
 use Rattle.source_tree.specs.declared.literal.Literal.{Literal}
-use Rattle.grammar.specs.Parts.{Part, ◌then◌, ◌or◌, here, word, telling, begins_telling, place_in, number_in}
+use Rattle.grammar.specs.Parts.{Part, ◌then◌, ◌or◌, here, word, telling, begins_telling}
 use Rattle.grammar.specs.Reading as r
 use Rattle.grammar.specs.Reading.{Parser, ◌>>=◌, ◌>>◌, pure, expect, one_token, begins_word}
 
@@ -34,7 +34,7 @@ figurative_of _ = None
 -- the value of a literal of one token
 abbrev pub value_by : Kind → Option LiteralValue
 value_by (k.Reserved one) = option_map value.Figurative (figurative_of one)
-value_by (k.Numeric number) = Some (value.Numeric (number_in number))
+value_by (k.Numeric number) = Some (value.Numeric number)
 value_by (k.Nonnumeric bytes) = Some (value.Nonnumeric bytes)
 value_by _ = None
 
@@ -42,7 +42,7 @@ abbrev pub literal_at : Place → LiteralValue → Literal
 literal_at place one = record { value = one; place = place }
 
 abbrev pub plain_in : Token → Option Literal
-plain_in one = option_map (literal_at (place_in one)) (value_by one.kind)
+plain_in one = option_map (literal_at one.place) (value_by one.kind)
 
 abbrev pub bytes_by : Kind → Option (List ℕ)
 bytes_by (k.Nonnumeric bytes) = Some bytes
@@ -83,9 +83,9 @@ is_zero _ = false
 
 abbrev pub number_value_by : Kind → Option LiteralValue
 number_value_by (k.Reserved one) = if is_zero one then Some (value.Figurative figurative.Zero) else None
-number_value_by (k.Numeric number) = Some (value.Numeric (number_in number))
+number_value_by (k.Numeric number) = Some (value.Numeric number)
 number_value_by _ = None
 
 -- nlit|ZERO
 abbrev pub number_literal_in : Token → Option Literal
-number_literal_in one = option_map (literal_at (place_in one)) (number_value_by one.kind)
+number_literal_in one = option_map (literal_at one.place) (number_value_by one.kind)

@@ -5,10 +5,10 @@ use Rattle.tokens.specs.declared.reserved.Reserved.TheVariants as w
 use Rattle.tokens.specs.declared.token.Kind.{Kind}
 use Rattle.tokens.specs.declared.token.Kind.TheVariants as k
 use Rattle.tokens.specs.declared.token.Token.{Token}
-use Rattle.tokens.specs.declared.token.Sign.{Sign as WrittenSign}
-use Rattle.tokens.specs.declared.token.Sign.TheVariants as written
-use Rattle.tokens.specs.declared.token.NumericLiteral.{NumericLiteral as WrittenNumber}
-use Rattle.source_tree.specs.declared.place.Place.{Place}
+use Rattle.lexical.specs.declared.number.Sign.{Sign}
+use Rattle.lexical.specs.declared.number.Sign.TheVariants as sign
+use Rattle.lexical.specs.declared.number.NumericLiteral.{NumericLiteral}
+use Rattle.lexical.specs.declared.place.Place.{Place}
 use Rattle.source_tree.specs.declared.name.Name.{Name}
 use Rattle.source_tree.specs.declared.literal.Integer.{Integer}
 use Rattle.source_tree.specs.declared.reference.QualifiedName.{QualifiedName}
@@ -17,7 +17,7 @@ use Rattle.source_tree.specs.declared.reference.Adjustment.TheVariants as adjust
 use Rattle.source_tree.specs.declared.reference.Subscript.{Subscript}
 use Rattle.source_tree.specs.declared.reference.Subscript.TheVariants as subscript_as
 use Rattle.grammar.specs.Parts as g
-use Rattle.grammar.specs.Parts.{Part, ◌then◌, ◌or◌, without, tested, telling, begins_telling, word, name, begins_name, place_in}
+use Rattle.grammar.specs.Parts.{Part, ◌then◌, ◌or◌, without, tested, telling, begins_telling, word, name, begins_name}
 use Rattle.grammar.specs.Reading as r
 use Rattle.grammar.specs.Reading.{Parser, ◌>>=◌, ◌>>◌, pure, expect, one_token, begins_word}
 use Rattle.expressions.specs.declared.marks.PlusOrMinus.{PlusOrMinus}
@@ -48,8 +48,8 @@ qualified_reader = do
 
 -- ---- unsigned integers
 
-abbrev pub is_unsigned : WrittenSign → Bool
-is_unsigned written.Unsigned = true
+abbrev pub is_unsigned : Sign → Bool
+is_unsigned sign.Unsigned = true
 is_unsigned _ = false
 
 abbrev pub has_none : List ℕ → Bool
@@ -57,7 +57,7 @@ has_none [] = true
 has_none (one ∷ more) = false
 
 -- without a sign and without a point
-abbrev pub is_integer : WrittenNumber → Bool
+abbrev pub is_integer : NumericLiteral → Bool
 is_integer n = is_unsigned n.sign && has_none n.decimals
 
 abbrev pub digits_by : Kind → Option (List ℕ)
@@ -71,7 +71,7 @@ abbrev pub integer_by : Kind → Place → Option Integer
 integer_by kind place = option_map (integer_at place) (digits_by kind)
 
 abbrev pub integer_in : Token → Option Integer
-integer_in one = integer_by one.kind (place_in one)
+integer_in one = integer_by one.kind one.place
 
 abbrev pub integer : Integer → Part
 integer = telling integer_in

@@ -6,7 +6,7 @@ ghost use Rattle.grammar.specs.Parts.{is_told};
 ghost use Rattle.grammar.specs.Reading.{Reads};
 ghost use Rattle.expressions.specs.Literals as spec;
 
-use grammar::{ReadFault, Tokens, number};
+use grammar::{ReadFault, Tokens};
 use source_tree::{Figurative, Literal, LiteralValue};
 use sqlite_items::Items;
 use std::alloc::Global;
@@ -77,7 +77,7 @@ fn plain_literal(alloc: Global, tokens: &mut Tokens<'_>) -> Result<Literal, Read
         return Err(tokens.refuse());
     };
     let value = match &next.kind {
-        Kind::Numeric(written) => LiteralValue::Numeric(number(alloc, written)?),
+        Kind::Numeric(written) => LiteralValue::Numeric(written.copy(alloc)?),
         Kind::Nonnumeric(bytes) => {
             LiteralValue::Nonnumeric(Items::from_slice(alloc, bytes.as_slice())?)
         }
@@ -120,7 +120,7 @@ pub fn number_literal(alloc: Global, tokens: &mut Tokens<'_>) -> Result<Literal,
         return Err(tokens.refuse());
     };
     let value = match &next.kind {
-        Kind::Numeric(written) => LiteralValue::Numeric(number(alloc, written)?),
+        Kind::Numeric(written) => LiteralValue::Numeric(written.copy(alloc)?),
         Kind::Reserved(word) => {
             if !is_zero(*word) {
                 return Err(tokens.refuse());

@@ -6,10 +6,11 @@ ghost use Rattle.expressions.specs.Subscripts as spec;
 
 use crate::marks::{PlusOrMinus, begins_sign, sign};
 use grammar::{Part, ReadFault, Tokens, any, begins_name, name};
+use lexical::{NumericLiteral, Sign};
 use source_tree::{Adjustment, Integer, Name, QualifiedName, Subscript};
 use sqlite_items::Items;
 use std::alloc::Global;
-use tokens::{Kind, NumericLiteral, Reserved, Sign};
+use tokens::{Kind, Reserved};
 
 /// IN or OF, and a name.
 #[tactic(auto, unfolding(crate::specs::Subscripts::qualifier_reader))]

@@ -8,7 +8,8 @@ use Rattle.tokens.specs.declared.token.Kind.{Kind}
 use Rattle.tokens.specs.declared.token.Kind.TheVariants as k
 use Rattle.tokens.specs.declared.token.Token.{Token}
 use Rattle.grammar.specs.Parts.{Part, ◌then◌, word, optional, tested}
-use Rattle.grammar.specs.Reading.{Words, same_word, is_kind, is_word, begins_word, after_word, past_word, otherwise_here, also_after}
+use Rattle.tokens.specs.Reserved.{same_word}
+use Rattle.grammar.specs.Reading.{Words, is_kind, is_word, begins_word, after_word, past_word, otherwise_here, also_after}
 
 pub some_is : {A : Type 0} {a b : A} → Some a ≡ Some b → a ≡ b
 some_is e = cc

@@ -4,14 +4,8 @@ use Rattle.tokens.specs.declared.reserved.Reserved.{Reserved}
 use Rattle.tokens.specs.declared.token.Kind.{Kind}
 use Rattle.tokens.specs.declared.token.Kind.TheVariants as k
 use Rattle.tokens.specs.declared.token.Token.{Token}
-use Rattle.tokens.specs.declared.token.Sign.{Sign as WrittenSign}
-use Rattle.tokens.specs.declared.token.Sign.TheVariants as written
-use Rattle.tokens.specs.declared.token.NumericLiteral.{NumericLiteral as WrittenNumber}
-use Rattle.source_tree.specs.declared.place.Place.{Place}
+use Rattle.lexical.specs.declared.place.Place.{Place}
 use Rattle.source_tree.specs.declared.name.Name.{Name}
-use Rattle.source_tree.specs.declared.literal.Sign.{Sign}
-use Rattle.source_tree.specs.declared.literal.Sign.TheVariants as sign
-use Rattle.source_tree.specs.declared.literal.NumericLiteral.{NumericLiteral}
 use Rattle.source_tree.specs.declared.literal.LiteralValue.TheVariants as value
 use Rattle.source_tree.specs.declared.literal.Literal.{Literal}
 
@@ -88,12 +82,9 @@ begins_telling tells (one ∷ more) = is_told (tells one)
 
 -- ---- places
 
-abbrev pub place_in : Token → Place
-place_in one = record { line = one.place.line; column = one.place.column }
-
 abbrev pub place_at : List Token → Option Place
 place_at [] = None
-place_at (one ∷ more) = Some (place_in one)
+place_at (one ∷ more) = Some one.place
 
 -- What follows begins at this place.
 abbrev pub here : Place → Part
@@ -107,7 +98,7 @@ named_by (k.Word characters) place = Some (record { characters = characters; pla
 named_by _ place = None
 
 abbrev pub name_in : Token → Option Name
-name_in one = named_by one.kind (place_in one)
+name_in one = named_by one.kind one.place
 
 abbrev pub name : Name → Part
 name = telling name_in
@@ -117,21 +108,13 @@ begins_name = begins_telling name_in
 
 -- ---- literals
 
-abbrev pub sign_in : WrittenSign → Sign
-sign_in written.Unsigned = sign.Unsigned
-sign_in written.Plus = sign.Plus
-sign_in written.Minus = sign.Minus
-
-abbrev pub number_in : WrittenNumber → NumericLiteral
-number_in n = record { sign = sign_in n.sign; whole = n.whole; decimals = n.decimals }
-
 abbrev pub value_in : Kind → Place → Option Literal
-value_in (k.Numeric number) place = Some (record { value = value.Numeric (number_in number); place = place })
+value_in (k.Numeric number) place = Some (record { value = value.Numeric number; place = place })
 value_in (k.Nonnumeric bytes) place = Some (record { value = value.Nonnumeric bytes; place = place })
 value_in _ place = None
 
 abbrev pub literal_in : Token → Option Literal
-literal_in one = value_in one.kind (place_in one)
+literal_in one = value_in one.kind one.place
 
 abbrev pub literal : Literal → Part
 literal = telling literal_in

@@ -1,12 +1,11 @@
 -- Reading as a function on lists of tokens.
 use Rattle.std.specs.Prelude.{◌≡◌, ℕ, zero, suc, Bool, true, false, if◌then◌else◌, List, [], ◌∷◌, ◌++◌, length, drop, Option, Some, None, Result, Ok, Err}
-use denote.Enum.Bare.{sameb}
-use Rattle.tokens.specs.contracts.reserved.Reserved.{the_type}
 use Rattle.tokens.specs.declared.reserved.Reserved.{Reserved}
 use Rattle.tokens.specs.declared.token.Kind.{Kind}
 use Rattle.tokens.specs.declared.token.Kind.TheVariants as k
 use Rattle.tokens.specs.declared.token.Token.{Token}
-use Rattle.source_tree.specs.declared.place.Place.{Place}
+use Rattle.tokens.specs.Reserved.{same_word}
+use Rattle.lexical.specs.declared.place.Place.{Place}
 use Rattle.source_tree.specs.declared.name.Name.{Name}
 use Rattle.source_tree.specs.declared.literal.Literal.{Literal}
 use Rattle.grammar.specs.declared.fault.Halt.{Halt}
@@ -14,7 +13,7 @@ use Rattle.grammar.specs.declared.fault.Halt.TheVariants.{Unexpected}
 use Rattle.grammar.specs.declared.fault.ReadFault.{ReadFault}
 use Rattle.grammar.specs.declared.fault.ReadFault.TheVariants as faults
 use Rattle.answers.specs.Answer.{Gives}
-use Rattle.grammar.specs.Parts.{place_in, name_in, literal_in}
+use Rattle.grammar.specs.Parts.{name_in, literal_in}
 
 -- What was read and the tokens after it, or where reading stopped.
 abbrev pub Outcome : Type 0 → Type 0
@@ -42,9 +41,6 @@ abbrev pub refuse : {A : Type 0} → Parser A
 refuse = λ i. Err (Unexpected (length i))
 
 -- ---- words
-
-unfoldable pub same_word : Reserved → Reserved → Bool
-same_word = sameb the_type
 
 abbrev pub is_kind : Reserved → Kind → Bool
 is_kind one (k.Reserved other) = same_word other one
@@ -118,7 +114,7 @@ nothing (first ∷ more) = refuse (first ∷ more)
 
 unfoldable pub here : Parser Place
 here [] = refuse []
-here (first ∷ more) = Ok (place_in first, first ∷ more)
+here (first ∷ more) = Ok (first.place, first ∷ more)
 
 abbrev pub told : {A : Type 0} → Option A → List Token → List Token → Outcome A
 told None more i = refuse i

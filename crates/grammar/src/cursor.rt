@@ -7,7 +7,7 @@ ghost use Rattle.grammar.specs.Reading.{Reads};
 
 use crate::fault::{Halt, ReadFault};
 use crate::words::{after_word, is_word, past_word};
-use source_tree::Place;
+use lexical::Place;
 use std::marker::Model;
 use tokens::{Kind, Reserved, Token};
 
@@ -86,10 +86,7 @@ impl<'a> Tokens<'a> {
         ensures { Reads (spec.here self.now) result self.now }
     {
         match self.rest {
-            [next, ..] => Ok(Place {
-                line: next.place.line,
-                column: next.place.column,
-            }),
+            [next, ..] => Ok(next.place),
             [] => Err(self.refuse()),
         }
     }

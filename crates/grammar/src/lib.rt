@@ -11,7 +11,7 @@ mod words;
 
 pub use cursor::Tokens;
 pub use fault::{Halt, ReadFault};
-pub use literals::{Literals, begins_literal, literal, number};
+pub use literals::{Literals, begins_literal, literal};
 pub use names::{begins_name, name};
 pub use part::{Part, any, several};
 pub use words::{after_word, is_word, past_word};

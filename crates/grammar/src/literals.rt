@@ -1,6 +1,6 @@
 //! Literals.
 
-ghost use Rattle.std.specs.Prelude.{◌≡◌, IfOk};
+ghost use Rattle.std.specs.Prelude.{◌≡◌};
 ghost use Rattle.grammar.specs.Parts as grammar;
 ghost use Rattle.grammar.specs.Reading as spec;
 ghost use Rattle.grammar.specs.Reading.{Reads};
@@ -8,9 +8,9 @@ ghost use Rattle.grammar.specs.Reading.{Reads};
 use crate::cursor::Tokens;
 use crate::fault::ReadFault;
 use crate::part::Part;
-use source_tree::{Literal, LiteralValue, NumericLiteral, Sign};
+use source_tree::{Literal, LiteralValue};
 use sqlite_items::Items;
-use std::alloc::{AllocError, Global};
+use std::alloc::Global;
 use tokens::Kind;
 
 /// The next token is a literal.
@@ -23,27 +23,6 @@ pub fn begins_literal(tokens: &Tokens<'_>) -> bool
     }
 }
 
-fn sign(sign: tokens::Sign) -> Sign
-    ensures { result ≡ grammar.sign_in sign }
-{
-    match sign {
-        tokens::Sign::Unsigned => Sign::Unsigned,
-        tokens::Sign::Plus => Sign::Plus,
-        tokens::Sign::Minus => Sign::Minus,
-    }
-}
-
-/// A number of the tree, by what was written.
-pub fn number(alloc: Global, number: &tokens::NumericLiteral) -> Result<NumericLiteral, AllocError>
-    ensures { IfOk result (λ copy. copy ≡ grammar.number_in number.now) }
-{
-    Ok(NumericLiteral {
-        sign: sign(number.sign),
-        whole: Items::from_slice(alloc, number.whole.as_slice())?,
-        decimals: Items::from_slice(alloc, number.decimals.as_slice())?,
-    })
-}
-
 /// A numeric or nonnumeric literal.
 #[tactic(auto, unfolding(crate::specs::Reading::literal, crate::specs::Reading::one_token, crate::specs::Reading::here))]
 pub fn literal(alloc: Global, tokens: &mut Tokens<'_>) -> Result<Literal, ReadFault>
@@ -54,7 +33,7 @@ pub fn literal(alloc: Global, tokens: &mut Tokens<'_>) -> Result<Literal, ReadFa
         return Err(tokens.refuse());
     };
     let value = match &next.kind {
-        Kind::Numeric(written) => LiteralValue::Numeric(number(alloc, written)?),
+        Kind::Numeric(written) => LiteralValue::Numeric(written.copy(alloc)?),
         Kind::Nonnumeric(bytes) => {
             LiteralValue::Nonnumeric(Items::from_slice(alloc, bytes.as_slice())?)
         }

@@ -7,7 +7,7 @@ ghost use Rattle.grammar.specs.Reading as spec;
 use tokens::{Kind, Reserved, Token};
 
 /// The token is this word.
-#[tactic(auto, unfolding(crate::specs::Reading::same_word))]
+#[tactic(auto, unfolding(tokens::specs::Reserved::same_word))]
 pub fn is_word(token: &Token, word: Reserved) -> bool
     ensures { result ≡ spec.is_word word token.now }
 {

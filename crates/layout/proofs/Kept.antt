@@ -2,7 +2,7 @@
 use Rattle.std.proofs.Common.{◌≡◌, ℕ, ◌-◌, ◌*◌, ◌≤◌, ◌<◌, ◌==◌, nat_lt, nat_le, Bool, true, false, not, ◌&&◌, ◌||◌, if◌then◌else◌, List, [], ◌∷◌, ◌++◌, length, drop, None, Some, is_some, refl, ap, subst, length-drop, lit<, lit≤, arith}
 use Rattle.std.specs.Prelude.{Option}
 use Rattle.items.specs.declared.item.Item as Items
-use Rattle.source_tree.specs.declared.place.Place.{Place}
+use Rattle.lexical.specs.declared.place.Place.{Place}
 use Rattle.source_tree.specs.declared.entry.Around.{Around}
 use Rattle.source_tree.specs.declared.entry.PictureText.{PictureText}
 use Rattle.source_tree.specs.declared.entry.ItemEntry.{ItemEntry}

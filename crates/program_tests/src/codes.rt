@@ -11,7 +11,6 @@ use source_tree::{
 use sqlite_items::Items;
 use station::MemoryStation;
 use std::alloc::{AllocError, Global};
-use std::marker::PhantomData;
 use std::test::Fail;
 
 const DAY: [u8; 6] = *b"000000";
@@ -71,7 +70,7 @@ fn unended(operands: Items<Literal>) -> Statement {
 fn stop_run(line: u32) -> Statement {
     Statement {
         place: place(line),
-        verb: Verb::Ending(Ending::StopRun, PhantomData),
+        verb: Verb::Ending(Ending::StopRun),
     }
 }
 

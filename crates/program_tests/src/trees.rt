@@ -1,9 +1,9 @@
 //! Rows of trees: which source texts have a tree and what it is, and where the others are refused.
 
 use crate::asserted::{same, same_in};
-use divisions::{ParseFault, parse};
+use divisions::{ParseError, parse};
 use source_lines::logical;
-use source_tree::{Ending, Program, Statement, Text, Verb};
+use source_tree::{Ending, Performed, Performing, Program, Statement, Text, Turns, Verb};
 use std::alloc::{AllocError, Global};
 use std::test::Fail;
 use tokens::scan;
@@ -12,7 +12,7 @@ const HEADER: &str =
     "       IDENTIFICATION DIVISION.\n       PROGRAM-ID. HELLO.\n       PROCEDURE DIVISION.\n";
 
 /// What comes after the three lines of `HEADER`, and its tree as `shape` writes it.
-const TREES: [(&str, &str); 15] = [
+const TREES: [(&str, &str); 18] = [
     // HELLO in its six lines, with END PROGRAM, and with another name there
     (
         "       MAIN-PARA.\n           DISPLAY \"HELLO\".\n           STOP RUN.\n",
@@ -70,10 +70,23 @@ const TREES: [(&str, &str); 15] = [
         "           display 1 no advancing stop run.\n",
         "HELLO|.D1-@4:12S@4:35",
     ),
+    // PERFORM with statements in it, and in one another: each END-PERFORM ends the innermost
+    (
+        "           PERFORM DISPLAY 1 DISPLAY 2 END-PERFORM STOP RUN.\n",
+        "HELLO|.P(D1+@4:20D1+@4:30)@4:12S@4:52",
+    ),
+    (
+        "           PERFORM CONTINUE PERFORM CONTINUE END-PERFORM CONTINUE\n           END-PERFORM CONTINUE.\n",
+        "HELLO|.P(C@4:20P(C@4:37)@4:29C@4:58)@4:12C@5:24",
+    ),
+    (
+        "           PERFORM DISPLAY 1 NO ADVANCING END-PERFORM.\n",
+        "HELLO|.P(D1-@4:20)@4:12",
+    ),
 ];
 
 /// What comes after the three lines of `HEADER`, and the fault's number, line and column.
-const FAULTS: [(&str, u8, u32, u8); 19] = [
+const FAULTS: [(&str, u8, u32, u8); 24] = [
     // nothing after PROCEDURE DIVISION. : at the last token
     ("", 30, 3, 26),
     // a missing period at the end
@@ -110,6 +123,17 @@ const FAULTS: [(&str, u8, u32, u8); 19] = [
         20,
     ),
     ("           STOP RUN.\n       END HELLO.\n", 30, 5, 12),
+    // a PERFORM without statements, without its end, with a period before it, of a paragraph, and an end without one
+    ("           PERFORM END-PERFORM.\n", 30, 4, 20),
+    ("           PERFORM CONTINUE.\n", 30, 4, 28),
+    (
+        "           PERFORM PERFORM CONTINUE END-PERFORM.\n",
+        30,
+        4,
+        48,
+    ),
+    ("           PERFORM A.\n       A.\n", 30, 4, 20),
+    ("           CONTINUE END-PERFORM.\n", 30, 4, 21),
 ];
 
 /// Whole texts, and the fault's number, line and column.
@@ -126,7 +150,7 @@ const TEXTS: [(&str, u8, u32, u8); 5] = [
     ),
 ];
 
-fn tree(alloc: Global, source: &str) -> Result<Result<Program, ParseFault>, Fail> {
+fn tree(alloc: Global, source: &str) -> Result<Result<Program, ParseError>, Fail> {
     let tokens = scan(alloc, &logical(alloc, source.as_bytes())?)?;
     Ok(parse(alloc, tokens.as_slice()))
 }
@@ -146,15 +170,28 @@ fn push_statement(to: &mut String, alloc: Global, statement: &Statement) -> Resu
             let end = if *advancing { "+" } else { "-" };
             to.push_str(format!(in alloc; "D{}{end}", operands.len())?.as_str())?;
         }
-        Verb::Ending(Ending::StopRun, _) => to.push_str("S")?,
-        Verb::Ending(Ending::Continue, _) => to.push_str("C")?,
+        Verb::Performing(
+            Performing {
+                performed: Performed::Statements(inside),
+                turns: Turns::Once,
+            },
+        ) => {
+            to.push_str("P(")?;
+            for one in inside.as_slice() {
+                push_statement(to, alloc, one)?;
+            }
+            to.push_str(")")?;
+        }
+        Verb::Ending(Ending::StopRun) => to.push_str("S")?,
+        Verb::Ending(Ending::Continue) => to.push_str("C")?,
     }
     let place = statement.place;
     to.push_str(format!(in alloc; "@{}:{}", place.line, place.column)?.as_str())
 }
 
 /// The program's name; for each paragraph `|`, its name and place; for each sentence `.` and its statements: `D`, the number
-/// of operands and `+`, or `-` for NO ADVANCING; `S` for STOP RUN, `C` for CONTINUE; each with its place.
+/// of operands and `+`, or `-` for NO ADVANCING; `S` for STOP RUN, `C` for CONTINUE, `P` for PERFORM with the statements in it;
+/// each with its place.
 fn shape(alloc: Global, program: &Program) -> Result<String, AllocError> {
     let mut shape = String::new(alloc);
     push_text(&mut shape, program.name.characters.as_slice())?;
@@ -181,7 +218,7 @@ fn shape(alloc: Global, program: &Program) -> Result<String, AllocError> {
 
 fn fault(alloc: Global, source: &str) -> Result<(u8, u32, u8), Fail> {
     Ok(match tree(alloc, source)? {
-        Err(ParseFault::Refused(fault)) => (
+        Err(ParseError::Refused(fault)) => (
             fault.kind.number(),
             fault.place.line,
             fault.place.column,
@@ -219,6 +256,34 @@ fn texts_without_a_tree(rt: HostRuntime) -> Result<(), Fail> {
             (*number, *line, *column),
         );
     }
+    Ok(())
+}
+
+fn push_times(to: &mut String, text: &str, times: usize) -> Result<(), AllocError> {
+    for _ in 0..times {
+        to.push_str(text)?;
+    }
+    Ok(())
+}
+
+/// CONTINUE in so many PERFORMs, each on a line of its own.
+fn nested(alloc: Global, performs: usize) -> Result<String, AllocError> {
+    let mut source = String::new(alloc);
+    source.push_str(HEADER)?;
+    push_times(&mut source, "           PERFORM\n", performs)?;
+    source.push_str("           CONTINUE\n")?;
+    push_times(&mut source, "           END-PERFORM\n", performs)?;
+    source.push_str("           .\n")?;
+    Ok(source)
+}
+
+/// 64 statements in one another have a tree. The sixty-fifth is fault 31, at its verb.
+#[test]
+fn levels_of_statements(rt: HostRuntime) -> Result<(), Fail> {
+    let deepest = nested(rt.alloc(), 63)?;
+    same(&rt, fault(rt.alloc(), deepest.as_str())?, (0, 0, 0));
+    let too_deep = nested(rt.alloc(), 64)?;
+    same(&rt, fault(rt.alloc(), too_deep.as_str())?, (31, 68, 12));
     Ok(())
 }
 

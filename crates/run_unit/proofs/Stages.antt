@@ -10,9 +10,13 @@ use Rattle.source_tree.specs.declared.program.Program.{Program}
 use Rattle.statements.specs.Spelling.{max_nesting}
 use Rattle.divisions.specs.Spelling.{Spells}
 use Rattle.divisions.specs.Faults.{IsAnswer}
-use Rattle.divisions.specs.declared.fault.ParseFault.{ParseFault}
-use Rattle.divisions.specs.declared.fault.ParseFault.TheVariants as in_tree
-use Rattle.run_unit.specs.Faults.{from_tree}
+use Rattle.answers.specs.Answer.{Fails}
+use Rattle.tokens.specs.Faults.{fault_of}
+use Rattle.tokens.specs.declared.fault.TokenError.{TokenError}
+use Rattle.tokens.specs.declared.fault.TokenError.TheVariants as in_tokens
+use Rattle.divisions.specs.declared.fault.ParseError.{ParseError}
+use Rattle.divisions.specs.declared.fault.ParseError.TheVariants as in_tree
+use Rattle.run_unit.specs.Faults.{from_tokens, from_tree}
 use Rattle.run_unit.specs.Trees.{IsTreeOf, IsTreeAnswer}
 use Rattle.run_unit.specs.Images.{IsImageAnswer}
 use Rattle.run_unit.specs.declared.fault.CompileError.{CompileError}
@@ -45,8 +49,19 @@ spelled_by format scan source tree is characters found read scanned =
     value (scan is.characters is.tokens is.scanned) (subst (λ c. tokens c ≡ Ok found) (sym same_characters) scanned) in
     subst (λ t. Spells max_nesting tree t) same_tokens is.spelled
 
+clash : {A F : Type 0} {r : Result A F} {a : A} {f : F} → r ≡ Ok a → r ≡ Err f → ⊥
+clash is fails = cc
+
+-- where a source text has a tree, only memory refuses its tokens
+pub tokens_refusal : OneFormat → OneScan → (source : List ℕ) (tree : Program) → IsTreeOf source tree
+    → (characters : List Character) → characters_of source ≡ Ok characters → (e : TokenError) → Fails (fault_of e) (tokens characters) → IsTreeAnswer tree (Err (from_tokens e))
+tokens_refusal format scan source tree is characters read in_tokens.Memory fails = tt
+tokens_refusal format scan source tree is characters read (in_tokens.Refused fault) fails =
+    let same_characters : is.characters ≡ characters = value (format source is.characters is.format) read in
+    clash (subst (λ c. tokens c ≡ Ok is.tokens) same_characters (scan is.characters is.tokens is.scanned)) fails
+
 -- where a tree of the greatest depth spells the tokens, only memory refuses it
-pub tree_refusal : (tree : Program) (e : ParseFault) → IsAnswer max_nesting tree (Err e) → IsTreeAnswer tree (Err (from_tree e))
+pub tree_refusal : (tree : Program) (e : ParseError) → IsAnswer max_nesting tree (Err e) → IsTreeAnswer tree (Err (from_tree e))
 tree_refusal tree in_tree.Memory allowed = tt
 tree_refusal tree (in_tree.Refused fault) allowed = absurd (let deep : 64 < 64 = allowed.1 in omega (arith, deep))
 

@@ -1,15 +1,15 @@
 -- The faults of a source text, by the stage that met them.
 use Rattle.std.specs.Prelude.{ℕ, Option, None, Some}
 use Rattle.source_lines.specs.Faults as lines
-use Rattle.source_lines.specs.declared.fault.SourceFault.{SourceFault}
-use Rattle.source_lines.specs.declared.fault.SourceFault.TheVariants as in_lines
+use Rattle.source_lines.specs.declared.fault.SourceError.{SourceError}
+use Rattle.source_lines.specs.declared.fault.SourceError.TheVariants as in_lines
 use Rattle.tokens.specs.Faults as tokens
-use Rattle.tokens.specs.declared.fault.TokenFault.{TokenFault}
-use Rattle.tokens.specs.declared.fault.TokenFault.TheVariants as in_tokens
+use Rattle.tokens.specs.declared.fault.TokenError.{TokenError}
+use Rattle.tokens.specs.declared.fault.TokenError.TheVariants as in_tokens
 use Rattle.divisions.specs.Faults as trees
-use Rattle.divisions.specs.declared.fault.ParseFault.{ParseFault}
-use Rattle.divisions.specs.declared.fault.ParseFault.TheVariants as in_tree
-use Rattle.source_tree.specs.declared.place.Place.{Place}
+use Rattle.divisions.specs.declared.fault.ParseError.{ParseError}
+use Rattle.divisions.specs.declared.fault.ParseError.TheVariants as in_tree
+use Rattle.lexical.specs.declared.place.Place.{Place}
 use Rattle.run_unit.specs.declared.fault.CompileFault.{CompileFault}
 use Rattle.run_unit.specs.declared.fault.CompileFault.TheVariants.{Lines, Tokens, Tree}
 use Rattle.run_unit.specs.declared.fault.CompileError.{CompileError}
@@ -21,8 +21,8 @@ number_of (Tokens fault) = tokens.number_of fault.kind
 number_of (Tree fault) = trees.number_of fault.kind
 
 abbrev pub place_of : CompileFault → Place
-place_of (Lines fault) = record { line = fault.place.line; column = fault.place.column }
-place_of (Tokens fault) = record { line = fault.place.line; column = fault.place.column }
+place_of (Lines fault) = fault.place
+place_of (Tokens fault) = fault.place
 place_of (Tree fault) = fault.place
 
 -- the fault of an error, or none where memory ran out
@@ -31,14 +31,14 @@ fault_of Memory = None
 fault_of (Refused fault) = Some fault
 
 -- the error that a stage's error becomes
-abbrev pub from_lines : SourceFault → CompileError
+abbrev pub from_lines : SourceError → CompileError
 from_lines in_lines.Memory = Memory
 from_lines (in_lines.Refused fault) = Refused (Lines fault)
 
-abbrev pub from_tokens : TokenFault → CompileError
+abbrev pub from_tokens : TokenError → CompileError
 from_tokens in_tokens.Memory = Memory
 from_tokens (in_tokens.Refused fault) = Refused (Tokens fault)
 
-abbrev pub from_tree : ParseFault → CompileError
+abbrev pub from_tree : ParseError → CompileError
 from_tree in_tree.Memory = Memory
 from_tree (in_tree.Refused fault) = Refused (Tree fault)

@@ -3,22 +3,22 @@
 ghost use Rattle.std.specs.Prelude.{◌≡◌};
 ghost use Rattle.run_unit.specs.Faults.{number_of, place_of, from_lines, from_tokens, from_tree};
 
-use divisions::ParseFault;
-use source_lines::SourceFault;
-use source_tree::Place;
+use divisions::ParseError;
+use lexical::Place;
+use source_lines::SourceError;
 use std::alloc::AllocError;
 use thiserror::Error;
-use tokens::TokenFault;
+use tokens::TokenError;
 
 /// A fault of a source text, by the stage that met it.
 #[derive(Clone, Copy, Debug, PartialEq, Eq)]
 pub enum CompileFault {
     /// 10 to 14.
-    Lines(source_lines::Fault),
+    Lines(source_lines::SourceFault),
     /// 15 to 18.
-    Tokens(tokens::Fault),
+    Tokens(tokens::TokenFault),
     /// 30 and 31.
-    Tree(divisions::Fault),
+    Tree(divisions::ParseFault),
 }
 
 impl CompileFault {
@@ -38,14 +38,8 @@ impl CompileFault {
         ensures { result ≡ place_of self }
     {
         match self {
-            CompileFault::Lines(fault) => Place {
-                line: fault.place.line,
-                column: fault.place.column,
-            },
-            CompileFault::Tokens(fault) => Place {
-                line: fault.place.line,
-                column: fault.place.column,
-            },
+            CompileFault::Lines(fault) => fault.place,
+            CompileFault::Tokens(fault) => fault.place,
             CompileFault::Tree(fault) => fault.place,
         }
     }
@@ -60,44 +54,44 @@ pub enum CompileError {
     Refused(CompileFault),
 }
 
-impl From<SourceFault> for CompileError {
+impl From<SourceError> for CompileError {
     ghost use Rattle.std.specs.Prelude.{◌≡◌};
     ghost use Rattle.run_unit.specs.Faults.{from_lines};
 
     ghost from_gives = { λ fault e. e ≡ from_lines fault };
 
-    fn from(fault: SourceFault) -> CompileError {
+    fn from(fault: SourceError) -> CompileError {
         match fault {
-            SourceFault::Memory => CompileError::Memory,
-            SourceFault::Refused(fault) => CompileError::Refused(CompileFault::Lines(fault)),
+            SourceError::Memory => CompileError::Memory,
+            SourceError::Refused(fault) => CompileError::Refused(CompileFault::Lines(fault)),
         }
     }
 }
 
-impl From<TokenFault> for CompileError {
+impl From<TokenError> for CompileError {
     ghost use Rattle.std.specs.Prelude.{◌≡◌};
     ghost use Rattle.run_unit.specs.Faults.{from_tokens};
 
     ghost from_gives = { λ fault e. e ≡ from_tokens fault };
 
-    fn from(fault: TokenFault) -> CompileError {
+    fn from(fault: TokenError) -> CompileError {
         match fault {
-            TokenFault::Memory => CompileError::Memory,
-            TokenFault::Refused(fault) => CompileError::Refused(CompileFault::Tokens(fault)),
+            TokenError::Memory => CompileError::Memory,
+            TokenError::Refused(fault) => CompileError::Refused(CompileFault::Tokens(fault)),
         }
     }
 }
 
-impl From<ParseFault> for CompileError {
+impl From<ParseError> for CompileError {
     ghost use Rattle.std.specs.Prelude.{◌≡◌};
     ghost use Rattle.run_unit.specs.Faults.{from_tree};
 
     ghost from_gives = { λ fault e. e ≡ from_tree fault };
 
-    fn from(fault: ParseFault) -> CompileError {
+    fn from(fault: ParseError) -> CompileError {
         match fault {
-            ParseFault::Memory => CompileError::Memory,
-            ParseFault::Refused(fault) => CompileError::Refused(CompileFault::Tree(fault)),
+            ParseError::Memory => CompileError::Memory,
+            ParseError::Refused(fault) => CompileError::Refused(CompileFault::Tree(fault)),
         }
     }
 }

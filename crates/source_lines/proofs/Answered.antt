@@ -1,7 +1,7 @@
 -- What reading answers is in the reference format.
 use Rattle.std.proofs.Common.{◌≡◌, ℕ, ◌+◌, ◌<◌, ◌≤◌, ◌==◌, ◌||◌, ◌&&◌, not, Bool, true, false, cond, nat_lt, List, [], ◌∷◌, ◌++◌, Option, None, Some, Result, Ok, Err, refl, sym, ap, ◌∙◌, subst, arith, append_assoc}
 use Rattle.std.proofs.lemmas.Bool.Decides.{nat_tests}
-use Rattle.source_lines.specs.declared.fault.Fault.{Fault}
+use Rattle.source_lines.specs.declared.fault.SourceFault.{SourceFault}
 use Rattle.source_lines.specs.declared.fault.FaultKind.{FaultKind}
 use Rattle.source_lines.specs.declared.fault.FaultKind.TheVariants.{ByteOutsideCharacterSet, WrongContinuation}
 use Rattle.source_lines.specs.declared.indicator.Indicator.{Indicator}
@@ -9,7 +9,7 @@ use Rattle.source_lines.specs.declared.indicator.Indicator.TheVariants.{Plain, C
 use Rattle.source_lines.specs.declared.line.Line.{Line}
 use Rattle.source_lines.specs.declared.lines.Character.{Character}
 use Rattle.source_lines.specs.declared.literal.OpenLiteral.{OpenLiteral}
-use Rattle.source_lines.specs.declared.place.Place.{Place}
+use Rattle.lexical.specs.declared.place.Place.{Place}
 use Rattle.source_lines.specs.declared.reader.Before.{Before}
 use Rattle.source_lines.specs.declared.reader.Before.TheVariants.{Nothing, LineEnd, Open, Dropped}
 use Rattle.source_lines.specs.declared.reader.Reader.{Reader}
@@ -65,16 +65,16 @@ record Found (lines : List Line) (so_far : List Character) (before : Before) (re
   is : result ≡ so_far ++ given
   remains : Remains lines before given
 
-abbrev all_of : List Line → Reader → Result (List Character) Fault
+abbrev all_of : List Line → Reader → Result (List Character) SourceFault
 all_of lines reader = and_then (after_lines lines reader) at_end
 
-abbrev from_step : List Line → Step → Result (List Character) Fault
+abbrev from_step : List Line → Step → Result (List Character) SourceFault
 from_step more step = and_then (and_then step (after_lines more)) at_end
 
-refused_not : {f : Fault} {result : List Character} → (let r : Result (List Character) Fault = Err f in r) ≡ Ok result → ⊥
+refused_not : {f : SourceFault} {result : List Character} → (let r : Result (List Character) SourceFault = Err f in r) ≡ Ok result → ⊥
 refused_not e = cc
 
-same_result : {a b : List Character} → (let r : Result (List Character) Fault = Ok a in r) ≡ Ok b → b ≡ a
+same_result : {a b : List Character} → (let r : Result (List Character) SourceFault = Ok a in r) ≡ Ok b → b ≡ a
 same_result e = cc
 
 true_not_false : true ≡ false → ⊥

@@ -8,7 +8,7 @@ use Rattle.std.proofs.lemmas.Bool.Decides.{nat_tests}
 use Rattle.memchr.specs.Find.{IsFirstByte, is_byte}
 use Rattle.answers.specs.Answer.{Fails}
 use Rattle.source_lines.specs.Cut.{lines, parts}
-use Rattle.source_lines.specs.declared.fault.Fault.{Fault}
+use Rattle.source_lines.specs.declared.fault.SourceFault.{SourceFault}
 use Rattle.source_lines.specs.declared.line.Line.{Line}
 use Rattle.source_lines.specs.declared.reader.Reader.{Reader}
 use Rattle.source_lines.specs.Reading.{after_line, after_lines, and_then, at_end, at_start, characters_of, lines_of, numbered, too_large}
@@ -67,7 +67,7 @@ module _ (number : ℕ) (rest first more : List ℕ) (cut : lines rest ≡ first
       → after_lines (numbered number (lines rest)) reader ≡ after_lines (numbered (number + 1) (lines more)) next
   line_read next e = one_line ∙ ap (λ step. and_then step (after_lines (numbered (number + 1) (lines more)))) e
 
-  pub line_refused : (fault : Option Fault) → Fails fault (after_line line_is reader) → Fails fault (after_lines (numbered number (lines rest)) reader)
+  pub line_refused : (fault : Option SourceFault) → Fails fault (after_line line_is reader) → Fails fault (after_lines (numbered number (lines rest)) reader)
   line_refused None e = tt
   line_refused (Some fault) e = one_line ∙ ap (λ step. and_then step (after_lines (numbered (number + 1) (lines more)))) e
 
@@ -75,11 +75,11 @@ pub no_line : (number : ℕ) (rest : List ℕ) (reader : Reader) → lines rest 
 unfolding after_lines
 no_line number rest reader e = ap (λ parts. after_lines (numbered number parts) reader) e
 
-pub fails_too : {A B : Type 0} (fault : Option Fault) (step : Result A Fault) (next : A → Result B Fault) → Fails fault step → Fails fault (and_then step next)
+pub fails_too : {A B : Type 0} (fault : Option SourceFault) (step : Result A SourceFault) (next : A → Result B SourceFault) → Fails fault step → Fails fault (and_then step next)
 fails_too None step next e = tt
 fails_too (Some fault) step next e = ap (λ s. and_then s next) e
 
-pub fails_as : {A : Type 0} (fault : Option Fault) (one two : Result A Fault) → one ≡ two → Fails fault two → Fails fault one
+pub fails_as : {A : Type 0} (fault : Option SourceFault) (one two : Result A SourceFault) → one ≡ two → Fails fault two → Fails fault one
 fails_as None one two e f = tt
 fails_as (Some fault) one two e f = e ∙ f
 

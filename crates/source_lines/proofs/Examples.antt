@@ -1,11 +1,11 @@
 -- Worked examples of the reference format.
 use Rattle.std.proofs.Common.{◌≡◌, ℕ, List, [], ◌∷◌, ◌++◌, map, take, drop, replicate, Result, Ok, Err, refl}
 use Rattle.std.specs.Prelude.{codes}
-use Rattle.source_lines.specs.declared.fault.Fault.{Fault}
+use Rattle.source_lines.specs.declared.fault.SourceFault.{SourceFault}
 use Rattle.source_lines.specs.declared.fault.FaultKind.{FaultKind}
 use Rattle.source_lines.specs.declared.fault.FaultKind.TheVariants.{ByteOutsideCharacterSet, UnknownIndicator, WrongContinuation, UnclosedLiteral}
 use Rattle.source_lines.specs.declared.lines.Character.{Character}
-use Rattle.source_lines.specs.declared.place.Place.{Place}
+use Rattle.lexical.specs.declared.place.Place.{Place}
 use Rattle.source_lines.specs.Line.{characters, columns_of}
 use Rattle.source_lines.specs.Reading.{after_continuation, after_line, after_lines, after_plain, begun, characters_of, line_continued, literal_continued, taken}
 
@@ -17,18 +17,18 @@ text (line ∷ more) = line ++ 10 ∷ text more
 spaces : ℕ → List ℕ
 spaces n = replicate n 32
 
-bytes_of : Result (List Character) Fault → List ℕ
+bytes_of : Result (List Character) SourceFault → List ℕ
 bytes_of (Ok characters) = map (λ c. c.byte) characters
 bytes_of (Err fault) = []
 
-places_of : Result (List Character) Fault → List Place
+places_of : Result (List Character) SourceFault → List Place
 places_of (Ok characters) = map (λ c. c.place) characters
 places_of (Err fault) = []
 
 at : ℕ → ℕ → Place
 at line column = record { line = line; column = column }
 
-fault : FaultKind → ℕ → ℕ → Result (List Character) Fault
+fault : FaultKind → ℕ → ℕ → Result (List Character) SourceFault
 fault kind line column = Err (record { kind = kind; place = at line column })
 
 -- ---- a program of six lines

@@ -2,7 +2,7 @@
 use Rattle.std.proofs.Common.{◌≡◌, ℕ, ◌+◌, ◌<◌, ◌≤◌, ◌==◌, ◌||◌, ◌&&◌, not, Bool, true, false, cond, nat_lt, List, [], ◌∷◌, ◌++◌, Option, None, Some, Result, Ok, refl, sym, ap, ◌∙◌, arith, append_assoc, eq-eqb}
 use Rattle.std.proofs.lemmas.Bool.Decides.{nat_tests}
 use Rattle.std.proofs.lemmas.List.{append-nil}
-use Rattle.source_lines.specs.declared.fault.Fault.{Fault}
+use Rattle.source_lines.specs.declared.fault.SourceFault.{SourceFault}
 use Rattle.source_lines.specs.declared.fault.FaultKind.{FaultKind}
 use Rattle.source_lines.specs.declared.fault.FaultKind.TheVariants.{ByteOutsideCharacterSet, WrongContinuation}
 use Rattle.source_lines.specs.declared.indicator.Indicator.{Indicator}
@@ -10,7 +10,7 @@ use Rattle.source_lines.specs.declared.indicator.Indicator.TheVariants.{Plain, C
 use Rattle.source_lines.specs.declared.line.Line.{Line}
 use Rattle.source_lines.specs.declared.lines.Character.{Character}
 use Rattle.source_lines.specs.declared.literal.OpenLiteral.{OpenLiteral}
-use Rattle.source_lines.specs.declared.place.Place.{Place}
+use Rattle.lexical.specs.declared.place.Place.{Place}
 use Rattle.source_lines.specs.declared.reader.Before.{Before}
 use Rattle.source_lines.specs.declared.reader.Before.TheVariants.{Nothing, LineEnd, Open, Dropped}
 use Rattle.source_lines.specs.declared.reader.Reader.{Reader}
@@ -180,10 +180,10 @@ fresh_more (IsSkipped.comment is) (Fresh.dropped (EndsParagraph.in_area_a plain 
 fresh_more (IsSkipped.blank is none) (Fresh.dropped (EndsParagraph.in_area_a plain at low)) = absurd (none_not (sym none ∙ at))
 
 at_end_fresh : (given : List Character) (before : Before) → Fresh [] before → at_end (reading given before) ≡ Ok ((given ++ line_end before) ++ [])
-at_end_fresh given Nothing fresh = ap (λ xs. let r : Result (List Character) Fault = Ok xs in r) (sym (append-nil (given ++ [])))
-at_end_fresh given (LineEnd end) fresh = ap (λ xs. let r : Result (List Character) Fault = Ok xs in r) (sym (append-nil (given ++ line_end (LineEnd end))))
+at_end_fresh given Nothing fresh = ap (λ xs. let r : Result (List Character) SourceFault = Ok xs in r) (sym (append-nil (given ++ [])))
+at_end_fresh given (LineEnd end) fresh = ap (λ xs. let r : Result (List Character) SourceFault = Ok xs in r) (sym (append-nil (given ++ line_end (LineEnd end))))
 at_end_fresh given (Open literal) fresh = elim fresh [ ]
-at_end_fresh given Dropped fresh = ap (λ xs. let r : Result (List Character) Fault = Ok xs in r) (sym (append-nil (given ++ [])))
+at_end_fresh given Dropped fresh = ap (λ xs. let r : Result (List Character) SourceFault = Ok xs in r) (sym (append-nil (given ++ [])))
 
 pub no_lines : (reader : Reader) → and_then (after_lines [] reader) at_end ≡ at_end reader
 unfolding after_lines
@@ -202,12 +202,12 @@ text_read (Text.paragraph {line} {first} {body} {more} {given = text} is begins 
     (fresh_begins line first given before (body ++ more) fresh is begins ∙ begun_heading line first (reading now before) heading)
     ∙ bodies_read each more now)
     ∙ text_read rest now Dropped (Fresh.dropped ends)
-    ∙ ap (λ xs. let r : Result (List Character) Fault = Ok (xs ++ text) in r) (append-nil now)
+    ∙ ap (λ xs. let r : Result (List Character) SourceFault = Ok (xs ++ text) in r) (append-nil now)
 text_read (Text.logical {line} {first} {rest} {more} {given = text} {others} {end} is begins heading lines after) given before fresh =
     let now : List Character = given ++ line_end before in
     ap (λ step. and_then step at_end)
     (first_taken line (reading given before) (rest ++ more) _ (fresh_begins line first given before (rest ++ more) fresh is begins ∙ begun_plain line first (reading now before) heading)
     ∙ logical_read lines more (reading now before))
     ∙ text_read after (now ++ text) (LineEnd end) Fresh.ended
-    ∙ ap (λ xs. let r : Result (List Character) Fault = Ok xs in r)
+    ∙ ap (λ xs. let r : Result (List Character) SourceFault = Ok xs in r)
     (append_assoc (now ++ text) (space_at end ∷ []) others ∙ append_assoc now text (space_at end ∷ others))

@@ -1,13 +1,13 @@
 -- The faults of a source text.
 use Rattle.std.specs.Prelude.{ℕ, Option, None, Some}
-use Rattle.source_lines.specs.declared.fault.Fault.{Fault}
+use Rattle.source_lines.specs.declared.fault.SourceFault.{SourceFault}
 use Rattle.source_lines.specs.declared.fault.FaultKind.{FaultKind}
 use Rattle.source_lines.specs.declared.fault.FaultKind.TheVariants.{ByteOutsideCharacterSet, UnknownIndicator, WrongContinuation, SourceTooLarge, UnclosedLiteral}
-use Rattle.source_lines.specs.declared.fault.SourceFault.{SourceFault}
-use Rattle.source_lines.specs.declared.fault.SourceFault.TheVariants.{Memory, Refused}
+use Rattle.source_lines.specs.declared.fault.SourceError.{SourceError}
+use Rattle.source_lines.specs.declared.fault.SourceError.TheVariants.{Memory, Refused}
 
 -- the fault of an error, or none where memory ran out
-abbrev pub fault_of : SourceFault → Option Fault
+abbrev pub fault_of : SourceError → Option SourceFault
 fault_of Memory = None
 fault_of (Refused fault) = Some fault
 

@@ -9,7 +9,7 @@ use Rattle.source_lines.specs.declared.indicator.Indicator.TheVariants.{Plain, C
 use Rattle.source_lines.specs.declared.line.Line.{Line}
 use Rattle.source_lines.specs.declared.lines.Character.{Character}
 use Rattle.source_lines.specs.declared.literal.OpenLiteral.{OpenLiteral}
-use Rattle.source_lines.specs.declared.place.Place.{Place}
+use Rattle.lexical.specs.declared.place.Place.{Place}
 use Rattle.source_lines.specs.Indicator.{indicator_of}
 use Rattle.source_lines.specs.Line.{byte, place, characters, first_nonblank, last_nonblank, first_outside, is_in_character_set}
 use Rattle.source_lines.specs.Literal.{is_mark, open_at_end}

@@ -3,11 +3,11 @@
 use Rattle.std.specs.Prelude.{ℕ, ◌+◌, ◌-◌, ◌%◌, ◌==◌, Bool, not, ◌&&◌, nat_le, if◌then◌else◌, List, [], ◌∷◌, ◌++◌, take, drop, slice_index, replicate, Option}
 use Rattle.std.specs.List.{position, suffix_len}
 use Rattle.std.specs.Option.{option_map}
-use Rattle.source_lines.specs.declared.fault.Fault.{Fault}
+use Rattle.source_lines.specs.declared.fault.SourceFault.{SourceFault}
 use Rattle.source_lines.specs.declared.fault.FaultKind.{FaultKind}
 use Rattle.source_lines.specs.declared.line.Line.{Line}
 use Rattle.source_lines.specs.declared.lines.Character.{Character}
-use Rattle.source_lines.specs.declared.place.Place.{Place}
+use Rattle.lexical.specs.declared.place.Place.{Place}
 
 abbrev pub is_space : ℕ → Bool
 is_space byte = byte == 32
@@ -46,7 +46,7 @@ place line column = record { line = line.number; column = column }
 abbrev pub character : Line → ℕ → Character
 character line column = record { byte = byte line column; place = place line column }
 
-abbrev pub fault : Line → FaultKind → ℕ → Fault
+abbrev pub fault : Line → FaultKind → ℕ → SourceFault
 fault line kind column = record { kind = kind; place = place line column }
 
 -- the bytes of the columns from `from` up to before `end`, each with its place

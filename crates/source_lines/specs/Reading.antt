@@ -1,6 +1,6 @@
 -- The characters of a source text as a function: its lines are read from the first on.
 use Rattle.std.specs.Prelude.{ℕ, ◌+◌, ◌||◌, ◌&&◌, not, ◌==◌, nat_lt, nat_le, if◌then◌else◌, List, [], ◌∷◌, ◌++◌, length, Option, None, Some, Result, Ok, Err}
-use Rattle.source_lines.specs.declared.fault.Fault.{Fault}
+use Rattle.source_lines.specs.declared.fault.SourceFault.{SourceFault}
 use Rattle.source_lines.specs.declared.fault.FaultKind.{FaultKind}
 use Rattle.source_lines.specs.declared.fault.FaultKind.TheVariants.{ByteOutsideCharacterSet, WrongContinuation, SourceTooLarge, UnclosedLiteral}
 use Rattle.source_lines.specs.declared.indicator.Indicator.{Indicator}
@@ -19,12 +19,12 @@ use Rattle.source_lines.specs.Paragraph.{begins_dropped}
 
 -- the characters so far with what stands before the next line, or the fault that was met
 abbrev pub Step : Type 0
-Step = Result Reader Fault
+Step = Result Reader SourceFault
 
 abbrev pub refused : Line → FaultKind → ℕ → Step
 refused line kind column = Err (fault line kind column)
 
-abbrev pub unclosed : OpenLiteral → Fault
+abbrev pub unclosed : OpenLiteral → SourceFault
 unclosed literal = record { kind = UnclosedLiteral; place = literal.opening }
 
 abbrev pub at_start : Reader
@@ -124,7 +124,7 @@ after_indicator (Err kind) line reader = refused line kind 7
 unfoldable pub after_line : Line → Reader → Step
 after_line line reader = after_indicator (indicator_of (byte line 7)) line reader
 
-abbrev pub and_then : {A B : Type 0} → Result A Fault → (A → Result B Fault) → Result B Fault
+abbrev pub and_then : {A B : Type 0} → Result A SourceFault → (A → Result B SourceFault) → Result B SourceFault
 and_then (Ok x) next = next x
 and_then (Err fault) next = Err fault
 
@@ -132,12 +132,12 @@ unfoldable pub after_lines : List Line → Reader → Step
 after_lines [] reader = Ok reader
 after_lines (line ∷ more) reader = and_then (after_line line reader) (after_lines more)
 
-abbrev pub ended : Before → List Character → Result (List Character) Fault
+abbrev pub ended : Before → List Character → Result (List Character) SourceFault
 ended (Open literal) characters = Err (unclosed literal)
 ended before characters = Ok (characters ++ line_end before)
 
 -- the characters once each line was read
-abbrev pub at_end : Reader → Result (List Character) Fault
+abbrev pub at_end : Reader → Result (List Character) SourceFault
 at_end reader = ended reader.before reader.characters
 
 -- the lines of a text, numbered on from this one
@@ -148,10 +148,10 @@ numbered number (bytes ∷ more) = line number bytes ∷ numbered (number + 1) m
 abbrev pub lines_of : List ℕ → List Line
 lines_of source = numbered 1 (lines source)
 
-abbrev pub too_large : Fault
+abbrev pub too_large : SourceFault
 too_large = record { kind = SourceTooLarge; place = record { line = 1; column = 1 } }
 
 -- the characters of a source text, or its first fault from the left; at most 8,000,000 bytes (own choice)
-unfoldable pub characters_of : List ℕ → Result (List Character) Fault
+unfoldable pub characters_of : List ℕ → Result (List Character) SourceFault
 characters_of source =
     if nat_le (length source) 8000000 then and_then (after_lines (lines_of source) at_start) at_end else Err too_large

@@ -1,6 +1,6 @@
 //! What is wrong with a source text before any token is read.
 
-use crate::place::Place;
+use lexical::Place;
 use std::alloc::{AllocError, AllocFailed};
 use thiserror::Error;
 
@@ -38,38 +38,38 @@ impl FaultKind {
 
 /// A fault and where it stands.
 #[derive(Clone, Copy, Debug, PartialEq, Eq)]
-pub struct Fault {
+pub struct SourceFault {
     pub kind: FaultKind,
     pub place: Place,
 }
 
 /// Why a source text has no lines.
 #[derive(Clone, Copy, Debug, PartialEq, Eq, Error)]
-pub enum SourceFault {
+pub enum SourceError {
     #[error("out of memory")]
     Memory,
     #[error("the source text breaks the reference format")]
-    Refused(Fault),
+    Refused(SourceFault),
 }
 
-impl From<AllocError> for SourceFault {
+impl From<AllocError> for SourceError {
     ghost use Rattle.std.specs.Prelude.{◌≡◌};
-    ghost use Rattle.source_lines.specs.declared.fault.SourceFault.TheVariants.{Memory};
+    ghost use Rattle.source_lines.specs.declared.fault.SourceError.TheVariants.{Memory};
 
     ghost from_gives = { λ _ e. e ≡ Memory };
 
-    fn from(_: AllocError) -> SourceFault {
-        SourceFault::Memory
+    fn from(_: AllocError) -> SourceError {
+        SourceError::Memory
     }
 }
 
-impl<T: Drop> From<AllocFailed<T>> for SourceFault {
+impl<T: Drop> From<AllocFailed<T>> for SourceError {
     ghost use Rattle.std.specs.Prelude.{◌≡◌};
-    ghost use Rattle.source_lines.specs.declared.fault.SourceFault.TheVariants.{Memory};
+    ghost use Rattle.source_lines.specs.declared.fault.SourceError.TheVariants.{Memory};
 
     ghost from_gives = { λ _ e. e ≡ Memory };
 
-    fn from(_: AllocFailed<T>) -> SourceFault {
-        SourceFault::Memory
+    fn from(_: AllocFailed<T>) -> SourceError {
+        SourceError::Memory
     }
 }

@@ -9,12 +9,11 @@ mod line;
 mod lines;
 mod literal;
 mod paragraph;
-mod place;
 mod reader;
 mod source;
 
-pub use fault::{Fault, FaultKind, SourceFault};
+pub use fault::{FaultKind, SourceError, SourceFault};
 pub use format::reference_format;
+pub use lexical::Place;
 pub use lines::{Character, Lines};
-pub use place::Place;
 pub use source::{MOST_BYTES, logical};

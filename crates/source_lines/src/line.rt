@@ -3,9 +3,9 @@
 ghost use Rattle.std.specs.Prelude.{◌≡◌, ◌≤◌, ◌<◌};
 ghost use Rattle.source_lines.specs.Line as spec;
 
-use crate::fault::{Fault, FaultKind, SourceFault};
+use crate::fault::{FaultKind, SourceError, SourceFault};
 use crate::lines::Character;
-use crate::place::Place;
+use lexical::Place;
 
 /// How many columns the reference format has. What stands after them is ignored.
 pub const COLUMNS: usize = 72;
@@ -127,10 +127,10 @@ impl Line {
     }
 
     /// The fault of this kind at a column of the line.
-    pub fn refuse(&self, kind: FaultKind, column: u8) -> SourceFault
-        ensures { result ≡ SourceFault.Refused (spec.fault self.now kind column) }
+    pub fn refuse(&self, kind: FaultKind, column: u8) -> SourceError
+        ensures { result ≡ SourceError.Refused (spec.fault self.now kind column) }
     {
-        SourceFault::Refused(Fault {
+        SourceError::Refused(SourceFault {
             kind,
             place: self.place(column),
         })

@@ -2,7 +2,7 @@
 
 ghost use Rattle.std.specs.Prelude.{◌≡◌};
 
-use crate::place::Place;
+use lexical::Place;
 use sqlite_items::Items;
 use std::marker::Model;
 

@@ -5,7 +5,7 @@ ghost use Rattle.source_lines.specs.Literal as spec;
 
 use crate::line::{Line, PAST_LAST_COLUMN};
 use crate::lines::Character;
-use crate::place::Place;
+use lexical::Place;
 
 /// A nonnumeric literal whose second mark hasn't come yet.
 #[derive(Clone, Copy, Debug)]

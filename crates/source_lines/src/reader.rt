@@ -5,7 +5,7 @@ ghost use Rattle.answers.specs.Answer.{Gives};
 ghost use Rattle.source_lines.specs.Faults.{fault_of};
 ghost use Rattle.source_lines.specs.Reading as spec;
 
-use crate::fault::{Fault, FaultKind, SourceFault};
+use crate::fault::{FaultKind, SourceError, SourceFault};
 use crate::indicator::{Indicator, indicator_of};
 use crate::line::{
     AREA_A, AREA_B, INDICATOR_COLUMN, Line, PAST_LAST_COLUMN, SPACE, is_in_character_set,
@@ -13,7 +13,7 @@ use crate::line::{
 use crate::lines::Character;
 use crate::literal::{OpenLiteral, is_mark, open_at_end};
 use crate::paragraph::begins_dropped;
-use crate::place::Place;
+use lexical::Place;
 use sqlite_items::Items;
 use std::alloc::{AllocError, Global};
 
@@ -49,7 +49,7 @@ impl Reader {
 
     /// Reads the next line.
     #[tactic(auto, unfolding(crate::specs::Reading::after_line))]
-    pub fn read(&mut self, line: &Line) -> Result<(), SourceFault>
+    pub fn read(&mut self, line: &Line) -> Result<(), SourceError>
         ensures { Gives (λ _. self.new) fault_of result (spec.after_line line.now self.old) }
     {
         match indicator_of(line.byte(INDICATOR_COLUMN)) {
@@ -61,7 +61,7 @@ impl Reader {
     }
 
     #[tactic(auto, unfolding(crate::specs::Reading::after_plain))]
-    fn read_plain(&mut self, line: &Line) -> Result<(), SourceFault>
+    fn read_plain(&mut self, line: &Line) -> Result<(), SourceError>
         ensures { Gives (λ _. self.new) fault_of result (spec.after_plain line.now self.old) }
     {
         let Some(first) = line.first_nonblank() else {
@@ -80,7 +80,7 @@ impl Reader {
     }
 
     #[tactic(auto, unfolding(crate::specs::Reading::after_continuation))]
-    fn read_continuation(&mut self, line: &Line) -> Result<(), SourceFault>
+    fn read_continuation(&mut self, line: &Line) -> Result<(), SourceError>
         ensures { Gives (λ _. self.new) fault_of result (spec.after_continuation line.now self.old) }
     {
         match self.before {
@@ -93,7 +93,7 @@ impl Reader {
 
     /// Reads a plain line that stands at no end of an open literal, in no dropped paragraph.
     #[tactic(auto, unfolding(crate::specs::Reading::begun))]
-    fn begin(&mut self, line: &Line, first: u8) -> Result<(), SourceFault>
+    fn begin(&mut self, line: &Line, first: u8) -> Result<(), SourceError>
         requires low { 8 ≤ first }
         requires high { first ≤ 72 }
         ensures { Gives (λ _. self.new) fault_of result (spec.begun line.now first self.old) }
@@ -107,7 +107,7 @@ impl Reader {
 
     /// Joins a continuation to the line before, in which no literal is open.
     #[tactic(auto, unfolding(crate::specs::Reading::line_continued))]
-    fn continue_line(&mut self, line: &Line) -> Result<(), SourceFault>
+    fn continue_line(&mut self, line: &Line) -> Result<(), SourceError>
         ensures { Gives (λ _. self.new) fault_of result (spec.line_continued line.now self.old) }
     {
         let Some(first) = line.first_nonblank() else {
@@ -121,7 +121,7 @@ impl Reader {
 
     /// Joins a continuation to the line before, in which this literal is open.
     #[tactic(auto, unfolding(crate::specs::Reading::literal_continued))]
-    fn continue_literal(&mut self, line: &Line, literal: OpenLiteral) -> Result<(), SourceFault>
+    fn continue_literal(&mut self, line: &Line, literal: OpenLiteral) -> Result<(), SourceError>
         ensures { Gives (λ _. self.new) fault_of result (spec.literal_continued line.now literal self.old) }
     {
         let Some(first) = line.first_nonblank() else {
@@ -144,7 +144,7 @@ impl Reader {
         line: &Line,
         from: u8,
         literal: Option<OpenLiteral>,
-    ) -> Result<(), SourceFault>
+    ) -> Result<(), SourceError>
         requires low { 8 ≤ from }
         requires high { from ≤ 73 }
         ensures { Gives (λ _. self.new) fault_of result (spec.taken line.now from literal self.old) }
@@ -186,7 +186,7 @@ impl Reader {
     }
 
     /// The characters of the whole text, once each line was read.
-    pub fn finish(self) -> Result<Items<Character>, SourceFault>
+    pub fn finish(self) -> Result<Items<Character>, SourceError>
         ensures { Gives (λ characters. characters) fault_of result (spec.at_end self) }
     {
         let mut reader = self;
@@ -200,10 +200,10 @@ impl Reader {
 }
 
 /// The fault of a literal that isn't closed and isn't continued.
-fn unclosed(literal: OpenLiteral) -> SourceFault
-    ensures { result ≡ SourceFault.Refused (spec.unclosed literal) }
+fn unclosed(literal: OpenLiteral) -> SourceError
+    ensures { result ≡ SourceError.Refused (spec.unclosed literal) }
 {
-    SourceFault::Refused(Fault {
+    SourceError::Refused(SourceFault {
         kind: FaultKind::UnclosedLiteral,
         place: literal.opening,
     })

@@ -7,11 +7,11 @@ ghost use Rattle.source_lines.specs.Cut.{lines};
 ghost use Rattle.source_lines.specs.Faults.{fault_of};
 ghost use Rattle.source_lines.specs.Reading as spec;
 
-use crate::fault::{Fault, FaultKind, SourceFault};
+use crate::fault::{FaultKind, SourceError, SourceFault};
 use crate::line::Line;
 use crate::lines::Lines;
-use crate::place::Place;
 use crate::reader::Reader;
+use lexical::Place;
 use memchr::memchr;
 use std::alloc::Global;
 
@@ -26,7 +26,7 @@ const LINE_FEED: u8 = b'\n';
 ///
 /// A refusal tells the first fault that a reader meets who goes from line to line and in each line from left to right.
 /// A literal that isn't closed is met at the line that doesn't continue it, or at the end of the text.
-pub fn logical(alloc: Global, source: &[u8]) -> Result<Lines, SourceFault>
+pub fn logical(alloc: Global, source: &[u8]) -> Result<Lines, SourceError>
     ensures { Gives (λ lines. lines) fault_of result (spec.characters_of source.now) }
 {
     if source.len() > MOST_BYTES {
@@ -37,7 +37,7 @@ pub fn logical(alloc: Global, source: &[u8]) -> Result<Lines, SourceFault>
     Ok(Lines::new(reader.finish()?))
 }
 
-fn read_lines(reader: &mut Reader, source: &[u8]) -> Result<(), SourceFault>
+fn read_lines(reader: &mut Reader, source: &[u8]) -> Result<(), SourceError>
     requires { length source.now ≤ 8000000 }
     ensures { Gives (λ _. reader.new) fault_of result (spec.after_lines (spec.lines_of source.now) reader.old) }
 {
@@ -73,10 +73,10 @@ fn without_carriage_return(line: &[u8]) -> &[u8]
     }
 }
 
-fn too_large() -> SourceFault
-    ensures { result ≡ SourceFault.Refused spec.too_large }
+fn too_large() -> SourceError
+    ensures { result ≡ SourceError.Refused spec.too_large }
 {
-    SourceFault::Refused(Fault {
+    SourceError::Refused(SourceFault {
         kind: FaultKind::SourceTooLarge,
         place: Place { line: 1, column: 1 },
     })

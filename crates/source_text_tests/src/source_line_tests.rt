@@ -1,6 +1,6 @@
 //! Rows of `logical`: what the reference format makes of a source text, and its faults with their places.
 use crate::asserted::{same, same_in};
-use source_lines::{Character, SourceFault, logical};
+use source_lines::{Character, SourceError, logical};
 use std::process::Abort;
 use std::test::Fail;
 
@@ -120,7 +120,7 @@ fn characters_of_source_texts(rt: HostRuntime) -> Result<(), Fail> {
 fn faults_and_their_places(rt: HostRuntime) -> Result<(), Fail> {
     for (name, source, fault) in FAULTS.iter() {
         let found = match logical(rt.alloc(), source) {
-            Err(SourceFault::Refused(fault)) => (
+            Err(SourceError::Refused(fault)) => (
                 fault.kind.number(),
                 fault.place.line,
                 fault.place.column,
@@ -170,7 +170,7 @@ fn the_most_bytes(rt: HostRuntime) -> Result<(), Fail> {
     );
     source.push(b'*')?;
     match logical(rt.alloc(), source.as_slice()) {
-        Err(SourceFault::Refused(fault)) => {
+        Err(SourceError::Refused(fault)) => {
             same(&rt, fault.kind.number(), 13);
             same(&rt, (fault.place.line, fault.place.column), (1, 1));
         }

@@ -1,13 +1,13 @@
 //! Rows of `scan`: the tokens of a source text with their kinds and places, and its faults.
 use crate::asserted::{same, same_in};
-use source_lines::{Lines, SourceFault, logical};
+use source_lines::{Lines, SourceError, logical};
 use sqlite_items::Items;
 use std::alloc::{AllocError, Global};
 use std::test::Fail;
-use tokens::{Kind, Token, TokenFault, scan};
+use tokens::{Kind, Token, TokenError, scan};
 
 // The characters of one plain line with this text from column 8 on: a text of n characters ends in column 7 + n.
-fn lines_of(alloc: Global, text: &[u8]) -> Result<Lines, SourceFault> {
+fn lines_of(alloc: Global, text: &[u8]) -> Result<Lines, SourceError> {
     let mut source = b"       ".to_vec(alloc)?;
     source.extend_from_slice(text)?;
     source.push(b'\n')?;
@@ -157,7 +157,7 @@ fn kinds_of_tokens(rt: HostRuntime) -> Result<(), Fail> {
 fn faults_and_their_places(rt: HostRuntime) -> Result<(), Fail> {
     for (text, number, column) in FAULTS.iter() {
         let found = match scan(rt.alloc(), &lines_of(rt.alloc(), text.as_bytes())?) {
-            Err(TokenFault::Refused(fault)) => (fault.kind.number(), fault.place.column),
+            Err(TokenError::Refused(fault)) => (fault.kind.number(), fault.place.column),
             _ => (0, 0),
         };
         same_in(&rt, &text, found, (*number, *column));
@@ -241,7 +241,7 @@ fn sizes_of_literals(rt: HostRuntime) -> Result<(), Fail> {
         let source = literal_of(rt.alloc(), letters)?;
         let lines = logical(rt.alloc(), source.as_slice())?;
         let found = match scan(rt.alloc(), &lines) {
-            Err(TokenFault::Refused(fault)) => {
+            Err(TokenError::Refused(fault)) => {
                 same_in(
                     &rt,
                     &letters,
@@ -250,7 +250,7 @@ fn sizes_of_literals(rt: HostRuntime) -> Result<(), Fail> {
                 );
                 fault.kind.number()
             }
-            Err(TokenFault::Memory) => 255,
+            Err(TokenError::Memory) => 255,
             Ok(tokens) => {
                 same_in(&rt, &letters, tokens.len(), 1);
                 for token in tokens.as_slice() {

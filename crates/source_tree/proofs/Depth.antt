@@ -1,13 +1,19 @@
 -- A depth above the budget changes nothing.
 use Rattle.std.proofs.Common.{◌≡◌, ℕ, zero, suc, ◌<◌, ◌≤◌, List, [], ◌∷◌, refl, ap, ◌∙◌, arith}
+use Rattle.source_tree.specs.declared.performing.Performed.{Performed}
+use Rattle.source_tree.specs.declared.performing.Performed.TheVariants.{Statements}
+use Rattle.source_tree.specs.declared.performing.Turns.{Turns}
+use Rattle.source_tree.specs.declared.performing.Turns.TheVariants.{Once}
+use Rattle.source_tree.specs.declared.performing.Performing.{Performing}
 use Rattle.source_tree.specs.declared.statement.Verb.{Verb}
 use Rattle.source_tree.specs.declared.statement.Verb.TheVariants as verb
 use Rattle.source_tree.specs.declared.statement.Statement.{Statement, out-Statement}
 use Rattle.source_tree.specs.declared.program.Paragraph.{Paragraph}
-use Rattle.source_tree.specs.State.{State, Outcome, Done, Over, then_do, spend_from}
-use Rattle.source_tree.specs.Meaning.{in_turn, step, exec, sentence, paragraph, range}
+use Rattle.source_tree.specs.State.{State, Outcome, Done, Over, then_do, in_turn, spend_from}
+use Rattle.source_tree.specs.Performing.{repeat, body, performing}
+use Rattle.source_tree.specs.Meaning.{step, exec, sentence, paragraph, range}
 use Rattle.source_tree.proofs.Runs
-use Rattle.source_tree.proofs.Runs.{Within, IsRun, in_turn_runs, exec_runs, paragraph_runs}
+use Rattle.source_tree.proofs.Runs.{Within, IsRun, in_turn_runs, body_runs, exec_runs, paragraph_runs}
 
 -- two runs that are the same up to a budget
 pub record Agrees (n : ℕ) (go other : State → Outcome) : Type 0 where
@@ -31,11 +37,19 @@ pub in_turn_agrees : {A : Type 0} (n : ℕ) (run other : A → State → Outcome
 in_turn_agrees n run other r a [] = record { by = λ s le. refl }
 in_turn_agrees n run other r a (one ∷ more) = then_agrees n (run one) (other one) (in_turn run more) (in_turn other more) (r one) (a one) (in_turn_agrees n run other r a more)
 
+repeat_agrees : (n : ℕ) (turns : Turns) (go other : State → Outcome) → IsRun go → Agrees n go other → Agrees n (repeat turns go) (repeat turns other)
+repeat_agrees n Once go other r a = a
+
+body_agrees : {S : Type 0} (n : ℕ) (run other : S → State → Outcome) → ((one : S) → IsRun (run one)) → ((one : S) → Agrees n (run one) (other one))
+    → (one : Performed S) → Agrees n (body run one) (body other one)
+body_agrees n run other r a (Statements statements) = in_turn_agrees n run other r a statements
+
 -- the statements in a statement run with less budget than it began with
 step_same : {S : Type 0} (n : ℕ) (run other : S → State → Outcome) → ((one : S) → IsRun (run one)) → ((one : S) → Agrees n (run one) (other one))
     → (one : Verb S) → Agrees n (step run one) (step other one)
+step_same n run other r a (verb.Performing one) = repeat_agrees n one.turns (body run one.performed) (body other one.performed) (body_runs run r one.performed) (body_agrees n run other r a one.performed)
 step_same n run other r a (verb.Text one) = record { by = λ s le. refl }
-step_same n run other r a (verb.Ending one inside) = record { by = λ s le. refl }
+step_same n run other r a (verb.Ending one) = record { by = λ s le. refl }
 
 -- two depths above the budget are the same
 pub exec_same : (d e : ℕ) (one : Statement) (s : State) → s.budget < d → s.budget < e → exec d one s ≡ exec e one s

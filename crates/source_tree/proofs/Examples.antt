@@ -2,8 +2,8 @@
 use Rattle.std.proofs.Common.{◌≡◌, ℕ, Bool, true, false, List, [], ◌∷◌, ◌++◌, None, Some, refl}
 use Rattle.std.specs.Prelude.{map}
 use Rattle.station.specs.State.{Shown}
-use Rattle.source_tree.specs.declared.place.Place.{Place}
-use Rattle.source_tree.specs.declared.literal.Sign.TheVariants as sign
+use Rattle.lexical.specs.declared.place.Place.{Place}
+use Rattle.lexical.specs.declared.number.Sign.TheVariants as sign
 use Rattle.source_tree.specs.declared.literal.Figurative.TheVariants.{Space, Quote}
 use Rattle.source_tree.specs.declared.literal.LiteralValue.TheVariants.{Numeric, Nonnumeric, Figurative, All}
 use Rattle.source_tree.specs.declared.literal.Literal.{Literal}
@@ -34,7 +34,7 @@ abbrev pub display : Place → List Literal → Bool → Statement
 display place operands advancing = roll-Statement (record { place = place; verb = verb.Text (text_as.Display operands advancing) })
 
 abbrev pub stop_run : Place → Statement
-stop_run place = roll-Statement (record { place = place; verb = verb.Ending ending.StopRun (record {}) })
+stop_run place = roll-Statement (record { place = place; verb = verb.Ending ending.StopRun })
 
 -- with this budget, on 30 July 1926
 abbrev with : ℕ → Given

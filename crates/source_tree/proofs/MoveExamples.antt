@@ -2,7 +2,7 @@
 use Rattle.std.proofs.Common.{◌≡◌, ℕ, true, false, List, [], ◌∷◌, ◌++◌, refl}
 use Rattle.std.specs.Prelude.{codes, map, Ok, Err}
 use Rattle.source_tree.specs.declared.literal.Figurative.TheVariants as figurative
-use Rattle.source_tree.specs.declared.literal.Sign.TheVariants as sign
+use Rattle.lexical.specs.declared.number.Sign.TheVariants as sign
 use Rattle.source_tree.specs.declared.entry.SignPosition.TheVariants as position
 use Rattle.source_tree.specs.declared.entry.ItemEntry.{ItemEntry}
 use Rattle.source_tree.specs.declared.entry.Entry.{Entry}

@@ -8,12 +8,18 @@ use Rattle.source_tree.specs.declared.text.Text.{Text}
 use Rattle.source_tree.specs.declared.text.Text.TheVariants as text
 use Rattle.source_tree.specs.declared.ending.Ending.{Ending}
 use Rattle.source_tree.specs.declared.ending.Ending.TheVariants as ending
+use Rattle.source_tree.specs.declared.performing.Performed.{Performed}
+use Rattle.source_tree.specs.declared.performing.Performed.TheVariants.{Statements}
+use Rattle.source_tree.specs.declared.performing.Turns.{Turns}
+use Rattle.source_tree.specs.declared.performing.Turns.TheVariants.{Once}
+use Rattle.source_tree.specs.declared.performing.Performing.{Performing}
 use Rattle.source_tree.specs.declared.statement.Verb.{Verb}
 use Rattle.source_tree.specs.declared.statement.Verb.TheVariants as verb
 use Rattle.source_tree.specs.declared.statement.Statement.{Statement, out-Statement}
 use Rattle.source_tree.specs.declared.program.Paragraph.{Paragraph}
-use Rattle.source_tree.specs.State.{State, Stopped, Budget, Outcome, Done, Over, showing, then_do, spend_from, spend, outcome_events}
-use Rattle.source_tree.specs.Meaning.{in_turn, texts, finish, step, exec, sentence, paragraph, range}
+use Rattle.source_tree.specs.State.{State, Stopped, Budget, Outcome, Done, Over, showing, then_do, in_turn, spend_from, spend, outcome_events}
+use Rattle.source_tree.specs.Performing.{repeat, body, performing}
+use Rattle.source_tree.specs.Meaning.{texts, finish, step, exec, sentence, paragraph, range}
 use Rattle.station.specs.State.{Begins}
 
 pub itself : (es : List Event) → Begins es es
@@ -109,9 +115,20 @@ finish_runs : (one : Ending) → IsRun (finish one)
 finish_runs ending.StopRun = stop_runs
 finish_runs ending.Continue = done_runs
 
+repeat_runs : (turns : Turns) (go : State → Outcome) → IsRun go → IsRun (repeat turns go)
+repeat_runs Once go r = r
+
+module _ {S : Type 0} (run : S → State → Outcome) (r : (one : S) → IsRun (run one)) where
+  pub body_runs : (one : Performed S) → IsRun (body run one)
+  body_runs (Statements statements) = in_turn_runs run r statements
+
+  performing_runs : (one : Performing S) → IsRun (performing run one)
+  performing_runs one = repeat_runs one.turns (body run one.performed) (body_runs one.performed)
+
 step_runs : {S : Type 0} (run : S → State → Outcome) → ((one : S) → IsRun (run one)) → (one : Verb S) → IsRun (step run one)
+step_runs run r (verb.Performing one) = performing_runs run r one
 step_runs run r (verb.Text one) = texts_runs one
-step_runs run r (verb.Ending one inside) = finish_runs one
+step_runs run r (verb.Ending one) = finish_runs one
 
 pub exec_runs : (depth : ℕ) (one : Statement) → IsRun (exec depth one)
 exec_runs zero one = record { falls = λ s. tt; grows = λ s. itself s.events; alike = λ k s. itself s.events }

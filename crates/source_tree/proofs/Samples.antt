@@ -1,11 +1,11 @@
 -- Short ways to write entries and references down.
 use Rattle.std.proofs.Common.{ℕ, Bool, true, false, List, [], None, Some}
 use Rattle.std.specs.Prelude.{map}
-use Rattle.source_tree.specs.declared.place.Place.{Place}
+use Rattle.lexical.specs.declared.place.Place.{Place}
 use Rattle.source_tree.specs.declared.name.Name.{Name}
 use Rattle.source_tree.specs.declared.literal.Integer.{Integer}
-use Rattle.source_tree.specs.declared.literal.Sign.{Sign}
-use Rattle.source_tree.specs.declared.literal.Sign.TheVariants as sign
+use Rattle.lexical.specs.declared.number.Sign.{Sign}
+use Rattle.lexical.specs.declared.number.Sign.TheVariants as sign
 use Rattle.source_tree.specs.declared.literal.Figurative.{Figurative}
 use Rattle.source_tree.specs.declared.literal.Literal.{Literal}
 use Rattle.source_tree.specs.declared.literal.LiteralValue.TheVariants as literal

@@ -1,6 +1,6 @@
 -- A rule that is broken, and where.
 use Rattle.std.specs.Prelude.{ℕ, Bool, if◌then◌else◌, List, [], ◌∷◌, ◌++◌}
-use Rattle.source_tree.specs.declared.place.Place.{Place}
+use Rattle.lexical.specs.declared.place.Place.{Place}
 
 pub record Broken : Type 0 where
   -- the fault's number

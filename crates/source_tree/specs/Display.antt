@@ -1,8 +1,8 @@
 -- The bytes that DISPLAY shows (COBOL-85, Nucleus, "The DISPLAY statement").
 use Rattle.std.specs.Prelude.{ℕ, Bool, true, false, List, [], ◌∷◌, ◌++◌}
-use Rattle.source_tree.specs.declared.literal.Sign.{Sign}
-use Rattle.source_tree.specs.declared.literal.Sign.TheVariants as sign
-use Rattle.source_tree.specs.declared.literal.NumericLiteral.{NumericLiteral}
+use Rattle.lexical.specs.declared.number.Sign.{Sign}
+use Rattle.lexical.specs.declared.number.Sign.TheVariants as sign
+use Rattle.lexical.specs.declared.number.NumericLiteral.{NumericLiteral}
 use Rattle.source_tree.specs.declared.literal.Figurative.{Figurative}
 use Rattle.source_tree.specs.declared.literal.Figurative.TheVariants.{Zero, Space, HighValue, LowValue, Quote}
 use Rattle.source_tree.specs.declared.literal.LiteralValue.{LiteralValue}

@@ -1,6 +1,7 @@
 pub mod Given
 pub mod State
 pub mod Display
+pub mod Performing
 pub mod Meaning
 pub mod Integers
 pub mod Names

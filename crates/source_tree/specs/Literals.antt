@@ -14,9 +14,9 @@ use Rattle.items.specs.declared.taken.Taken.{Taken}
 use Rattle.items.specs.declared.taken.Taken.TheVariants as taken
 use Rattle.items.specs.Numbers.{length_of}
 use Rattle.items.specs.Values.{bytes_of}
-use Rattle.source_tree.specs.declared.literal.Sign.{Sign}
-use Rattle.source_tree.specs.declared.literal.Sign.TheVariants as sign
-use Rattle.source_tree.specs.declared.literal.NumericLiteral.{NumericLiteral}
+use Rattle.lexical.specs.declared.number.Sign.{Sign}
+use Rattle.lexical.specs.declared.number.Sign.TheVariants as sign
+use Rattle.lexical.specs.declared.number.NumericLiteral.{NumericLiteral}
 use Rattle.source_tree.specs.declared.literal.Figurative as written
 use Rattle.source_tree.specs.declared.literal.Figurative.TheVariants as figurative
 use Rattle.source_tree.specs.declared.literal.LiteralValue.{LiteralValue}

@@ -14,13 +14,9 @@ use Rattle.source_tree.specs.declared.program.Paragraph.{Paragraph}
 use Rattle.source_tree.specs.declared.program.Section.{Section}
 use Rattle.source_tree.specs.declared.program.Program.{Program}
 use Rattle.source_tree.specs.Given.{Given}
-use Rattle.source_tree.specs.State.{State, End, Stopped, Budget, Outcome, Done, Over, showing, then_do, spend}
+use Rattle.source_tree.specs.State.{State, End, Stopped, Budget, Outcome, Done, Over, showing, then_do, in_turn, spend}
 use Rattle.source_tree.specs.Display.{shown_display}
-
--- one after the other, as long as each is done
-abbrev pub in_turn : {A : Type 0} → (A → State → Outcome) → List A → State → Outcome
-in_turn run [] s = Done s
-in_turn run (one ∷ more) s = then_do (run one s) (in_turn run more)
+use Rattle.source_tree.specs.Performing.{performing}
 
 abbrev pub texts : Text → State → Outcome
 texts (text.Display operands advancing) s = Done (showing (shown_display operands advancing) s)
@@ -31,8 +27,9 @@ finish ending.Continue s = Done s
 
 -- One statement after it has used one of the budget, by its family. `run` runs the statements that stand in it.
 abbrev pub step : {S : Type 0} → (S → State → Outcome) → Verb S → State → Outcome
+step run (verb.Performing one) s = performing run one s
 step run (verb.Text one) s = texts one s
-step run (verb.Ending one inside) s = finish one s
+step run (verb.Ending one) s = finish one s
 
 -- A statement, with at most `depth` statements in one another, itself among them. Each of these has used one of the
 -- budget, so that a depth above the budget is never used up.

@@ -5,7 +5,7 @@ use Rattle.items.specs.declared.taken.Taken.{Taken}
 use Rattle.items.specs.declared.taken.Taken.TheVariants as taken
 use Rattle.edited_move.specs.Permitted.{is_permitted, sending_of, receiving_of}
 use Rattle.edited_move.specs.Moves.{is_short}
-use Rattle.source_tree.specs.declared.place.Place.{Place}
+use Rattle.lexical.specs.declared.place.Place.{Place}
 use Rattle.source_tree.specs.declared.reference.Reference.{Reference}
 use Rattle.source_tree.specs.declared.expression.Operand.{Operand}
 use Rattle.source_tree.specs.declared.expression.Operand.TheVariants as operand

@@ -3,7 +3,7 @@
 use Rattle.std.specs.Prelude.{◌==◌, Bool, false, not, List, [], ◌∷◌, ◌++◌, length}
 use Rattle.items.specs.declared.item.Kind.{Kind}
 use Rattle.items.specs.declared.item.Kind.TheVariants as kind
-use Rattle.source_tree.specs.declared.place.Place.{Place}
+use Rattle.lexical.specs.declared.place.Place.{Place}
 use Rattle.source_tree.specs.declared.reference.Subscript as written
 use Rattle.source_tree.specs.declared.reference.Subscript.TheVariants as subscript
 use Rattle.source_tree.specs.declared.reference.Reference.{Reference}

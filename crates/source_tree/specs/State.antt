@@ -1,5 +1,5 @@
 -- What a run has at a moment, and how a stretch of it ends.
-use Rattle.std.specs.Prelude.{ℕ, zero, suc, List, ◌++◌, map}
+use Rattle.std.specs.Prelude.{ℕ, zero, suc, List, [], ◌∷◌, ◌++◌, map}
 use Rattle.station.specs.State.{Event, Shown}
 
 pub record State : Type 0 where
@@ -30,6 +30,11 @@ showing bytes s = record s { events = s.events ++ map Shown bytes }
 abbrev pub then_do : Outcome → (State → Outcome) → Outcome
 then_do (Done s) go = go s
 then_do (Over end s) go = Over end s
+
+-- one after the other, as long as each is done
+abbrev pub in_turn : {A : Type 0} → (A → State → Outcome) → List A → State → Outcome
+in_turn run [] s = Done s
+in_turn run (one ∷ more) s = then_do (run one s) (in_turn run more)
 
 abbrev pub spend_from : ℕ → ℕ → State → (State → Outcome) → Outcome
 spend_from zero line s go = Over Budget s

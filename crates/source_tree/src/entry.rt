@@ -2,7 +2,7 @@
 
 use crate::literal::{Integer, Literal};
 use crate::name::Name;
-use crate::place::Place;
+use lexical::Place;
 use sqlite_items::Items;
 
 /// The characters of a PICTURE clause, as they were written, in ASCII.

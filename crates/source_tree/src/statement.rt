@@ -1,16 +1,16 @@
 //! Statements.
 
 use crate::ending::Ending;
-use crate::place::Place;
+use crate::performing::Performing;
 use crate::text::Text;
-use std::marker::PhantomData;
+use lexical::Place;
 
 /// What a statement does, by families. `S` is the statements inside it: in a tree, `Statement`.
 #[derive(Debug, Drop)]
 pub enum Verb<S> {
+    Performing(Performing<S>),
     Text(Text),
-    /// The mark stands for the statements inside until a family has some.
-    Ending(Ending, PhantomData<S>),
+    Ending(Ending),
 }
 
 /// A statement (COBOL-85, Nucleus, "Procedure division").

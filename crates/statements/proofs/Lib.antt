@@ -1,4 +1,5 @@
 pub mod Standing
+pub mod StatementLists
 pub mod Verbs
 pub mod Lines
 pub mod Depth

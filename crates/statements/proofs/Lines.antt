@@ -1,5 +1,5 @@
 -- A statement by its verb: one line a verb.
-use Rattle.std.proofs.Common.{◌≡◌, ◌<◌, true, List, length, Option, None, Some, refl, sym, ap, ◌∙◌, subst, arith}
+use Rattle.std.proofs.Common.{◌≡◌, ◌<◌, ℕ, true, List, length, Option, None, Some, refl, sym, ap, ◌∙◌, subst, arith}
 use Rattle.std.specs.Prelude.{Ok, is_some}
 use Rattle.tokens.specs.declared.token.Token.{Token}
 use Rattle.source_tree.specs.declared.text.Text.{Text}
@@ -23,70 +23,78 @@ use Rattle.statements.specs.Spelling as g
 use Rattle.statements.specs.Reading as r
 use Rattle.statements.proofs.Verbs.Continuing.{continuing_shrinks, continuing_stands, continuing_complete, continuing_sound}
 use Rattle.statements.proofs.Verbs.Display.{display_shrinks, display_stands, display_complete, display_sound}
+use Rattle.statements.proofs.StatementLists.{statements_shrink, statements_complete}
+use Rattle.statements.proofs.Verbs.Performing.{performing_shrinks, performing_stands, performing_complete, performing_sound}
 use Rattle.statements.proofs.Verbs.StopRun.{stop_run_shrinks, stop_run_stands, stop_run_complete, stop_run_sound}
 
 -- ---- each statement takes a token, and begins with its verb
 
-module _ (p : Statement → Part) where
-  verb_shrinks : Shrinks (g.verb_line p)
-  verb_shrinks (verb.Text (text.Display operands advancing)) i rest s = display_shrinks operands advancing i rest s
-  verb_shrinks (verb.Ending ending.StopRun inside) i rest s = stop_run_shrinks i rest s
-  verb_shrinks (verb.Ending ending.Continue inside) i rest s = continuing_shrinks i rest s
+module _ (depth : ℕ) (p : Statement → Part) where
+  verb_shrinks : Shrinks p → Shrinks (g.verb_line depth p)
+  verb_shrinks fewer (verb.Performing one) i rest s = performing_shrinks (g.statements p) (statements_shrink p fewer) one i rest s
+  verb_shrinks fewer (verb.Text (text.Display operands advancing)) i rest s = display_shrinks operands advancing i rest s
+  verb_shrinks fewer (verb.Ending ending.StopRun) i rest s = stop_run_shrinks i rest s
+  verb_shrinks fewer (verb.Ending ending.Continue) i rest s = continuing_shrinks i rest s
 
-  pub line_shrinks : Shrinks (g.line p)
-  line_shrinks x i rest (i1, at, s) = let l = ap length at.0 in let a = verb_shrinks (out-Statement x).verb i1 rest s in omega arith
+  pub line_shrinks : Shrinks p → Shrinks (g.line depth p)
+  line_shrinks fewer x i rest (i1, at, s) = let l = ap length at.0 in let a = verb_shrinks fewer (out-Statement x).verb i1 rest s in omega arith
 
   -- the verb that a line begins with
   abbrev word_of : Verb Statement → VerbWord
+  word_of (verb.Performing one) = v.Perform
   word_of (verb.Text (text.Display operands advancing)) = v.Display
-  word_of (verb.Ending ending.StopRun inside) = v.Stop
-  word_of (verb.Ending ending.Continue inside) = v.Continue
+  word_of (verb.Ending ending.StopRun) = v.Stop
+  word_of (verb.Ending ending.Continue) = v.Continue
 
-  verb_stands : (x : Verb Statement) (i rest : List Token) → g.verb_line p x i rest → verb_at i ≡ Some (word_of x)
+  verb_stands : (x : Verb Statement) (i rest : List Token) → g.verb_line depth p x i rest → verb_at i ≡ Some (word_of x)
+  verb_stands (verb.Performing one) i rest s = performing_stands (g.statements p) one i rest s
   verb_stands (verb.Text (text.Display operands advancing)) i rest s = display_stands operands advancing i rest s
-  verb_stands (verb.Ending ending.StopRun inside) i rest s = stop_run_stands i rest s
-  verb_stands (verb.Ending ending.Continue inside) i rest s = continuing_stands i rest s
+  verb_stands (verb.Ending ending.StopRun) i rest s = stop_run_stands i rest s
+  verb_stands (verb.Ending ending.Continue) i rest s = continuing_stands i rest s
 
-  pub line_starts : Starts begins_statement (g.line p)
+  pub line_starts : Starts begins_statement (g.line depth p)
   line_starts x i rest (i1, at, s) = ap begins_statement at.0 ∙ ap is_some (verb_stands (out-Statement x).verb i1 rest s)
 
   -- ---- what is read is spelled
 
-  module _ (nested : Parser Statement) where
-    by_verb_sound : (o : Option VerbWord) (x : Verb Statement) (i rest : List Token) → r.by_verb nested o i ≡ Ok (x, rest) → g.verb_line p x i rest
+  module _ (nested : Parser Statement) (each : Sound p nested) where
+    by_verb_sound : (o : Option VerbWord) (x : Verb Statement) (i rest : List Token) → r.by_verb depth nested o i ≡ Ok (x, rest) → g.verb_line depth p x i rest
     by_verb_sound None x i rest e = cc
-    by_verb_sound (Some v.Continue) x i rest e = continuing_sound p x i rest e
-    by_verb_sound (Some v.Display) x i rest e = display_sound p x i rest e
-    by_verb_sound (Some v.Stop) x i rest e = stop_run_sound p x i rest e
+    by_verb_sound (Some v.Continue) x i rest e = continuing_sound depth p x i rest e
+    by_verb_sound (Some v.Display) x i rest e = display_sound depth p x i rest e
+    by_verb_sound (Some v.Perform) x i rest e = performing_sound depth p nested each x i rest e
+    by_verb_sound (Some v.Stop) x i rest e = stop_run_sound depth p x i rest e
 
-    verb_sound : Sound (g.verb_line p) (r.verb nested)
+    verb_sound : Sound (g.verb_line depth p) (r.verb depth nested)
     unfolding r.verb
     verb_sound x i rest e = by_verb_sound (verb_at i) x i rest e
 
-    pub line_sound : Sound (g.line p) (r.line nested)
+    pub line_sound : Sound (g.line depth p) (r.line depth nested)
     unfolding r.line
     line_sound x i rest e =
         unstep (read.here i) _ e (λ place i1 is1 e1.
-        unstep (r.verb nested i1) _ e1 (λ one i2 is2 e2.
-        subst (λ y. g.line p y i rest) (value e2)
+        unstep (r.verb depth nested i1) _ e1 (λ one i2 is2 e2.
+        subst (λ y. g.line depth p y i rest) (value e2)
         (rw (out-roll-Statement (record { place = place; verb = one })) (i1, here_sound place i i1 is1, verb_sound one i1 rest (last is2 e2)))))
 
 -- ---- what is spelled is read
 
-module _ (Allowed : Halt → Type 0) (p : Statement → Part) (nested : Parser Statement) where
-  by_verb_complete : (x : Verb Statement) (i rest : List Token) → g.verb_line p x i rest → Answers Allowed (r.by_verb nested (Some (word_of p x)) i) x rest
+module _ (Allowed : Halt → Type 0) (depth depth' : ℕ) (p : Statement → Part) (nested : Parser Statement) (each : Complete Allowed p nested) (fewer : Shrinks p) (begins : Starts begins_statement p) where
+  by_verb_complete : (x : Verb Statement) (i rest : List Token) → g.verb_line depth' p x i rest → Answers Allowed (r.by_verb depth nested (Some (word_of depth' p x)) i) x rest
+  by_verb_complete (verb.Performing one) i rest s =
+      performing_complete (g.statements p) (r.statements nested) (statements_complete Allowed p nested each fewer begins) one.turns one.performed i rest s
   by_verb_complete (verb.Text (text.Display operands advancing)) i rest s = display_complete operands advancing i rest s
-  by_verb_complete (verb.Ending ending.StopRun inside) i rest s = stop_run_complete i rest s
-  by_verb_complete (verb.Ending ending.Continue inside) i rest s = continuing_complete i rest s
+  by_verb_complete (verb.Ending ending.StopRun) i rest s = stop_run_complete i rest s
+  by_verb_complete (verb.Ending ending.Continue) i rest s = continuing_complete i rest s
 
-  verb_complete : Complete Allowed (g.verb_line p) (r.verb nested)
+  verb_complete : Complete Allowed (g.verb_line depth' p) (r.verb depth nested)
   unfolding r.verb
   verb_complete x i rest s =
-      subst (λ o. Answers Allowed (r.by_verb nested o i) x rest) (sym (verb_stands p x i rest s)) (by_verb_complete x i rest s)
+      subst (λ o. Answers Allowed (r.by_verb depth nested o i) x rest) (sym (verb_stands depth' p x i rest s)) (by_verb_complete x i rest s)
 
-  pub line_complete : Complete Allowed (g.line p) (r.line nested)
+  pub line_complete : Complete Allowed (g.line depth' p) (r.line depth nested)
   unfolding r.line
   line_complete x i rest (i1, at, s) =
       step (read.here i) _ (here_complete (out-Statement x).place i i1 at)
-      (step (r.verb nested i1) _ (verb_complete (out-Statement x).verb i1 rest s)
+      (step (r.verb depth nested i1) _ (verb_complete (out-Statement x).verb i1 rest s)
       (Reached (ap (λ y. Ok (y, rest)) (roll-out-Statement x))))

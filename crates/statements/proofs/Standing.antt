@@ -2,7 +2,7 @@
 use Rattle.std.proofs.Common.{◌≡◌, List, ap, ◌∙◌, sym, subst}
 use Rattle.tokens.specs.declared.reserved.Reserved.{Reserved}
 use Rattle.tokens.specs.declared.token.Token.{Token}
-use Rattle.source_tree.specs.declared.place.Place.{Place}
+use Rattle.lexical.specs.declared.place.Place.{Place}
 use Rattle.grammar.specs.Parts.{word, here}
 use Rattle.statements.specs.Verbs.{verb_of, verb_in, verb_at}
 

@@ -14,4 +14,4 @@ continuing = word w.Continue
 unfoldable pub continuing_reader : Parser (Verb Statement)
 continuing_reader = do
   expect w.Continue
-  pure (verb.Ending ending.Continue (record {}))
+  pure (verb.Ending ending.Continue)

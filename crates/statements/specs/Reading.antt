@@ -10,16 +10,19 @@ use Rattle.statements.specs.declared.verb.VerbWord.TheVariants as v
 use Rattle.statements.specs.Verbs.{verb_at, begins_statement}
 use Rattle.statements.specs.Continuing.{continuing_reader}
 use Rattle.statements.specs.Display.{display_reader}
+use Rattle.statements.specs.Performing.{performing_reader}
 use Rattle.statements.specs.StopRun.{stop_run_reader}
 
-module _ (statement : Parser Statement) where
-  unfoldable pub statements : Parser (List Statement)
-  statements = several statement begins_statement
+unfoldable pub statements : Parser Statement → Parser (List Statement)
+statements statement = several statement begins_statement
 
+-- `depth` is how deep what stands in a statement may still nest, and `statement` reads the statements that stand in it.
+module _ (depth : ℕ) (statement : Parser Statement) where
   abbrev pub by_verb : Option VerbWord → Parser (Verb Statement)
   by_verb None = refuse
   by_verb (Some v.Continue) = continuing_reader
   by_verb (Some v.Display) = display_reader
+  by_verb (Some v.Perform) = performing_reader (statements statement)
   by_verb (Some v.Stop) = stop_run_reader
 
   -- the verb decides
@@ -35,7 +38,7 @@ module _ (statement : Parser Statement) where
 -- A statement with at most this many statements in one another, itself among them.
 unfoldable pub statement : ℕ → Parser Statement
 statement zero = λ i. Err (TooDeep (length i))
-statement (suc depth) = line (statement depth)
+statement (suc depth) = line depth (statement depth)
 
 unfoldable pub sentence : ℕ → Parser Sentence
 sentence depth = do

@@ -12,6 +12,7 @@ use Rattle.grammar.specs.Parts.{Part, ◌then◌, several, tested, here, period}
 use Rattle.statements.specs.Verbs.{begins_statement}
 use Rattle.statements.specs.Continuing.{continuing}
 use Rattle.statements.specs.Display.{display}
+use Rattle.statements.specs.Performing.{performing}
 use Rattle.statements.specs.StopRun.{stop_run}
 
 -- how many statements may stand in one another, the outermost among them (own choice)
@@ -25,24 +26,26 @@ abbrev pub ending_line : Ending → Part
 ending_line ending.StopRun = stop_run
 ending_line ending.Continue = continuing
 
-module _ (statement : Statement → Part) where
+abbrev pub statements : (Statement → Part) → List Statement → Part
+statements statement = several statement (tested begins_statement)
+
+-- `depth` is how deep what stands in a statement may still nest, and `statement` spells the statements that stand in it.
+module _ (depth : ℕ) (statement : Statement → Part) where
   -- Each optional part is left out only where its words do not stand, and each list ends only where no more of it can
   -- begin, so that what stands belongs to the innermost statement that can take it (COBOL-85, Nucleus, "Statements").
   abbrev pub verb_line : Verb Statement → Part
+  verb_line (verb.Performing one) = performing (statements statement) one
   verb_line (verb.Text one) = text_line one
-  verb_line (verb.Ending one inside) = ending_line one
+  verb_line (verb.Ending one) = ending_line one
 
   -- A statement stands where its verb does (own choice).
   abbrev pub line : Statement → Part
   line one = here (out-Statement one).place then verb_line (out-Statement one).verb
 
-  abbrev pub statements : List Statement → Part
-  statements = several statement (tested begins_statement)
-
 -- A statement with at most this many statements in one another, itself among them.
 abbrev pub statement : ℕ → Statement → Part
 statement zero one = λ i rest. ⊥
-statement (suc depth) one = line (statement depth) one
+statement (suc depth) one = line depth (statement depth) one
 
 -- Statements and a period, which closes them all (COBOL-85, Nucleus, "Sentences").
 abbrev pub sentence : ℕ → Sentence → Part

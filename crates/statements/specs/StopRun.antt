@@ -15,4 +15,4 @@ unfoldable pub stop_run_reader : Parser (Verb Statement)
 stop_run_reader = do
   expect w.Stop
   expect w.Run
-  pure (verb.Ending ending.StopRun (record {}))
+  pure (verb.Ending ending.StopRun)

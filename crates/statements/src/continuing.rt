@@ -6,7 +6,6 @@ ghost use Rattle.statements.specs.Continuing as spec;
 
 use grammar::{ReadFault, Tokens};
 use source_tree::{Ending, Statement, Verb};
-use std::marker::PhantomData;
 use tokens::Reserved;
 
 /// From the verb on.
@@ -15,5 +14,5 @@ pub fn continuing(tokens: &mut Tokens<'_>) -> Result<Verb<Statement>, ReadFault>
     ensures { Reads (spec.continuing_reader tokens.old) result tokens.new }
 {
     tokens.expect(Reserved::Continue)?;
-    Ok(Verb::Ending(Ending::Continue, PhantomData))
+    Ok(Verb::Ending(Ending::Continue))
 }

@@ -5,6 +5,7 @@
 mod continuing;
 mod display;
 mod nesting;
+mod performing;
 mod sentences;
 mod stop_run;
 mod verb;

@@ -59,11 +59,12 @@ impl<F: Fn(Global, &mut Tokens<'_>, usize) -> Result<Statement, ReadFault>> Nest
     #[tactic(auto, unfolding(crate::specs::Reading::verb))]
     fn verb(&self, tokens: &mut Tokens<'_>) -> Result<Verb<Statement>, ReadFault>
         requires { Nests self.now.depth (F.pre self.now.statement) (F.post self.now.statement) }
-        ensures { Reads (spec.verb (spec.statement self.now.depth) tokens.old) result tokens.new }
+        ensures { Reads (spec.verb self.now.depth (spec.statement self.now.depth) tokens.old) result tokens.new }
     {
         match verb_at(tokens) {
             Some(VerbWord::Continue) => continuing(tokens),
             Some(VerbWord::Display) => display(self.alloc, tokens),
+            Some(VerbWord::Perform) => self.performing(tokens),
             Some(VerbWord::Stop) => stop_run(tokens),
             None => Err(tokens.refuse()),
         }
@@ -73,7 +74,7 @@ impl<F: Fn(Global, &mut Tokens<'_>, usize) -> Result<Statement, ReadFault>> Nest
     #[tactic(auto, unfolding(crate::specs::Reading::line))]
     fn line(&self, tokens: &mut Tokens<'_>) -> Result<Statement, ReadFault>
         requires { Nests self.now.depth (F.pre self.now.statement) (F.post self.now.statement) }
-        ensures { Reads (spec.line (spec.statement self.now.depth) tokens.old) result tokens.new }
+        ensures { Reads (spec.line self.now.depth (spec.statement self.now.depth) tokens.old) result tokens.new }
     {
         let place = tokens.here()?;
         let verb = self.verb(tokens)?;

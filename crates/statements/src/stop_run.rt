@@ -6,7 +6,6 @@ ghost use Rattle.statements.specs.StopRun as spec;
 
 use grammar::{ReadFault, Tokens};
 use source_tree::{Ending, Statement, Verb};
-use std::marker::PhantomData;
 use tokens::Reserved;
 
 /// From the verb on.
@@ -16,5 +15,5 @@ pub fn stop_run(tokens: &mut Tokens<'_>) -> Result<Verb<Statement>, ReadFault>
 {
     tokens.expect(Reserved::Stop)?;
     tokens.expect(Reserved::Run)?;
-    Ok(Verb::Ending(Ending::StopRun, PhantomData))
+    Ok(Verb::Ending(Ending::StopRun))
 }

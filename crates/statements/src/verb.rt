@@ -11,6 +11,7 @@ use tokens::{Kind, Reserved};
 pub enum VerbWord {
     Continue,
     Display,
+    Perform,
     Stop,
 }
 
@@ -21,6 +22,7 @@ pub fn verb_of(word: Reserved) -> Option<VerbWord>
     match word {
         Reserved::Continue => Some(VerbWord::Continue),
         Reserved::Display => Some(VerbWord::Display),
+        Reserved::Perform => Some(VerbWord::Perform),
         Reserved::Stop => Some(VerbWord::Stop),
         _ => None,
     }

@@ -2,17 +2,18 @@
 use Rattle.std.proofs.Common.{◌≡◌, ℕ, ◌+◌, List, [], ◌∷◌, ◌++◌, Result, Ok, Err, map, refl}
 use lib.Chars.{codes}
 use Rattle.source_lines.specs.declared.lines.Character.{Character}
-use Rattle.source_lines.specs.declared.place.Place.{Place}
-use Rattle.tokens.specs.declared.fault.Fault.{Fault}
+use Rattle.lexical.specs.declared.place.Place.{Place}
+use Rattle.tokens.specs.declared.fault.TokenFault.{TokenFault}
 use Rattle.tokens.specs.declared.fault.FaultKind.{FaultKind}
 use Rattle.tokens.specs.declared.fault.FaultKind.TheVariants as fault
 use Rattle.tokens.specs.declared.reserved.Reserved.TheVariants as w
 use Rattle.tokens.specs.declared.token.Kind.{Kind}
 use Rattle.tokens.specs.declared.token.Kind.TheVariants as k
 use Rattle.tokens.specs.declared.token.Operator.TheVariants as o
-use Rattle.tokens.specs.declared.token.Sign.{Sign}
-use Rattle.tokens.specs.declared.token.Sign.TheVariants as sign
-use Rattle.tokens.specs.Contexts.{after, same_word}
+use Rattle.lexical.specs.declared.number.Sign.{Sign}
+use Rattle.lexical.specs.declared.number.Sign.TheVariants as sign
+use Rattle.tokens.specs.Contexts.{after}
+use Rattle.tokens.specs.Reserved.{same_word}
 use Rattle.tokens.specs.Lexemes.{lexeme, plain, punctuation, comparison}
 use Rattle.tokens.specs.Literals.{numeric, nonnumeric}
 use Rattle.tokens.specs.Pictures.{picture}
@@ -28,21 +29,21 @@ abbrev in_line : ℕ → ℕ → List ℕ → List Character
 in_line line column [] = []
 in_line line column (byte ∷ more) = record { byte = byte; place = place line column } ∷ in_line line (column + 1) more
 
-abbrev kinds_of : Tokens → Result (List Kind) Fault
+abbrev kinds_of : Tokens → Result (List Kind) TokenFault
 kinds_of (Ok found) = Ok (map (λ t. t.kind) found)
 kinds_of (Err fault) = Err fault
 
 -- the kinds of the tokens of a text that stands in line 1 from column 12 on
-abbrev kinds : List ℕ → Result (List Kind) Fault
+abbrev kinds : List ℕ → Result (List Kind) TokenFault
 kinds text = kinds_of (tokens (in_line 1 12 text))
 
 abbrev number : Sign → List ℕ → List ℕ → Kind
 number sign whole decimals = k.Numeric (record { sign = sign; whole = whole; decimals = decimals })
 
-abbrev are : List Kind → Result (List Kind) Fault
+abbrev are : List Kind → Result (List Kind) TokenFault
 are found = Ok found
 
-abbrev refuses : FaultKind → ℕ → Result (List Kind) Fault
+abbrev refuses : FaultKind → ℕ → Result (List Kind) TokenFault
 refuses kind column = Err (record { kind = kind; place = place 1 column })
 
 -- DISPLAY "A" 12.50 'it''s' WITH NO ADVANCING

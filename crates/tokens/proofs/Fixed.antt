@@ -4,7 +4,7 @@ use Rattle.std.proofs.Math.Dec.{eqb-suc-zero}
 use Rattle.std.specs.Prelude.{nat_lt, slice_get}
 use Rattle.std.proofs.lemmas.Bool.{eqb-true, le-ltb}
 use Rattle.source_lines.specs.declared.lines.Character.{Character}
-use Rattle.source_lines.specs.declared.place.Place.{Place}
+use Rattle.lexical.specs.declared.place.Place.{Place}
 use Rattle.tokens.specs.declared.character.Class.{Class}
 use Rattle.tokens.specs.declared.character.Class.TheVariants as class
 use Rattle.tokens.specs.declared.context.Context.{Context}
@@ -14,8 +14,8 @@ use Rattle.tokens.specs.declared.token.Kind.{Kind}
 use Rattle.tokens.specs.declared.token.Kind.TheVariants as k
 use Rattle.tokens.specs.declared.token.Operator.{Operator}
 use Rattle.tokens.specs.declared.token.Operator.TheVariants as o
-use Rattle.tokens.specs.declared.token.Sign.{Sign}
-use Rattle.tokens.specs.declared.token.Sign.TheVariants.{Unsigned, Plus, Minus}
+use Rattle.lexical.specs.declared.number.Sign.{Sign}
+use Rattle.lexical.specs.declared.number.Sign.TheVariants.{Unsigned, Plus, Minus}
 use Rattle.tokens.specs.Characters.{is_in, bytes, bytes_in_upper_case, run, begins, ends, is_last, has}
 use Rattle.tokens.specs.Contexts.{awaits_picture, is_joined, may_be_is}
 use Rattle.tokens.specs.Kinds.{IsWord, IsNumericLiteral, IsNonnumericLiteral, begins_with, has_more_digits, IsPicture, IsFront, has_more}

@@ -5,11 +5,11 @@ use Rattle.std.proofs.lemmas.Bool.{eqb-true, ltb-false}
 use Rattle.std.proofs.lemmas.List.{take-append-drop, drop-drop}
 use Rattle.std.proofs.lemmas.List.Folds.{length-prefix_len}
 use Rattle.source_lines.specs.declared.lines.Character.{Character}
-use Rattle.source_lines.specs.declared.place.Place.{Place}
+use Rattle.lexical.specs.declared.place.Place.{Place}
 use Rattle.tokens.specs.declared.character.Class.{Class}
 use Rattle.tokens.specs.declared.character.Class.TheVariants as class
 use Rattle.tokens.specs.declared.context.Context.{Context}
-use Rattle.tokens.specs.declared.fault.Fault.{Fault}
+use Rattle.tokens.specs.declared.fault.TokenFault.{TokenFault}
 use Rattle.tokens.specs.declared.lexeme.Lexeme.{Lexeme}
 use Rattle.tokens.specs.declared.reserved.Reserved.{Reserved}
 use Rattle.tokens.specs.declared.reserved.Reserved.TheVariants as w
@@ -17,8 +17,8 @@ use Rattle.tokens.specs.declared.token.Kind.{Kind}
 use Rattle.tokens.specs.declared.token.Kind.TheVariants as k
 use Rattle.tokens.specs.declared.token.Operator.{Operator}
 use Rattle.tokens.specs.declared.token.Operator.TheVariants as o
-use Rattle.tokens.specs.declared.token.Sign.{Sign}
-use Rattle.tokens.specs.declared.token.Sign.TheVariants.{Unsigned, Plus, Minus}
+use Rattle.lexical.specs.declared.number.Sign.{Sign}
+use Rattle.lexical.specs.declared.number.Sign.TheVariants.{Unsigned, Plus, Minus}
 use Rattle.tokens.specs.Characters.{is_in, bytes, bytes_in_upper_case, run, begins, ends, is_last}
 use Rattle.tokens.specs.Contexts.{awaits_picture, is_joined, may_be_is}
 use Rattle.tokens.specs.Kinds.{IsWord, MayBegin, IsPicture, IsToken, IsFront, has_more}
@@ -33,7 +33,7 @@ use Rattle.tokens.proofs.Sizes.{run_le, run_begins, in_word, digit_first, some_d
 use Rattle.tokens.proofs.Texts.{other_mark, lone, first_is, zero_is}
 
 data Right (before : Context) (cs : List Character) : Outcome → Type 0 where
-  none : {fault : Fault} → Right before cs (Err fault)
+  none : {fault : TokenFault} → Right before cs (Err fault)
   some : (kind : Option Kind) (size : ℕ) → IsFront before kind (take size cs) (drop size cs) → Right before cs (Ok (record { kind = kind; size = size }))
 
 right_by : {before : Context} {cs : List Character} {x y : Outcome} (b : Bool) → (b ≡ true → Right before cs x) → (b ≡ false → Right before cs y) → Right before cs (cond b x y)

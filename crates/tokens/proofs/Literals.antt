@@ -7,7 +7,7 @@ use Rattle.std.proofs.lemmas.List.{map-append, drop-drop}
 use Rattle.source_lines.specs.declared.lines.Character.{Character}
 use Rattle.tokens.specs.declared.character.Class.{Class}
 use Rattle.tokens.specs.declared.character.Class.TheVariants as class
-use Rattle.tokens.specs.declared.token.Sign.{Sign}
+use Rattle.lexical.specs.declared.number.Sign.{Sign}
 use Rattle.tokens.specs.Characters.{is_in, bytes, run, begins}
 use Rattle.tokens.specs.Kinds.{begins_with, has_more_digits}
 use Rattle.tokens.specs.Literals.{quoted, after_point, point_size, sign_size}

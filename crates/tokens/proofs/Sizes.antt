@@ -3,17 +3,17 @@ use Rattle.std.proofs.Common.{IfOk, Result, ◌&&◌, not, ◌≡◌, ◌≤◌,
 use Rattle.std.proofs.Math.Dec.{eqb-suc-zero}
 use Rattle.std.proofs.lemmas.List.Sums.{prefix_len-le-length}
 use Rattle.source_lines.specs.declared.lines.Character.{Character}
-use Rattle.source_lines.specs.declared.place.Place.{Place}
+use Rattle.lexical.specs.declared.place.Place.{Place}
 use Rattle.tokens.specs.declared.character.Class.{Class}
 use Rattle.tokens.specs.declared.character.Class.TheVariants as class
 use Rattle.tokens.specs.declared.context.Context.{Context}
-use Rattle.tokens.specs.declared.fault.Fault.{Fault}
+use Rattle.tokens.specs.declared.fault.TokenFault.{TokenFault}
 use Rattle.tokens.specs.declared.lexeme.Lexeme.{Lexeme}
 use Rattle.tokens.specs.declared.token.Operator.{Operator}
 use Rattle.tokens.specs.declared.token.Operator.TheVariants as o
-use Rattle.tokens.specs.declared.fault.TokenFault.{TokenFault}
-use Rattle.tokens.specs.declared.token.Sign.{Sign}
-use Rattle.tokens.specs.declared.token.Sign.TheVariants.{Unsigned, Plus, Minus}
+use Rattle.tokens.specs.declared.fault.TokenError.{TokenError}
+use Rattle.lexical.specs.declared.number.Sign.{Sign}
+use Rattle.lexical.specs.declared.number.Sign.TheVariants.{Unsigned, Plus, Minus}
 use Rattle.tokens.specs.Characters.{is_in, run, begins}
 use Rattle.tokens.specs.Contexts.{awaits_picture, is_joined}
 use Rattle.answers.specs.Answer.{Gives}
@@ -25,7 +25,7 @@ use Rattle.tokens.specs.Words.{Outcome, word}
 
 -- what an outcome's size is between
 pub data Sized (n : ℕ) : Outcome → Type 0 where
-  none : {fault : Fault} → Sized n (Err fault)
+  none : {fault : TokenFault} → Sized n (Err fault)
   some : {one : Lexeme} → 1 ≤ one.size → one.size ≤ n → Sized n (Ok one)
 
 pub low : {n : ℕ} {one : Lexeme} → Sized n (Ok one) → 1 ≤ one.size
@@ -222,6 +222,6 @@ lexeme_sized before first more =
     sized_if (awaits_picture before && is_in class.Nonblank first.byte) (picture_sized before first.byte (first ∷ more) (omega arith)) (plain_sized before first more)
 
 -- what was returned has a size within
-pub returned_sized : {n : ℕ} {says : Outcome} (result : Result Lexeme TokenFault) → Sized n says → Gives (λ one. one) fault_of result says → IfOk result (λ one. (1 ≤ one.size) × (one.size ≤ n))
+pub returned_sized : {n : ℕ} {says : Outcome} (result : Result Lexeme TokenError) → Sized n says → Gives (λ one. one) fault_of result says → IfOk result (λ one. (1 ≤ one.size) × (one.size ≤ n))
 returned_sized (Ok one) s e = let t = subst (Sized _) e s in (low t, high t)
 returned_sized (Err error) s e = tt

@@ -5,10 +5,10 @@ use Rattle.std.proofs.lemmas.Bool.{eqb-true}
 use Rattle.std.proofs.lemmas.Slice.Eq.{bytes_eq-Decides}
 use lib.Chars.{codes}
 use Rattle.source_lines.specs.declared.lines.Character.{Character}
-use Rattle.source_lines.specs.declared.place.Place.{Place}
+use Rattle.lexical.specs.declared.place.Place.{Place}
 use Rattle.tokens.specs.declared.character.Class.TheVariants as class
 use Rattle.tokens.specs.declared.context.Context.{Context}
-use Rattle.tokens.specs.declared.fault.Fault.{Fault}
+use Rattle.tokens.specs.declared.fault.TokenFault.{TokenFault}
 use Rattle.tokens.specs.declared.lexeme.Lexeme.{Lexeme}
 use Rattle.tokens.specs.declared.reserved.Reserved.{Reserved}
 use Rattle.tokens.specs.declared.reserved.Reserved.TheVariants as w
@@ -16,8 +16,8 @@ use Rattle.tokens.specs.declared.token.Kind.{Kind}
 use Rattle.tokens.specs.declared.token.Kind.TheVariants as k
 use Rattle.tokens.specs.declared.token.Operator.{Operator}
 use Rattle.tokens.specs.declared.token.Operator.TheVariants as o
-use Rattle.tokens.specs.declared.token.Sign.{Sign}
-use Rattle.tokens.specs.declared.token.Sign.TheVariants.{Unsigned, Plus, Minus}
+use Rattle.lexical.specs.declared.number.Sign.{Sign}
+use Rattle.lexical.specs.declared.number.Sign.TheVariants.{Unsigned, Plus, Minus}
 use Rattle.tokens.specs.declared.token.Token.{Token}
 use Rattle.tokens.specs.Characters.{is_in, bytes, bytes_in_upper_case, run, begins, ends}
 use Rattle.tokens.specs.Contexts.{awaits_picture, is_joined, may_be_is}
@@ -35,7 +35,7 @@ use Rattle.tokens.proofs.Literals.{take_text, run_all, number_text, Closes, quot
 use Rattle.tokens.proofs.Sizes.{run_le}
 
 data Right (cs : List Character) : Outcome → Type 0 where
-  none : {fault : Fault} → Right cs (Err fault)
+  none : {fault : TokenFault} → Right cs (Err fault)
   some : (kind : Option Kind) (size : ℕ) → Front kind size cs → Right cs (Ok (record { kind = kind; size = size }))
 
 right_if : {cs : List Character} {x y : Outcome} (b : Bool) → Right cs x → Right cs y → Right cs (cond b x y)

@@ -1,13 +1,12 @@
 -- What stands before a token, as far as it decides what the token is.
 use Rattle.std.specs.Prelude.{Bool, true, false, ◌||◌, if◌then◌else◌, Option, None, Some}
-use denote.Enum.Bare.{sameb}
-use Rattle.tokens.specs.contracts.reserved.Reserved.{the_type}
 use Rattle.tokens.specs.declared.context.Context.{Context}
 use Rattle.tokens.specs.declared.context.Context.TheVariants as context
 use Rattle.tokens.specs.declared.reserved.Reserved.{Reserved}
 use Rattle.tokens.specs.declared.reserved.Reserved.TheVariants as w
 use Rattle.tokens.specs.declared.token.Kind.{Kind}
 use Rattle.tokens.specs.declared.token.Kind.TheVariants as k
+use Rattle.tokens.specs.Reserved.{same_word}
 
 abbrev pub is_joined : Context → Bool
 is_joined context.Joined = true
@@ -21,9 +20,6 @@ awaits_picture _ = false
 abbrev pub may_be_is : Context → Bool
 may_be_is context.AfterPicture = true
 may_be_is _ = false
-
-unfoldable pub same_word : Reserved → Reserved → Bool
-same_word = sameb the_type
 
 abbrev pub after_reserved : Context → Reserved → Context
 after_reserved before word =

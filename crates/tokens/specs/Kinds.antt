@@ -7,11 +7,11 @@ use Rattle.tokens.specs.declared.context.Context.{Context}
 use Rattle.tokens.specs.declared.reserved.Reserved.TheVariants as w
 use Rattle.tokens.specs.declared.token.Kind.{Kind}
 use Rattle.tokens.specs.declared.token.Kind.TheVariants as k
-use Rattle.tokens.specs.declared.token.NumericLiteral.{NumericLiteral}
+use Rattle.lexical.specs.declared.number.NumericLiteral.{NumericLiteral}
 use Rattle.tokens.specs.declared.token.Operator.{Operator}
 use Rattle.tokens.specs.declared.token.Operator.TheVariants as o
-use Rattle.tokens.specs.declared.token.Sign.{Sign}
-use Rattle.tokens.specs.declared.token.Sign.TheVariants.{Unsigned, Plus, Minus}
+use Rattle.lexical.specs.declared.number.Sign.{Sign}
+use Rattle.lexical.specs.declared.number.Sign.TheVariants.{Unsigned, Plus, Minus}
 use Rattle.tokens.specs.Characters.{bytes, bytes_in_upper_case, begins, ends, has}
 use Rattle.tokens.specs.Contexts.{is_joined, awaits_picture, may_be_is}
 use Rattle.tokens.specs.Lexemes.{is_equal_sign, begins_word}

@@ -1,15 +1,15 @@
 -- The token or separator at the front of some characters.
 use Rattle.std.specs.Prelude.{ℕ, Bool, false, not, ◌&&◌, if◌then◌else◌, ◌==◌, List, [], ◌∷◌, take, Option, None, Some, Ok}
 use Rattle.source_lines.specs.declared.lines.Character.{Character}
-use Rattle.source_lines.specs.declared.place.Place.{Place}
+use Rattle.lexical.specs.declared.place.Place.{Place}
 use Rattle.tokens.specs.declared.character.Class.TheVariants as class
 use Rattle.tokens.specs.declared.fault.FaultKind.TheVariants as fault
 use Rattle.tokens.specs.declared.context.Context.{Context}
 use Rattle.tokens.specs.declared.token.Kind.TheVariants as k
 use Rattle.tokens.specs.declared.token.Operator.{Operator}
 use Rattle.tokens.specs.declared.token.Operator.TheVariants as o
-use Rattle.tokens.specs.declared.token.Sign.{Sign}
-use Rattle.tokens.specs.declared.token.Sign.TheVariants as sign
+use Rattle.lexical.specs.declared.number.Sign.{Sign}
+use Rattle.lexical.specs.declared.number.Sign.TheVariants as sign
 use Rattle.tokens.specs.Characters.{is_in, run, begins, has}
 use Rattle.tokens.specs.Literals.{begins_number, numeric, nonnumeric}
 use Rattle.tokens.specs.Contexts.{is_joined, awaits_picture}

@@ -2,6 +2,7 @@ pub mod Faults
 pub mod Characters
 pub mod Spelling
 pub mod Words
+pub mod Reserved
 pub mod Contexts
 pub mod Literals
 pub mod Pictures

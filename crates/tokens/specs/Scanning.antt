@@ -1,8 +1,8 @@
 -- The tokens of a text, as a function on its characters.
 use Rattle.std.specs.Prelude.{ℕ, zero, suc, ◌+◌, ◌-◌, List, [], ◌∷◌, ◌++◌, Option, None, Some, Result, Ok, Err}
 use Rattle.source_lines.specs.declared.lines.Character.{Character}
-use Rattle.source_lines.specs.declared.place.Place.{Place}
-use Rattle.tokens.specs.declared.fault.Fault.{Fault}
+use Rattle.lexical.specs.declared.place.Place.{Place}
+use Rattle.tokens.specs.declared.fault.TokenFault.{TokenFault}
 use Rattle.tokens.specs.declared.context.Context.{Context}
 use Rattle.tokens.specs.declared.context.Context.TheVariants as context
 use Rattle.tokens.specs.declared.lexeme.Lexeme.{Lexeme}
@@ -14,7 +14,7 @@ use Rattle.tokens.specs.Contexts.{after}
 use Rattle.tokens.specs.Lexemes.{lexeme}
 
 abbrev pub Tokens : Type 0
-Tokens = Result (List Token) Fault
+Tokens = Result (List Token) TokenFault
 
 -- the token that something at the front is; a separator is none
 abbrev pub token_of : Option Kind → Span → Place → List Token

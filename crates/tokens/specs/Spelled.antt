@@ -5,11 +5,11 @@ use Rattle.tokens.specs.declared.character.Class.{Class}
 use Rattle.tokens.specs.declared.character.Class.TheVariants as class
 use Rattle.tokens.specs.declared.token.Kind.{Kind}
 use Rattle.tokens.specs.declared.token.Kind.TheVariants as k
-use Rattle.tokens.specs.declared.token.NumericLiteral.{NumericLiteral}
+use Rattle.lexical.specs.declared.number.NumericLiteral.{NumericLiteral}
 use Rattle.tokens.specs.declared.token.Operator.{Operator}
 use Rattle.tokens.specs.declared.token.Operator.TheVariants as o
-use Rattle.tokens.specs.declared.token.Sign.{Sign}
-use Rattle.tokens.specs.declared.token.Sign.TheVariants.{Unsigned, Plus, Minus}
+use Rattle.lexical.specs.declared.number.Sign.{Sign}
+use Rattle.lexical.specs.declared.number.Sign.TheVariants.{Unsigned, Plus, Minus}
 use Rattle.tokens.specs.declared.token.Token.{Token}
 use Rattle.tokens.specs.Characters.{is_in, bytes, bytes_in_upper_case, begins}
 use Rattle.tokens.specs.Spelling.{reserved}

@@ -1,7 +1,7 @@
 -- Which tokens some characters have, as a relation.
 use Rattle.std.specs.Prelude.{◌≡◌, ◌<◌, ◌≤◌, ℕ, zero, suc, ◌+◌, List, [], ◌∷◌, ◌++◌, length, Option, None, Some}
 use Rattle.source_lines.specs.declared.lines.Character.{Character}
-use Rattle.source_lines.specs.declared.place.Place.{Place}
+use Rattle.lexical.specs.declared.place.Place.{Place}
 use Rattle.tokens.specs.declared.context.Context.{Context}
 use Rattle.tokens.specs.declared.context.Context.TheVariants as context
 use Rattle.tokens.specs.declared.token.Kind.{Kind}

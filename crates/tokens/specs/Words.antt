@@ -2,9 +2,9 @@
 -- more than 30 characters, or with a hyphen last, is refused whole: own choice.
 use Rattle.std.specs.Prelude.{ℕ, ◌||◌, if◌then◌else◌, nat_lt, List, take, Option, None, Some, Result, Ok, Err}
 use Rattle.source_lines.specs.declared.lines.Character.{Character}
-use Rattle.source_lines.specs.declared.place.Place.{Place}
+use Rattle.lexical.specs.declared.place.Place.{Place}
 use Rattle.tokens.specs.declared.character.Class.TheVariants as class
-use Rattle.tokens.specs.declared.fault.Fault.{Fault}
+use Rattle.tokens.specs.declared.fault.TokenFault.{TokenFault}
 use Rattle.tokens.specs.declared.fault.FaultKind.{FaultKind}
 use Rattle.tokens.specs.declared.fault.FaultKind.TheVariants as fault
 use Rattle.tokens.specs.declared.lexeme.Lexeme.{Lexeme}
@@ -16,7 +16,7 @@ use Rattle.tokens.specs.Spelling.{reserved}
 
 -- a token or a separator at the front of some characters, or why there is none
 abbrev pub Outcome : Type 0
-Outcome = Result Lexeme Fault
+Outcome = Result Lexeme TokenFault
 
 abbrev pub refused : FaultKind → Place → Outcome
 refused kind place = Err (record { kind = kind; place = place })

@@ -5,7 +5,7 @@ ghost use Rattle.answers.specs.Answer.{Gives};
 ghost use Rattle.tokens.specs.Characters as spec;
 ghost use Rattle.tokens.specs.Faults.{fault_of};
 
-use crate::fault::TokenFault;
+use crate::fault::TokenError;
 use source_lines::Character;
 use sqlite_items::Items;
 use std::alloc::Global;
@@ -86,13 +86,13 @@ pub fn has(class: Class, mut characters: &[Character]) -> bool
     false
 }
 
-pub fn bytes(alloc: Global, characters: &[Character]) -> Result<Vec<u8>, TokenFault>
+pub fn bytes(alloc: Global, characters: &[Character]) -> Result<Vec<u8>, TokenError>
     ensures { Gives (λ text. text.items) fault_of result (Ok (spec.bytes characters.now)) }
 {
     Ok(characters.iter().map(|c| c.byte).collect(alloc)?)
 }
 
-pub fn bytes_in_upper_case(alloc: Global, characters: &[Character]) -> Result<Vec<u8>, TokenFault>
+pub fn bytes_in_upper_case(alloc: Global, characters: &[Character]) -> Result<Vec<u8>, TokenError>
     ensures { Gives (λ text. text.items) fault_of result (Ok (spec.bytes_in_upper_case characters.now)) }
 {
     Ok(

@@ -3,6 +3,7 @@
 ghost use Rattle.std.specs.Prelude.{◌≡◌};
 ghost use Rattle.std.specs.Option.{option_copied};
 ghost use Rattle.tokens.specs.Contexts as spec;
+ghost use Rattle.tokens.specs.Reserved.{same_word};
 
 use crate::reserved::Reserved;
 use crate::token::Kind;
@@ -19,9 +20,9 @@ pub enum Context {
     AfterPictureIs,
 }
 
-#[tactic(auto, unfolding(crate::specs::Contexts::same_word))]
+#[tactic(auto, unfolding(crate::specs::Reserved::same_word))]
 fn is_word(one: Reserved, other: Reserved) -> bool
-    ensures { result ≡ spec.same_word one other }
+    ensures { result ≡ same_word one other }
 {
     one == other
 }

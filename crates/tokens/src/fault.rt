@@ -3,7 +3,7 @@
 ghost use Rattle.std.specs.Prelude.{◌≡◌};
 ghost use Rattle.tokens.specs.Faults.{number_of};
 
-use source_lines::Place;
+use lexical::Place;
 use std::alloc::{AllocError, AllocFailed};
 use thiserror::Error;
 
@@ -35,38 +35,38 @@ impl FaultKind {
 
 /// A fault and where it stands.
 #[derive(Clone, Copy, Debug, PartialEq, Eq)]
-pub struct Fault {
+pub struct TokenFault {
     pub kind: FaultKind,
     pub place: Place,
 }
 
 /// Why characters make no tokens.
 #[derive(Clone, Copy, Debug, PartialEq, Eq, Error)]
-pub enum TokenFault {
+pub enum TokenError {
     #[error("out of memory")]
     Memory,
     #[error("the characters make no token")]
-    Refused(Fault),
+    Refused(TokenFault),
 }
 
-impl From<AllocError> for TokenFault {
+impl From<AllocError> for TokenError {
     ghost use Rattle.std.specs.Prelude.{◌≡◌};
-    ghost use Rattle.tokens.specs.declared.fault.TokenFault.TheVariants.{Memory};
+    ghost use Rattle.tokens.specs.declared.fault.TokenError.TheVariants.{Memory};
 
     ghost from_gives = { λ _ e. e ≡ Memory };
 
-    fn from(_: AllocError) -> TokenFault {
-        TokenFault::Memory
+    fn from(_: AllocError) -> TokenError {
+        TokenError::Memory
     }
 }
 
-impl<T: Drop> From<AllocFailed<T>> for TokenFault {
+impl<T: Drop> From<AllocFailed<T>> for TokenError {
     ghost use Rattle.std.specs.Prelude.{◌≡◌};
-    ghost use Rattle.tokens.specs.declared.fault.TokenFault.TheVariants.{Memory};
+    ghost use Rattle.tokens.specs.declared.fault.TokenError.TheVariants.{Memory};
 
     ghost from_gives = { λ _ e. e ≡ Memory };
 
-    fn from(_: AllocFailed<T>) -> TokenFault {
-        TokenFault::Memory
+    fn from(_: AllocFailed<T>) -> TokenError {
+        TokenError::Memory
     }
 }

@@ -7,12 +7,13 @@ ghost use Rattle.tokens.specs.Lexemes as spec;
 
 use crate::character::{Class, begins, has, is_in, run};
 use crate::context::Context;
-use crate::fault::{FaultKind, TokenFault};
+use crate::fault::{FaultKind, TokenError};
 use crate::literal::{begins_number, nonnumeric, numeric};
 use crate::picture::picture;
-use crate::token::{Kind, Operator, Sign};
+use crate::token::{Kind, Operator};
 use crate::word::{refused, word};
-use source_lines::{Character, Place};
+use lexical::{Place, Sign};
+use source_lines::Character;
 use std::alloc::Global;
 
 /// A token's kind, or none for a separator, and how many characters it has.
@@ -46,7 +47,7 @@ fn comparison(
     alone: Operator,
     with_equal: Operator,
     more: &[Character],
-) -> Result<Lexeme, TokenFault>
+) -> Result<Lexeme, TokenError>
     ensures { Gives (λ lexeme. lexeme) fault_of result (spec.comparison alone with_equal more.now) }
 {
     if is_equal_sign(more) {
@@ -56,7 +57,7 @@ fn comparison(
     }
 }
 
-fn period(place: Place, more: &[Character]) -> Result<Lexeme, TokenFault>
+fn period(place: Place, more: &[Character]) -> Result<Lexeme, TokenError>
     ensures { Gives (λ lexeme. lexeme) fault_of result (spec.period place more.now) }
 {
     if begins(Class::Nonblank, more) {
@@ -68,7 +69,7 @@ fn period(place: Place, more: &[Character]) -> Result<Lexeme, TokenFault>
 
 /// A period, a parenthesis or an operator.
 #[tactic(auto, unfolding(crate::specs::Lexemes::punctuation))]
-fn punctuation(place: Place, first: u8, more: &[Character]) -> Result<Lexeme, TokenFault>
+fn punctuation(place: Place, first: u8, more: &[Character]) -> Result<Lexeme, TokenError>
     ensures { Gives (λ lexeme. lexeme) fault_of result (spec.punctuation place first more.now) }
 {
     match first {
@@ -96,7 +97,7 @@ fn word_or_number(
     alloc: Global,
     place: Place,
     characters: &[Character],
-) -> Result<Lexeme, TokenFault>
+) -> Result<Lexeme, TokenError>
     ensures { Gives (λ lexeme. lexeme) fault_of result (spec.word_or_number place characters.now) }
 {
     if begins_word(characters) {
@@ -128,7 +129,7 @@ fn plain(
     first: Character,
     characters: &[Character],
     more: &[Character],
-) -> Result<Lexeme, TokenFault>
+) -> Result<Lexeme, TokenError>
     requires { characters.now ≡ first ∷ more.now }
     ensures { Gives (λ lexeme. lexeme) fault_of result (spec.plain before first more.now) }
 {
@@ -159,7 +160,7 @@ pub fn next_lexeme(
     first: Character,
     characters: &[Character],
     more: &[Character],
-) -> Result<Lexeme, TokenFault>
+) -> Result<Lexeme, TokenError>
     requires { characters.now ≡ first ∷ more.now }
     ensures value { Gives (λ lexeme. lexeme) fault_of result (spec.lexeme before first more.now) }
     ensures within { IfOk result (λ lexeme. (1 ≤ lexeme.size) × (lexeme.size ≤ length characters.now)) }

@@ -14,8 +14,9 @@ mod spelling;
 pub mod token;
 mod word;
 
-pub use fault::{Fault, FaultKind, TokenFault};
+pub use fault::{FaultKind, TokenError, TokenFault};
 pub use law::laws;
+pub use lexical::{NumericLiteral, Place, Sign};
 pub use reserved::Reserved;
 pub use scanner::scan;
-pub use token::{Kind, NumericLiteral, Operator, Sign, Span, Token};
+pub use token::{Kind, Operator, Span, Token};

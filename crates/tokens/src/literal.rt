@@ -6,11 +6,12 @@ ghost use Rattle.tokens.specs.Faults.{fault_of};
 ghost use Rattle.tokens.specs.Literals as spec;
 
 use crate::character::{Class, begins, bytes, run};
-use crate::fault::{FaultKind, TokenFault};
+use crate::fault::{FaultKind, TokenError};
 use crate::lexeme::{Lexeme, token};
-use crate::token::{Kind, NumericLiteral, Sign};
+use crate::token::Kind;
 use crate::word::refused;
-use source_lines::{Character, Place};
+use lexical::{NumericLiteral, Place, Sign};
+use source_lines::Character;
 use sqlite_items::Items;
 use std::alloc::Global;
 
@@ -58,7 +59,7 @@ pub fn numeric(
     place: Place,
     sign: Sign,
     characters: &[Character],
-) -> Result<Lexeme, TokenFault>
+) -> Result<Lexeme, TokenError>
     ensures { Gives (λ lexeme. lexeme) fault_of result (spec.numeric place sign characters.now) }
 {
     let whole = run(Class::Digit, characters);
@@ -82,7 +83,7 @@ fn quoted(
     alloc: Global,
     mark: u8,
     characters: &[Character],
-) -> Result<Option<(Items<u8>, usize)>, TokenFault>
+) -> Result<Option<(Items<u8>, usize)>, TokenError>
     ensures { Gives (λ text. text) fault_of result (Ok (spec.quoted mark false [] 1 characters.now)) }
 {
     let mut text = Vec::new(alloc);
@@ -113,7 +114,7 @@ pub fn nonnumeric(
     place: Place,
     mark: u8,
     characters: &[Character],
-) -> Result<Lexeme, TokenFault>
+) -> Result<Lexeme, TokenError>
     ensures { Gives (λ lexeme. lexeme) fault_of result (spec.nonnumeric place mark characters.now) }
 {
     match quoted(alloc, mark, characters)? {

@@ -7,7 +7,7 @@ ghost use Rattle.tokens.specs.Pictures as spec;
 
 use crate::character::{Class, bytes, ends, run};
 use crate::context::Context;
-use crate::fault::TokenFault;
+use crate::fault::TokenError;
 use crate::lexeme::{Lexeme, token};
 use crate::reserved::Reserved;
 use crate::token::Kind;
@@ -41,7 +41,7 @@ pub fn picture(
     before: Context,
     first: u8,
     characters: &[Character],
-) -> Result<Lexeme, TokenFault>
+) -> Result<Lexeme, TokenError>
     ensures { Gives (λ lexeme. lexeme) fault_of result (Ok (spec.picture before first characters.now)) }
 {
     let size = picture_size(characters);

@@ -6,10 +6,11 @@ ghost use Rattle.tokens.specs.Faults.{fault_of};
 ghost use Rattle.tokens.specs.Scanning as spec;
 
 use crate::context::Context;
-use crate::fault::TokenFault;
+use crate::fault::TokenError;
 use crate::lexeme::{Lexeme, next_lexeme};
 use crate::token::{Kind, Span, Token};
-use source_lines::{Lines, Place};
+use lexical::Place;
+use source_lines::Lines;
 use sqlite_items::Items;
 use std::alloc::Global;
 
@@ -19,7 +20,7 @@ fn add(
     kind: Option<Kind>,
     span: Span,
     place: Place,
-) -> Result<(), TokenFault>
+) -> Result<(), TokenError>
     ensures { Gives (λ _. tokens.new) fault_of result (Ok (tokens.old ++ spec.token_of kind span place)) }
 {
     match kind {
@@ -33,7 +34,7 @@ fn add(
 
 /// The tokens of a source text, in order.
 #[tactic(auto, unfolding(crate::specs::Scanning::tokens))]
-pub fn scan(alloc: Global, lines: &Lines) -> Result<Items<Token>, TokenFault>
+pub fn scan(alloc: Global, lines: &Lines) -> Result<Items<Token>, TokenError>
     ensures { Gives (λ tokens. tokens) fault_of result (spec.tokens lines.now) }
 {
     let mut tokens = Items::new(alloc);

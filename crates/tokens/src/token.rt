@@ -1,24 +1,8 @@
 //! Tokens: the words, literals, pictures, operators and separators of a source text.
 
 use crate::reserved::Reserved;
-use source_lines::Place;
+use lexical::{NumericLiteral, Place};
 use sqlite_items::Items;
-
-/// The sign that stands directly before a numeric literal.
-#[derive(Clone, Copy, Debug, PartialEq, Eq)]
-pub enum Sign {
-    Unsigned,
-    Plus,
-    Minus,
-}
-
-/// A numeric literal as it was written: ASCII digits before and after the point. Without a point there are no decimals.
-#[derive(Debug, Drop)]
-pub struct NumericLiteral {
-    pub sign: Sign,
-    pub whole: Items<u8>,
-    pub decimals: Items<u8>,
-}
 
 /// An arithmetic or relational operator.
 #[derive(Clone, Copy, Debug, PartialEq, Eq)]

@@ -6,20 +6,21 @@ ghost use Rattle.tokens.specs.Faults.{fault_of};
 ghost use Rattle.tokens.specs.Words as spec;
 
 use crate::character::{Class, bytes_in_upper_case, ends, run};
-use crate::fault::{Fault, FaultKind, TokenFault};
+use crate::fault::{FaultKind, TokenError, TokenFault};
 use crate::lexeme::{Lexeme, token};
 use crate::spelling::reserved;
 use crate::token::Kind;
-use source_lines::{Character, Place};
+use lexical::Place;
+use source_lines::Character;
 use sqlite_items::Items;
 use std::alloc::Global;
 
 const MAX_WORD: usize = 30;
 
-pub fn refused(kind: FaultKind, place: Place) -> TokenFault
-    ensures { result ≡ TokenFault.Refused (record { kind = kind; place = place }) }
+pub fn refused(kind: FaultKind, place: Place) -> TokenError
+    ensures { result ≡ TokenError.Refused (record { kind = kind; place = place }) }
 {
-    TokenFault::Refused(Fault { kind, place })
+    TokenError::Refused(TokenFault { kind, place })
 }
 
 /// The kind of a word in upper case.
@@ -35,7 +36,7 @@ fn kind_of_word(text: Vec<u8>) -> Kind
 
 /// The word that the run of letters, digits and hyphens at the front is.
 #[tactic(auto, unfolding(crate::specs::Words::word))]
-pub fn word(alloc: Global, place: Place, characters: &[Character]) -> Result<Lexeme, TokenFault>
+pub fn word(alloc: Global, place: Place, characters: &[Character]) -> Result<Lexeme, TokenError>
     ensures { Gives (λ lexeme. lexeme) fault_of result (spec.word place characters.now) }
 {
     let size = run(Class::InWord, characters);

@@ -6,12 +6,12 @@ use Rattle.tokens.specs.declared.reserved.Reserved.TheVariants as w
 use Rattle.tokens.specs.declared.token.Kind.{Kind}
 use Rattle.tokens.specs.declared.token.Kind.TheVariants as k
 use Rattle.tokens.specs.declared.token.Token.{Token}
-use Rattle.source_tree.specs.declared.place.Place.{Place}
+use Rattle.lexical.specs.declared.place.Place.{Place}
 use Rattle.source_tree.specs.declared.literal.LiteralValue.{LiteralValue}
 use Rattle.source_tree.specs.declared.literal.Literal.{Literal}
 use Rattle.grammar.specs.declared.fault.Halt.{Halt}
 use Rattle.grammar.specs.Parts as parts
-use Rattle.grammar.specs.Parts.{telling, begins_telling, name_in, named_by, place_in, begins_name}
+use Rattle.grammar.specs.Parts.{telling, begins_telling, name_in, named_by, begins_name}
 use Rattle.grammar.specs.Reading as read
 use Rattle.grammar.specs.Reading.{Outcome, Parser, begins_word, is_kind, one_token}
 use Rattle.grammar.proofs.Outcomes.{Answers, Reached, step, unstep, value, last}
@@ -58,7 +58,7 @@ plain_is_no_all x i rest (first, is, tell) = ap (begins_word w.All) is ∙ go (i
   where
     go : (b : Bool) → is_kind w.All first.kind ≡ b → is_kind w.All first.kind ≡ false
     go false e = e
-    go true e = let v = value_is (value_by first.kind) (place_in first) x tell in absurd (none_not (sym (no_value first.kind (kind_is w.All first.kind e)) ∙ v.1))
+    go true e = let v = value_is (value_by first.kind) first.place x tell in absurd (none_not (sym (no_value first.kind (kind_is w.All first.kind e)) ∙ v.1))
 
 pub literal_sound : Sound g.literal g.literal_reader
 unfolding g.literal_reader
@@ -91,7 +91,7 @@ no_name kind place e = ap (λ x. named_by x place) e
 
 pub literal_is_no_name : (x : Literal) (i rest : List Token) → g.literal x i rest → begins_name i ≡ false
 literal_is_no_name x i rest (inl (first, is, tell)) =
-    let v = value_is (value_by first.kind) (place_in first) x tell in
-    ap begins_name is ∙ ap parts.is_told (value_no_name first.kind (place_in first) v.0 v.1)
+    let v = value_is (value_by first.kind) first.place x tell in
+    ap begins_name is ∙ ap parts.is_told (value_no_name first.kind first.place v.0 v.1)
 literal_is_no_name x i rest (inr (bytes, is, (i1, at, (i2, (first, next, kind), told)))) =
-    ap begins_name (at.0 ∙ next) ∙ ap parts.is_told (no_name first.kind (place_in first) kind)
+    ap begins_name (at.0 ∙ next) ∙ ap parts.is_told (no_name first.kind first.place kind)

@@ -5,11 +5,11 @@ use Rattle.tokens.specs.declared.reserved.Reserved.TheVariants as w
 use Rattle.tokens.specs.declared.token.Kind.{Kind}
 use Rattle.tokens.specs.declared.token.Kind.TheVariants as k
 use Rattle.tokens.specs.declared.token.Token.{Token}
-use Rattle.source_tree.specs.declared.place.Place.{Place}
+use Rattle.lexical.specs.declared.place.Place.{Place}
 use Rattle.source_tree.specs.declared.name.Name.{Name}
 use Rattle.source_tree.specs.declared.literal.Integer.{Integer}
 use Rattle.source_tree.specs.declared.literal.LiteralValue.{LiteralValue}
-use Rattle.grammar.specs.Parts.{telling, begins_telling, is_told, named_by, name_in, name, begins_name, place_in}
+use Rattle.grammar.specs.Parts.{telling, begins_telling, is_told, named_by, name_in, name, begins_name}
 use Rattle.expressions.specs.declared.marks.PlusOrMinus.{PlusOrMinus}
 use Rattle.expressions.specs.Marks.{left_of, left_in, sign_by, sign_in}
 use Rattle.expressions.specs.Subscripts.{integer_by, integer_in}
@@ -37,7 +37,7 @@ name_no_integer k.RightParenthesis place given e = cc
 name_no_integer (k.Operator operator) place given e = cc
 
 pub name_integer : Apart name_in integer_in
-name_integer first a e = name_no_integer first.kind (place_in first) a e
+name_integer first a e = name_no_integer first.kind first.place a e
 
 name_no_left : (kind : Kind) (place : Place) (given : Name) → named_by kind place ≡ Some given → left_of kind ≡ None
 name_no_left (k.Reserved _) place given e = cc
@@ -51,7 +51,7 @@ name_no_left k.RightParenthesis place given e = cc
 name_no_left (k.Operator operator) place given e = cc
 
 pub name_left : Apart name_in left_in
-name_left first a e = name_no_left first.kind (place_in first) a e
+name_left first a e = name_no_left first.kind first.place a e
 
 name_no_sign : (kind : Kind) (place : Place) (given : Name) → named_by kind place ≡ Some given → sign_by kind ≡ None
 name_no_sign (k.Reserved _) place given e = cc
@@ -65,7 +65,7 @@ name_no_sign k.RightParenthesis place given e = cc
 name_no_sign (k.Operator operator) place given e = cc
 
 pub name_sign : Apart name_in sign_in
-name_sign first a e = name_no_sign first.kind (place_in first) a e
+name_sign first a e = name_no_sign first.kind first.place a e
 
 -- ---- signs
 

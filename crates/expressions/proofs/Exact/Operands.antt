@@ -3,14 +3,14 @@ use Rattle.std.proofs.Common.{◌≡◌, ◌<◌, Bool, true, false, List, lengt
 use Rattle.std.specs.Prelude.{◌||◌, if◌then◌else◌, Ok}
 use Rattle.std.specs.Option.{option_map}
 use Rattle.tokens.specs.declared.token.Token.{Token}
-use Rattle.source_tree.specs.declared.place.Place.{Place}
+use Rattle.lexical.specs.declared.place.Place.{Place}
 use Rattle.source_tree.specs.declared.literal.LiteralValue.{LiteralValue}
 use Rattle.source_tree.specs.declared.literal.Literal.{Literal}
 use Rattle.source_tree.specs.declared.expression.Operand.{Operand}
 use Rattle.source_tree.specs.declared.expression.Operand.TheVariants as operand_as
 use Rattle.grammar.specs.declared.fault.Halt.{Halt}
 use Rattle.grammar.specs.Parts as parts
-use Rattle.grammar.specs.Parts.{telling, begins_telling, begins_name, name_in, place_in}
+use Rattle.grammar.specs.Parts.{telling, begins_telling, begins_name, name_in}
 use Rattle.grammar.specs.Reading.{Outcome, Parser, one_token}
 use Rattle.grammar.proofs.Outcomes.{Answers, Reached, step, unstep, value, last}
 use Rattle.grammar.proofs.Lists.{Sound, Complete, Shrinks, Starts}
@@ -69,13 +69,13 @@ value_is None place x e = cc
 value_is (Some v) place x e = (v, refl)
 
 number_name : Apart number_literal_in name_in
-number_name first x tell = let v = value_is (number_value_by first.kind) (place_in first) x tell in number_no_name first.kind (place_in first) v.0 v.1
+number_name first x tell = let v = value_is (number_value_by first.kind) first.place x tell in number_no_name first.kind first.place v.0 v.1
 
 number_left : Apart number_literal_in left_in
-number_left first x tell = let v = value_is (number_value_by first.kind) (place_in first) x tell in number_no_left first.kind v.0 v.1
+number_left first x tell = let v = value_is (number_value_by first.kind) first.place x tell in number_no_left first.kind v.0 v.1
 
 number_sign : Apart number_literal_in sign_in
-number_sign first x tell = let v = value_is (number_value_by first.kind) (place_in first) x tell in number_no_sign first.kind v.0 v.1
+number_sign first x tell = let v = value_is (number_value_by first.kind) first.place x tell in number_no_sign first.kind v.0 v.1
 
 number_literal_sound : Sound g.number_operand g.number_literal_reader
 unfolding g.number_literal_reader

@@ -14,7 +14,8 @@ use Rattle.grammar.specs.declared.fault.Halt.{Halt}
 use Rattle.grammar.specs.Parts as parts
 use Rattle.grammar.specs.Parts.{tested, telling, begins_telling, name_in}
 use Rattle.grammar.specs.Reading as read
-use Rattle.grammar.specs.Reading.{Outcome, Parser, ◌>>◌, same_word, begins_word, one_token}
+use Rattle.tokens.specs.Reserved.{same_word}
+use Rattle.grammar.specs.Reading.{Outcome, Parser, ◌>>◌, begins_word, one_token}
 use Rattle.grammar.proofs.Outcomes.{Answers, Reached, step, unstep, value, after, last}
 use Rattle.grammar.proofs.Looking.{Tests, tests_tested, word_begins, begins_no_other}
 use Rattle.grammar.proofs.Lists as lists

@@ -1,5 +1,5 @@
 -- CONTINUE: what is read is spelled, and what is spelled is read.
-use Rattle.std.proofs.Common.{◌≡◌, ◌<◌, List, length, Some, refl, subst}
+use Rattle.std.proofs.Common.{◌≡◌, ◌<◌, ℕ, List, length, Some, refl, subst}
 use Rattle.tokens.specs.declared.reserved.Reserved.TheVariants as w
 use Rattle.tokens.specs.declared.token.Token.{Token}
 use Rattle.source_tree.specs.declared.ending.Ending.TheVariants as ending
@@ -23,11 +23,11 @@ continuing_shrinks i rest s = word_shrinks w.Continue i rest s
 pub continuing_stands : (i rest : List Token) → continuing i rest → verb_at i ≡ Some v.Continue
 continuing_stands i rest s = stands w.Continue i rest s
 
-pub continuing_complete : {Allowed : Halt → Type 0} (i rest : List Token) → continuing i rest → Answers Allowed (continuing_reader i) (verb.Ending ending.Continue (record {})) rest
+pub continuing_complete : {Allowed : Halt → Type 0} (i rest : List Token) → continuing i rest → Answers Allowed (continuing_reader i) (verb.Ending ending.Continue) rest
 unfolding continuing_reader
 continuing_complete i rest s = step (read.expect w.Continue i) _ (word_complete w.Continue tt i rest s) (Reached refl)
 
-pub continuing_sound : (p : Statement → Part) → Sound (g.verb_line p) continuing_reader
+pub continuing_sound : (depth : ℕ) (p : Statement → Part) → Sound (g.verb_line depth p) continuing_reader
 unfolding continuing_reader
-continuing_sound p x i rest e =
-    unstep (read.expect w.Continue i) _ e (λ u i1 is1 e1. subst (λ y. g.verb_line p y i rest) (value e1) (word_sound w.Continue u i rest (last is1 e1)))
+continuing_sound depth p x i rest e =
+    unstep (read.expect w.Continue i) _ e (λ u i1 is1 e1. subst (λ y. g.verb_line depth p y i rest) (value e1) (word_sound w.Continue u i rest (last is1 e1)))

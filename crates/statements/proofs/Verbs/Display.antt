@@ -1,5 +1,5 @@
 -- DISPLAY: what is read is spelled, and what is spelled is read.
-use Rattle.std.proofs.Common.{◌≡◌, ◌<◌, ◌≤◌, Bool, List, length, Some, refl, ap, ◌∙◌, subst, arith}
+use Rattle.std.proofs.Common.{◌≡◌, ◌<◌, ℕ, ◌≤◌, Bool, List, length, Some, refl, ap, ◌∙◌, subst, arith}
 use Rattle.tokens.specs.declared.reserved.Reserved.TheVariants as w
 use Rattle.tokens.specs.declared.token.Token.{Token}
 use Rattle.source_tree.specs.declared.literal.Literal.{Literal}
@@ -64,11 +64,11 @@ module _ (operands : List Literal) (advancing : Bool) where
       (step (read.several read.literal begins_literal i1) _ (operands_complete operands i1 i2 shown)
       (step (read.left_out after_no_advancing i2) _ (left_out_complete finds_no_advancing advancing i2 rest out) (Reached refl)))
 
-pub display_sound : (p : Statement → Part) → Sound (g.verb_line p) display_reader
+pub display_sound : (depth : ℕ) (p : Statement → Part) → Sound (g.verb_line depth p) display_reader
 unfolding display_reader
-display_sound p x i rest e =
+display_sound depth p x i rest e =
     unstep (read.expect w.Display i) _ e (λ u i1 is1 e1.
     unstep (read.several read.literal begins_literal i1) _ e1 (λ shown i2 is2 e2.
     unstep (read.left_out after_no_advancing i2) _ e2 (λ advancing i3 is3 e3.
-    subst (λ y. g.verb_line p y i rest) (value e3)
+    subst (λ y. g.verb_line depth p y i rest) (value e3)
     (i1, word_sound w.Display u i i1 is1, (i2, operands_sound shown i1 i2 is2, left_out_sound finds_no_advancing advancing i2 rest (last is3 e3))))))

@@ -3,8 +3,14 @@ use Rattle.std.proofs.lemmas.Result.{err_from_is_err_and}
 use Rattle.tokens.specs.Tokens.{TokensOf}
 use Rattle.statements.specs.Spelling.{max_nesting}
 use Rattle.divisions.specs.Spelling.{Spells}
-use Rattle.run_unit.proofs.Stages.{spelled_by, tree_refusal}
+use Rattle.run_unit.proofs.Stages.{spelled_by, tokens_refusal, tree_refusal}
 use Rattle.run_unit.proofs.compiling.read_tree.Goals as goal
+
+pub returns-in_err-tokens-clause-only : goal.returns-in_err-tokens-clause-only
+returns-in_err-tokens-clause-only c =
+    let p = err_from_is_err_and c.from_residual-in_err-tokens.result c.from_residual-in_err-tokens.ensures.1 in
+    rw (p.1, p.2) (λ tree is. tokens_refusal c.reference_format.ensures.only c.laws.ensures.only c.args.source.now tree is
+    c.in_ok-lines.lines c.in_ok-lines.ensures c.in_err-tokens.field-0.0 c.in_err-tokens.ensures)
 
 pub returns-in_err-tree-clause-only : goal.returns-in_err-tree-clause-only
 returns-in_err-tree-clause-only c =

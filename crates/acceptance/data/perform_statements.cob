@@ -1,0 +1,10 @@
+       IDENTIFICATION DIVISION.
+       PROGRAM-ID. P.
+       PROCEDURE DIVISION.
+           PERFORM
+               DISPLAY "A"
+               PERFORM DISPLAY "B" END-PERFORM
+               DISPLAY "C"
+           END-PERFORM
+           DISPLAY "D".
+           STOP RUN.

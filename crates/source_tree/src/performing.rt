@@ -1,0 +1,22 @@
+//! PERFORM.
+
+use sqlite_items::Items;
+
+/// What is performed (COBOL-85, Nucleus, "The PERFORM statement").
+#[derive(Debug, Drop)]
+pub enum Performed<S> {
+    /// The statements up to END-PERFORM, one or more.
+    Statements(Items<S>),
+}
+
+/// How often it is performed.
+#[derive(Debug, Drop)]
+pub enum Turns {
+    Once,
+}
+
+#[derive(Debug, Drop)]
+pub struct Performing<S> {
+    pub performed: Performed<S>,
+    pub turns: Turns,
+}
