@@ -17,13 +17,13 @@ split a cap = search arith
 -- what is cut on the way is cut at the end
 pub capped : (cap a : ℕ) (cs : List ℕ) → min (digits_behind (min a cap) cs) cap ≡ min (digits_behind a cs) cap
 capped cap a cs = elim (split a cap) [
-    inl small ↦ let e : min a cap ≡ a = omega arith in ap (λ n. min (digits_behind n cs) cap) e
+  | inl small ↦ let e : min a cap ≡ a = omega arith in ap (λ n. min (digits_behind n cs) cap) e
   | inr large ↦
       let e : min a cap ≡ cap = omega arith in
       let least = behind_least cap cs in
       let top = behind_least a cs in
       ap (λ n. min (digits_behind n cs) cap) e ∙ (let both : min (digits_behind cap cs) cap ≡ min (digits_behind a cs) cap = omega arith in both)
-  ]
+]
 
 -- one digit more
 pub next_digit : (cap n r i : ℕ) (cs : List ℕ) → i < length cs → r ≡ min (10 * n + (get_or cs i 0 - 48)) cap

@@ -23,7 +23,7 @@ of_group around last here (Tree one conditions inner next) =
     ∙ ap (λ l. own ∷ (l ++ map placed_item (places around at (here + taken around.around one inner) next))) (of_group (within around one (item_with around.around one inner)) at at inner)
     ∙ ap (λ l. own ∷ (group_items (inside around.around one) around.area (with_dimension one.occurs (item_with around.around one inner).length around.dimensions) at at inner ++ l)) (of_group around at (here + taken around.around one inner) next)
 
-same_place : (b : Bool) → (if b then 0 else 0) ≡ 0
+same_place : (b : Bool) → ◌≡◌ {A = ℕ} (if b then 0 else 0) 0
 same_place true = refl
 same_place false = refl
 

@@ -49,21 +49,19 @@ abbrev Leveled : Forest → Type 0
 Leveled End = Unit {0}
 Leveled (Tree one conditions inner next) = (level_of one < 100000) × Leveled inner × Leveled next
 
+leveled_if : (b : Bool) (F G : Forest) → Leveled F → Leveled G → Leveled (if b then F else G)
+leveled_if true F G f g = f
+leveled_if false F G f g = g
+
 leveled_deeper : (level : ℕ) (F : Forest) → Leveled F → Leveled (deeper level F)
 leveled_deeper level End h = tt
-leveled_deeper level (Tree one conditions inner next) h = by_test (nat_lt level (level_of one))
-  where
-    by_test : (b : Bool) → Leveled (if b then Tree one conditions inner (deeper level next) else End)
-    by_test true = (h.0, h.1, leveled_deeper level next h.2)
-    by_test false = tt
+leveled_deeper level (Tree one conditions inner next) h =
+    leveled_if (nat_lt level (level_of one)) (Tree one conditions inner (deeper level next)) End (h.0, h.1, leveled_deeper level next h.2) tt
 
 leveled_beyond : (level : ℕ) (F : Forest) → Leveled F → Leveled (beyond level F)
 leveled_beyond level End h = tt
-leveled_beyond level (Tree one conditions inner next) h = by_test (nat_lt level (level_of one))
-  where
-    by_test : (b : Bool) → Leveled (if b then beyond level next else Tree one conditions inner next)
-    by_test true = leveled_beyond level next h.2
-    by_test false = h
+leveled_beyond level (Tree one conditions inner next) h =
+    leveled_if (nat_lt level (level_of one)) (beyond level next) (Tree one conditions inner next) (leveled_beyond level next h.2) h
 
 second_of : (d c : Bool) → ((d && c) || false) ≡ true → c ≡ true
 second_of true true e = refl
@@ -114,22 +112,22 @@ three_parts a b c d e =
     let rest = back_nil a (b ++ (c ++ d)) e in
     (front_nil a (b ++ (c ++ d)) e, front_nil b (c ++ d) rest, back_nil c d (back_nil b (c ++ d) rest))
 
-own_parts : (times bytes level clause picture : Bool) (place : Place) (more : List Broken)
-    → where_so times 69 place ++ (where_so bytes 48 place ++ (where_so level 43 place ++ (where_so clause 44 place ++ (where_so picture 45 place ++ more)))) ≡ []
+own_parts : (times bytes level clause picture : Bool) (place : Place) (redefinition value : List Broken)
+    → where_so times 69 place ++ where_so bytes 48 place ++ where_so level 43 place ++ where_so clause 44 place ++ where_so picture 45 place ++ redefinition ++ value ≡ []
     → (times ≡ false) × (bytes ≡ false) × (picture ≡ false)
-own_parts true bytes level clause picture place more e = cc
-own_parts false true level clause picture place more e = cc
-own_parts false false true clause picture place more e = cc
-own_parts false false false true picture place more e = cc
-own_parts false false false false true place more e = cc
-own_parts false false false false false place more e = (refl, refl, refl)
+own_parts true bytes level clause picture place redefinition value e = cc
+own_parts false true level clause picture place redefinition value e = cc
+own_parts false false true clause picture place redefinition value e = cc
+own_parts false false false true picture place redefinition value e = cc
+own_parts false false false false true place redefinition value e = cc
+own_parts false false false false false place redefinition value e = (refl, refl, refl)
 
 entry_fits : (at : Position) (one : ItemEntry) (inner : Forest) (last : Option Redefinable) → level_of one < 100000
     → own_rules at one (item_with at.around one inner) inner last ≡ [] → FitsEntry at.around one inner
 entry_fits at one inner last level e =
     let item : Items.Item = item_with at.around one inner in
     let parts = own_parts (too_many one) (too_large item) (wrong_level at.level (number_of one.level) inner) (wrong_clause (is_outermost at) at.nesting at.around one item) (wrong_picture one inner) one.level.place
-        (redefinition_rules (is_outermost at && at.in_file) one (occurrences one * item.length) one.redefines last ++ value_rules (at.in_file || at.has_no_value || redefines one) item one.value) e in
+    (redefinition_rules (is_outermost at && at.in_file) one (occurrences one * item.length) one.redefines last) (value_rules (at.in_file || at.has_no_value || redefines one) item one.value) e in
     let bytes = at_most most_item_bytes item.length parts.1 in
     record { level = level; times = at_most most_occurrences (occurrences one) parts.0; bytes = bytes; within = within_of at.around one inner parts.2 bytes }
 
@@ -148,7 +146,7 @@ fits entries e =
     let counted = back_nil (each excess (drop most_entries entries)) (each level_rules entries ++ (each homeless (leading entries) ++ (forest_rules (outermost false) None (nested entries) ++ storage_rules 0 (nested entries)))) e in
     let parts = three_parts (each level_rules entries) (each homeless (leading entries)) (forest_rules (outermost false) None (nested entries)) (storage_rules 0 (nested entries)) counted in
     let rest = back_nil (each homeless (leading entries)) (forest_rules (outermost false) None (nested entries) ++ storage_rules 0 (nested entries))
-        (back_nil (each level_rules entries) (each homeless (leading entries) ++ (forest_rules (outermost false) None (nested entries) ++ storage_rules 0 (nested entries))) counted) in
+    (back_nil (each level_rules entries) (each homeless (leading entries) ++ (forest_rules (outermost false) None (nested entries) ++ storage_rules 0 (nested entries))) counted) in
     of_forest (outermost false) None (nested entries) (leveled entries parts.0) (front_nil (forest_rules (outermost false) None (nested entries)) (storage_rules 0 (nested entries)) rest)
 
 pub not_many : (entries : List Entry) → entry_rules entries ≡ [] → length entries ≤ most_entries

@@ -1,10 +1,10 @@
 //! Where the items of a group stand.
 
-ghost use Rattle.std.specs.Prelude.{◌≡◌, ◌+◌, ◌*◌, ◌≤◌, ◌++◌, length, IfOk, OnOk};
+ghost use Rattle.std.specs.Prelude.{◌≡◌, ◌+◌, ◌*◌, ◌≤◌, ◌++◌, length, IfOk, OnOk, if◌then◌else◌};
 ghost use Rattle.source_tree.specs.Levels.{nested};
 ghost use Rattle.source_tree.specs.Clauses as clauses;
 ghost use Rattle.source_tree.specs.ClauseRules.{most_item_bytes, most_occurrences};
-ghost use Rattle.source_tree.specs.Rooms.{room};
+ghost use Rattle.source_tree.specs.Rooms.{redefines, room};
 ghost use Rattle.source_tree.specs.Places as tree;
 ghost use Rattle.layout.specs.Fits.{Fits, FitsEntry, most_offset};
 ghost use Rattle.layout.specs.Placing as spec;
@@ -44,6 +44,17 @@ fn dimensions_of(
     Ok(Items::from_vec(dimensions))
 }
 
+/// Where an item begins: at the next byte, or where the last one does that redefines nothing.
+fn beginning(entry: &ItemEntry, last: u32, next: u32) -> u32
+    ensures { result ≡ (if redefines entry.now then last else next) }
+{
+    if entry.redefines.is_some() {
+        last
+    } else {
+        next
+    }
+}
+
 /// Places an item and those in it. Answers the bytes that it takes.
 #[cycle(places)]
 pub fn place_item(
@@ -56,8 +67,8 @@ pub fn place_item(
     requires fits { FitsEntry around.around one.entry.now (nested one.inner.now) }
     requires within { Fits (clauses.inside around.around one.entry.now) (nested one.inner.now) }
     requires offset { offset + 65536 * length one.inner.now ≤ most_offset }
-    ensures items { OnOk result (out.new.items ≡ out.old.items ++ spec.entry_items around.around around.area around.dimensions.now one.entry.now (nested one.inner.now) offset) }
-    ensures bytes { IfOk result (λ bytes. bytes ≡ spec.taken around.around one.entry.now (nested one.inner.now)) }
+    ensures items { OnOk result (out.new.items ≡ out.old.items ++ spec.entry_items around.entry.around around.entry.area around.entry.dimensions.now one.entry.entry.now (nested one.entry.inner.now) offset) }
+    ensures bytes { IfOk result (λ bytes. bytes ≡ spec.taken around.entry.around one.entry.entry.now (nested one.entry.inner.now)) }
 {
     let described = describe(alloc, around.around, one.entry, one.inner)?;
     let length = described.item.length;
@@ -91,15 +102,13 @@ fn place_group(
     requires fits { Fits around.around (nested entries.now) }
     requires most { room around.around (nested entries.now) ≤ most_item_bytes }
     requires offset { start + 65536 * length entries.now ≤ most_offset }
-    ensures { OnOk result (out.new.items ≡ out.old.items ++ spec.group_items around.around around.area around.dimensions.now start start (nested entries.now)) }
+    ensures { OnOk result (out.new.items ≡ out.old.items ++ spec.group_items around.entry.around around.entry.area around.entry.dimensions.now start start (nested entries.now)) }
 {
     let mut last = start;
     let mut here = start;
     let mut rest = entries;
     'items: while let Some(one) = next_item(rest) {
-        if one.entry.redefines.is_none() {
-            last = here;
-        }
+        last = beginning(one.entry, last, here);
         here += place_item(alloc, around, one, last, out)?;
         rest = one.next;
     }

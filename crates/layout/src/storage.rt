@@ -1,9 +1,10 @@
 //! The layout of working storage.
 
-ghost use Rattle.std.specs.Prelude.{◌≡◌, ◌≤◌, ◌++◌, [], length, map, IfOk, OnOk};
+ghost use Rattle.std.specs.Prelude.{◌≡◌, ◌-◌, ◌≤◌, ◌++◌, [], length, map, IfOk, OnOk, if◌then◌else◌};
 ghost use Rattle.source_tree.specs.Levels.{nested};
 ghost use Rattle.source_tree.specs.Clauses.{nothing_around};
 ghost use Rattle.source_tree.specs.EntryRules.{entry_rules, most_entries};
+ghost use Rattle.source_tree.specs.Rooms.{redefines};
 ghost use Rattle.source_tree.specs.Places.{items_of};
 ghost use Rattle.layout.specs.Fits.{Fits};
 ghost use Rattle.layout.specs.Placing as spec;
@@ -11,7 +12,7 @@ ghost use Rattle.layout.specs.Placing as spec;
 use crate::placed::PlacedItem;
 use crate::places::{Surroundings, place_item};
 use entries::next_item;
-use source_tree::{Around, Entry};
+use source_tree::{Around, Entry, ItemEntry};
 use sqlite_items::Items;
 use std::alloc::{AllocError, Global};
 
@@ -27,6 +28,17 @@ pub struct Layout {
     pub items: Items<PlacedItem>,
 }
 
+/// The area of a 01 or 77 with so many areas before it: a new one, or the last one where it redefines.
+fn area_of(entry: &ItemEntry, areas: u32) -> u32
+    ensures { result ≡ (if redefines entry.now then areas - 1 else areas) }
+{
+    if entry.redefines.is_some() {
+        areas.saturating_sub(1)
+    } else {
+        areas
+    }
+}
+
 /// Places the items of each 01 and 77. One that redefines has the area of the last one that doesn't.
 fn place_storage(
     alloc: Global,
@@ -40,10 +52,7 @@ fn place_storage(
     let mut areas: u32 = 0;
     let mut rest = entries;
     'items: while let Some(one) = next_item(rest) {
-        let area = match one.entry.redefines {
-            Some(_) => areas.saturating_sub(1),
-            None => areas,
-        };
+        let area = area_of(one.entry, areas);
         let around = Surroundings {
             around: NOTHING_AROUND,
             area,
