@@ -3,3 +3,8 @@ pub mod Runs
 pub mod Depth
 pub mod Programs
 pub mod Examples
+pub mod Samples
+pub mod Computing
+pub mod PlaceExamples
+pub mod EntryExamples
+pub mod MoveExamples

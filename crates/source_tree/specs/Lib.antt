@@ -3,4 +3,26 @@ pub mod State
 pub mod Display
 pub mod Performing
 pub mod Meaning
+pub mod Integers
+pub mod Names
+pub mod Levels
+pub mod Clauses
+pub mod Rooms
+pub mod Places
+pub mod Literals
+pub mod Starts
+pub mod Storage
+pub mod Evaluated
+pub mod LookUp
+pub mod References
+pub mod Moving
+pub mod Showing
+pub mod Accepting
+pub mod Broken
+pub mod ClauseRules
+pub mod RedefinitionRules
+pub mod ValueRules
+pub mod EntryRules
+pub mod NameRules
+pub mod MoveRules
 pub use Rattle.station.specs.State as Events

@@ -3,6 +3,7 @@
 
 mod condition;
 mod ending;
+mod entry;
 mod expression;
 mod laws;
 mod literal;
@@ -11,10 +12,15 @@ mod performing;
 mod program;
 mod reference;
 mod statement;
+mod table;
 mod text;
 
 pub use condition::{Class, Condition, Relation, Side, SignTest};
 pub use ending::Ending;
+pub use entry::{
+    Around, ConditionEntry, Entry, ItemEntry, PictureText, SignClause, SignPosition, UsageClause,
+    ValueRange,
+};
 pub use expression::{Expression, Operand, Operator};
 pub use laws::{budget_law, depth_law, output_law};
 pub use lexical::{NumericLiteral, Place, Sign};
@@ -24,4 +30,5 @@ pub use performing::{Performed, Performing, Turns};
 pub use program::{Paragraph, Program, Section, Sentence};
 pub use reference::{Adjustment, QualifiedName, Reference, Subscript};
 pub use statement::{Statement, Verb};
+pub use table::Dimension;
 pub use text::Text;

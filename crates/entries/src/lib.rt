@@ -1,0 +1,12 @@
+//! Entries of the data division one by one: their integers, which entries stand in a group, and the item that clauses describe.
+#![tactic(auto)]
+
+mod clauses;
+mod integers;
+mod levels;
+mod pictures;
+
+pub use clauses::{inside, kind};
+pub use integers::{MOST, number, occurrences};
+pub use levels::{Sibling, level, next_item, split_group};
+pub use pictures::{editing, elementary, elementary_length, picture_of};

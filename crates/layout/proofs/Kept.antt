@@ -1,0 +1,155 @@
+-- Entries that keep the rules are within the limits.
+use Rattle.std.proofs.Common.{◌≡◌, ℕ, ◌-◌, ◌*◌, ◌≤◌, ◌<◌, ◌==◌, nat_lt, nat_le, Bool, true, false, not, ◌&&◌, ◌||◌, if◌then◌else◌, List, [], ◌∷◌, ◌++◌, length, drop, None, Some, is_some, refl, ap, subst, length-drop, lit<, lit≤, arith}
+use Rattle.std.specs.Prelude.{Option}
+use Rattle.items.specs.declared.item.Item as Items
+use Rattle.lexical.specs.declared.place.Place.{Place}
+use Rattle.source_tree.specs.declared.entry.Around.{Around}
+use Rattle.source_tree.specs.declared.entry.PictureText.{PictureText}
+use Rattle.source_tree.specs.declared.entry.ItemEntry.{ItemEntry}
+use Rattle.source_tree.specs.declared.entry.Entry.{Entry}
+use Rattle.source_tree.specs.declared.entry.Entry.TheVariants.{Item, Condition}
+use Rattle.source_tree.specs.Integers.{number_of}
+use Rattle.source_tree.specs.Levels.{Forest, End, Tree, level_of, deeper, beyond, leading, nested}
+use Rattle.source_tree.specs.Clauses.{nothing_around, inside, form_of, item_by, occurrences}
+use Rattle.source_tree.specs.Rooms.{redefines, room, item_with}
+use Rattle.source_tree.specs.Broken.{Broken, where_so, each}
+use Rattle.source_tree.specs.ClauseRules.{most_item_bytes, most_occurrences, too_large, too_many, wrong_clause, wrong_picture}
+use Rattle.source_tree.specs.RedefinitionRules.{Redefinable, remembered}
+use Rattle.source_tree.specs.ValueRules.{value_rules, condition_rules}
+use Rattle.source_tree.specs.EntryRules.{Position, outermost, is_outermost, is_level, level_rules, wrong_level, redefinition_rules, own_rules, below, forest_rules, storage_rules, excess, homeless, most_entries, entry_rules}
+use Rattle.layout.specs.Fits.{FitsEntry, Fits}
+
+front_nil : {A : Type 0} (xs ys : List A) → xs ++ ys ≡ [] → xs ≡ []
+front_nil [] ys e = refl
+front_nil (x ∷ xs) ys e = cc
+
+back_nil : {A : Type 0} (xs ys : List A) → xs ++ ys ≡ [] → ys ≡ []
+back_nil [] ys e = e
+back_nil (x ∷ xs) ys e = cc
+
+kept : (test : Bool) (rule : ℕ) (place : Place) → where_so test rule place ≡ [] → test ≡ false
+kept true rule place e = cc
+kept false rule place e = refl
+
+-- ---- the number of entries
+
+few : (entries : List Entry) → each excess entries ≡ [] → entries ≡ []
+few [] e = refl
+few (one ∷ more) e = cc
+
+dropped_all : (n : ℕ) (entries : List Entry) → drop n entries ≡ [] → length entries ≤ n
+dropped_all n entries e =
+    let none : length (drop n entries) ≡ 0 = ap length e in
+    let left : length (drop n entries) ≡ length entries - n = length-drop n entries in
+    omega arith
+
+-- ---- levels
+
+abbrev Leveled : Forest → Type 0
+Leveled End = Unit {0}
+Leveled (Tree one conditions inner next) = (level_of one < 100000) × Leveled inner × Leveled next
+
+leveled_if : (b : Bool) (F G : Forest) → Leveled F → Leveled G → Leveled (if b then F else G)
+leveled_if true F G f g = f
+leveled_if false F G f g = g
+
+leveled_deeper : (level : ℕ) (F : Forest) → Leveled F → Leveled (deeper level F)
+leveled_deeper level End h = tt
+leveled_deeper level (Tree one conditions inner next) h =
+    leveled_if (nat_lt level (level_of one)) (Tree one conditions inner (deeper level next)) End (h.0, h.1, leveled_deeper level next h.2) tt
+
+leveled_beyond : (level : ℕ) (F : Forest) → Leveled F → Leveled (beyond level F)
+leveled_beyond level End h = tt
+leveled_beyond level (Tree one conditions inner next) h =
+    leveled_if (nat_lt level (level_of one)) (beyond level next) (Tree one conditions inner next) (leveled_beyond level next h.2) h
+
+second_of : (d c : Bool) → ((d && c) || false) ≡ true → c ≡ true
+second_of true true e = refl
+second_of true false e = cc
+second_of false c e = cc
+
+low : (n : ℕ) → nat_le n 49 ≡ true → n < 100000
+low n e = grind arith
+
+known_by : (b : Bool) (n : ℕ) → ((nat_le 1 n && nat_le n 49) || b) ≡ true → (if b then 1 else n) < 100000
+known_by true n e = lit< tt
+known_by false n e = low n (second_of (nat_le 1 n) (nat_le n 49) e)
+
+true_where : (b : Bool) → not b ≡ false → b ≡ true
+true_where true e = refl
+true_where false e = cc
+
+known_level : (one : ItemEntry) → level_rules (Item one) ≡ [] → level_of one < 100000
+known_level one e =
+    known_by (number_of one.level == 77) (number_of one.level) (true_where (is_level (number_of one.level)) (kept (not (is_level (number_of one.level))) 43 one.level.place e))
+
+leveled : (entries : List Entry) → each level_rules entries ≡ [] → Leveled (nested entries)
+leveled [] e = tt
+leveled (Item one ∷ more) e =
+    let rest = leveled more (back_nil (level_rules (Item one)) (each level_rules more) e) in
+    (known_level one (front_nil (level_rules (Item one)) (each level_rules more) e), leveled_deeper (level_of one) (nested more) rest, leveled_beyond (level_of one) (nested more) rest)
+leveled (Condition one ∷ more) e = leveled more e
+
+-- ---- lengths
+
+at_most : (limit n : ℕ) → nat_lt limit n ≡ false → n ≤ limit
+at_most limit n e = grind arith
+
+none_of : (p : Option PictureText) (b : Bool) → (is_some p || b) ≡ false → p ≡ None
+none_of None b e = refl
+none_of (Some text) b e = cc
+
+-- A group's length is the room of its items; an elementary item has none.
+within_of : (around : Around) (one : ItemEntry) (inner : Forest) → wrong_picture one inner ≡ false → (item_with around one inner).length ≤ most_item_bytes
+    → room (inside around one) inner ≤ most_item_bytes
+within_of around one End e h = lit≤ tt
+within_of around one (Tree other conditions inner next) e h =
+    let bytes : ℕ = room (inside around one) (Tree other conditions inner next) in
+    subst (λ p. (item_by around one (form_of p) bytes).length ≤ most_item_bytes) (none_of one.picture false e) h
+
+three_parts : (a b c d : List Broken) → a ++ (b ++ (c ++ d)) ≡ [] → (a ≡ []) × (b ≡ []) × (d ≡ [])
+three_parts a b c d e =
+    let rest = back_nil a (b ++ (c ++ d)) e in
+    (front_nil a (b ++ (c ++ d)) e, front_nil b (c ++ d) rest, back_nil c d (back_nil b (c ++ d) rest))
+
+own_parts : (times bytes level clause picture : Bool) (place : Place) (redefinition value : List Broken)
+    → where_so times 69 place ++ where_so bytes 48 place ++ where_so level 43 place ++ where_so clause 44 place ++ where_so picture 45 place ++ redefinition ++ value ≡ []
+    → (times ≡ false) × (bytes ≡ false) × (picture ≡ false)
+own_parts true bytes level clause picture place redefinition value e = cc
+own_parts false true level clause picture place redefinition value e = cc
+own_parts false false true clause picture place redefinition value e = cc
+own_parts false false false true picture place redefinition value e = cc
+own_parts false false false false true place redefinition value e = cc
+own_parts false false false false false place redefinition value e = (refl, refl, refl)
+
+entry_fits : (at : Position) (one : ItemEntry) (inner : Forest) (last : Option Redefinable) → level_of one < 100000
+    → own_rules at one (item_with at.around one inner) inner last ≡ [] → FitsEntry at.around one inner
+entry_fits at one inner last level e =
+    let item : Items.Item = item_with at.around one inner in
+    let parts = own_parts (too_many one) (too_large item) (wrong_level at.level (number_of one.level) inner) (wrong_clause (is_outermost at) at.nesting at.around one item) (wrong_picture one inner) one.level.place
+    (redefinition_rules (is_outermost at && at.in_file) one (occurrences one * item.length) one.redefines last) (value_rules (at.in_file || at.has_no_value || redefines one) item one.value) e in
+    let bytes = at_most most_item_bytes item.length parts.1 in
+    record { level = level; times = at_most most_occurrences (occurrences one) parts.0; bytes = bytes; within = within_of at.around one inner parts.2 bytes }
+
+pub of_forest : (at : Position) (last : Option Redefinable) (F : Forest) → Leveled F → forest_rules at last F ≡ [] → Fits at.around F
+of_forest at last End levels e = tt
+of_forest at last (Tree one conditions inner next) levels e =
+    let item : Items.Item = item_with at.around one inner in
+    let after : Option Redefinable = remembered one (occurrences one * item.length) last in
+    let parts = three_parts (forest_rules (below at one inner) None inner) (own_rules at one item inner last) (each (condition_rules item) conditions) (forest_rules at after next) e in
+    (entry_fits at one inner last levels.0 parts.1, of_forest (below at one inner) None inner levels.1 parts.0, of_forest at after next levels.2 parts.2)
+
+-- ---- all of working storage
+
+pub fits : (entries : List Entry) → entry_rules entries ≡ [] → Fits nothing_around (nested entries)
+fits entries e =
+    let counted = back_nil (each excess (drop most_entries entries)) (each level_rules entries ++ (each homeless (leading entries) ++ (forest_rules (outermost false) None (nested entries) ++ storage_rules 0 (nested entries)))) e in
+    let parts = three_parts (each level_rules entries) (each homeless (leading entries)) (forest_rules (outermost false) None (nested entries)) (storage_rules 0 (nested entries)) counted in
+    let rest = back_nil (each homeless (leading entries)) (forest_rules (outermost false) None (nested entries) ++ storage_rules 0 (nested entries))
+    (back_nil (each level_rules entries) (each homeless (leading entries) ++ (forest_rules (outermost false) None (nested entries) ++ storage_rules 0 (nested entries))) counted) in
+    of_forest (outermost false) None (nested entries) (leveled entries parts.0) (front_nil (forest_rules (outermost false) None (nested entries)) (storage_rules 0 (nested entries)) rest)
+
+pub not_many : (entries : List Entry) → entry_rules entries ≡ [] → length entries ≤ most_entries
+not_many entries e =
+    dropped_all most_entries entries (few (drop most_entries entries)
+    (front_nil (each excess (drop most_entries entries)) (each level_rules entries ++ (each homeless (leading entries) ++ (forest_rules (outermost false) None (nested entries) ++ storage_rules 0 (nested entries)))) e))

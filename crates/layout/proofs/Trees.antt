@@ -1,0 +1,51 @@
+-- What is known of a forest whose first item is known.
+use Rattle.std.proofs.Common.{◌≡◌, ℕ, ◌+◌, ◌-◌, if◌then◌else◌, List, [], ◌∷◌, ◌++◌, sym, ap, subst, ◌∙◌, append_assoc}
+use Rattle.source_tree.specs.declared.table.Dimension.{Dimension}
+use Rattle.source_tree.specs.declared.entry.Around.{Around}
+use Rattle.source_tree.specs.declared.entry.ItemEntry.{ItemEntry}
+use Rattle.source_tree.specs.declared.entry.ConditionEntry.{ConditionEntry}
+use Rattle.source_tree.specs.Levels.{Forest, End, Tree}
+use Rattle.source_tree.specs.Clauses.{nothing_around, inside}
+use Rattle.source_tree.specs.Rooms.{redefines, room}
+use Rattle.entries.specs.Nesting.{HasLevel}
+use Rattle.layout.specs.declared.placed.PlacedItem.{PlacedItem}
+use Rattle.layout.specs.Fits.{FitsEntry, Fits}
+use Rattle.layout.specs.Placing.{taken, entry_items, group_items, storage_items}
+
+pub fits_tree : (around : Around) (F : Forest) (one : ItemEntry) (conditions : List ConditionEntry) (inner next : Forest)
+    → F ≡ Tree one conditions inner next → Fits around F → FitsEntry around one inner × Fits (inside around one) inner × Fits around next
+fits_tree around F one conditions inner next e h = subst (λ G. Fits around G) e h
+
+pub room_tree : (around : Around) (F : Forest) (one : ItemEntry) (conditions : List ConditionEntry) (inner next : Forest)
+    → F ≡ Tree one conditions inner next → room around F ≡ taken around one inner + room around next
+room_tree around F one conditions inner next e = ap (room around) e
+
+pub has_level : (around : Around) (F : Forest) → Fits around F → HasLevel F
+has_level around End h = tt
+has_level around (Tree one conditions inner next) h = h.0.level
+
+-- an item, and those in it behind it
+pub placed_entry : (old one two inside : List PlacedItem) (own placed : PlacedItem) → placed ≡ own → one ≡ old ++ placed ∷ [] → two ≡ one ++ inside → two ≡ old ++ (own ∷ inside)
+placed_entry old one two inside own placed same pushed behind =
+    behind ∙ ap (λ l. l ++ inside) pushed ∙ append_assoc old (placed ∷ []) inside ∙ ap (λ p. old ++ (p ∷ inside)) same
+
+-- the first item of a group, those in it, and the items after it
+pub placed_tree : (out : List PlacedItem) (around : Around) (area : ℕ) (dimensions : List Dimension) (last here at : ℕ) (F : Forest) (one : ItemEntry) (conditions : List ConditionEntry) (inner next : Forest)
+    → F ≡ Tree one conditions inner next → at ≡ (if redefines one then last else here)
+    → (out ++ entry_items around area dimensions one inner at) ++ group_items around area dimensions at (here + taken around one inner) next
+    ≡ out ++ group_items around area dimensions last here F
+unfolding group_items
+placed_tree out around area dimensions last here at F one conditions inner next e begin =
+    append_assoc out (entry_items around area dimensions one inner at) (group_items around area dimensions at (here + taken around one inner) next)
+    ∙ ap (λ n. out ++ (entry_items around area dimensions one inner n ++ group_items around area dimensions n (here + taken around one inner) next)) begin
+    ∙ ap (λ G. out ++ group_items around area dimensions last here G) (sym e)
+
+-- the first 01 or 77, and those after it
+pub stored_tree : (out : List PlacedItem) (areas area : ℕ) (F : Forest) (one : ItemEntry) (conditions : List ConditionEntry) (inner next : Forest)
+    → F ≡ Tree one conditions inner next → area ≡ (if redefines one then areas - 1 else areas)
+    → (out ++ entry_items nothing_around area [] one inner 0) ++ storage_items (area + 1) next ≡ out ++ storage_items areas F
+unfolding storage_items
+stored_tree out areas area F one conditions inner next e is =
+    append_assoc out (entry_items nothing_around area [] one inner 0) (storage_items (area + 1) next)
+    ∙ ap (λ n. out ++ (entry_items nothing_around n [] one inner 0 ++ storage_items (n + 1) next)) is
+    ∙ ap (λ G. out ++ storage_items areas G) (sym e)

@@ -1,0 +1,83 @@
+-- The rules of VALUE: 47 a literal that its item can't hold as it is, 55 a range of values that is backwards (COBOL-85, Nucleus,
+-- "The VALUE clause").
+use Rattle.std.specs.Prelude.{ℕ, nat_lt, Bool, true, false, not, ◌&&◌, ◌||◌, List, [], ◌∷◌, ◌++◌, length, Option, Some, None}
+use Rattle.std.specs.declared.cmp.Ordering.{Ordering}
+use Rattle.std.specs.declared.cmp.Ordering.TheVariants.{Greater}
+use Rattle.decimal18.specs.Fraction.{Fraction, is_negative}
+use Rattle.decimal18.specs.Order.{equals}
+use Rattle.decimal18.specs.Receiver.{low_digits}
+use Rattle.decimal18.specs.declared.receiver.Rounding.TheVariants.{Truncated}
+use Rattle.items.specs.declared.numeric.Numeric.{Numeric}
+use Rattle.items.specs.declared.item.Kind.{Kind}
+use Rattle.items.specs.declared.item.Kind.TheVariants as kind
+use Rattle.items.specs.declared.item.Item.{Item}
+use Rattle.items.specs.declared.taken.Taken.{Taken}
+use Rattle.items.specs.declared.taken.Taken.TheVariants as taken
+use Rattle.items.specs.Numbers.{is_signed}
+use Rattle.items.specs.Texts.{character_of}
+use Rattle.text_ops.specs.Compare.{compared, order_of_texts}
+use Rattle.source_tree.specs.declared.literal.Figurative.TheVariants as figurative
+use Rattle.source_tree.specs.declared.literal.LiteralValue.{LiteralValue}
+use Rattle.source_tree.specs.declared.literal.LiteralValue.TheVariants as literal
+use Rattle.source_tree.specs.declared.literal.Literal.{Literal}
+use Rattle.source_tree.specs.declared.entry.ValueRange.{ValueRange}
+use Rattle.source_tree.specs.declared.entry.ConditionEntry.{ConditionEntry}
+use Rattle.source_tree.specs.Literals.{Sender, literal_number, literal_sender}
+use Rattle.source_tree.specs.Broken.{Broken, where_so, each}
+
+-- Zeros in front of the digits that the item keeps, and behind them, aren't cut.
+abbrev pub is_cut : Numeric → Fraction → Bool
+is_cut numeric x = not (equals (low_digits x numeric.digits numeric.scale Truncated) x)
+
+-- A numeric item has a numeric literal or ZERO.
+abbrev pub wrong_number : Numeric → LiteralValue → Bool
+wrong_number numeric (literal.Numeric one) = is_cut numeric (literal_number one) || (not (is_signed numeric) && is_negative (literal_number one).coefficient)
+wrong_number numeric (literal.Figurative figurative.Zero) = false
+wrong_number numeric _ = true
+
+-- Others have a nonnumeric literal or a figurative constant.
+abbrev pub wrong_text : ℕ → LiteralValue → Bool
+wrong_text size (literal.Numeric one) = true
+wrong_text size (literal.Nonnumeric bytes) = nat_lt size (length bytes)
+wrong_text size _ = false
+
+abbrev pub wrong_value : Kind → ℕ → LiteralValue → Bool
+wrong_value (kind.Numeric numeric) size value = wrong_number numeric value
+wrong_value _ size value = wrong_text size value
+
+-- Where a VALUE may not stand: in a file, under REDEFINES, in a group with VALUE.
+abbrev pub value_rules : Bool → Item → Option Literal → List Broken
+value_rules forbidden item None = []
+value_rules forbidden item (Some one) = where_so (forbidden || wrong_value item.kind item.length one.value) 47 one.place
+
+-- ---- the values of a condition name
+
+-- The characters of a literal that is repeated, where nothing says how often.
+abbrev pub once : Taken → List ℕ → Option (List ℕ)
+once (taken.Item item) bytes = None
+once (taken.Figurative constant) bytes = Some (character_of constant ∷ [])
+once taken.All bytes = Some bytes
+
+abbrev pub order_once : Sender → Sender → Option (List ℕ) → Option (List ℕ) → Option Ordering
+order_once one other (Some ones) (Some others) = Some (order_of_texts ones others)
+order_once one other _ _ = compared one.taken one.bytes other.taken other.bytes
+
+-- The order of two literals, as in a relation.
+abbrev pub literals_order : Sender → Sender → Option Ordering
+literals_order one other = order_once one other (once one.taken one.bytes) (once other.taken other.bytes)
+
+abbrev pub is_greater : Option Ordering → Bool
+is_greater (Some Greater) = true
+is_greater _ = false
+
+abbrev pub last_rules : Item → Literal → Option Literal → List Broken
+last_rules item first None = []
+last_rules item first (Some last) =
+    where_so (wrong_value item.kind item.length last.value) 47 last.place
+    ++ where_so (is_greater (literals_order (literal_sender first.value) (literal_sender last.value))) 55 first.place
+
+abbrev pub range_rules : Item → ValueRange → List Broken
+range_rules item one = where_so (wrong_value item.kind item.length one.first.value) 47 one.first.place ++ last_rules item one.first one.last
+
+abbrev pub condition_rules : Item → ConditionEntry → List Broken
+condition_rules item one = each (range_rules item) one.values
