@@ -1,5 +1,5 @@
 -- Worked examples: tokens of conditions, and what reading them gives.
-use Rattle.std.proofs.Common.{◌≡◌, ℕ, Bool, true, false, List, [], ◌∷◌, refl}
+use Rattle.std.proofs.Common.{◌≡◌, ℕ, false, [], ◌∷◌, refl}
 use Rattle.std.specs.Prelude.{Ok, Err}
 use Rattle.tokens.specs.declared.reserved.Reserved.{Reserved}
 use Rattle.tokens.specs.declared.reserved.Reserved.TheVariants as w
@@ -12,13 +12,12 @@ use Rattle.source_tree.specs.declared.reference.Reference.{Reference}
 use Rattle.source_tree.specs.declared.expression.Operand.TheVariants as operand
 use Rattle.source_tree.specs.declared.expression.Expression.TheVariants as expression
 use Rattle.source_tree.specs.declared.condition.Relation.TheVariants as relation
-use Rattle.source_tree.specs.declared.condition.SignTest.TheVariants as sign
 use Rattle.source_tree.specs.declared.condition.Class.TheVariants as class
 use Rattle.source_tree.specs.declared.condition.Side.{Side}
 use Rattle.source_tree.specs.declared.condition.Side.TheVariants as side
 use Rattle.source_tree.specs.declared.condition.Condition.{Condition}
 use Rattle.source_tree.specs.declared.condition.Condition.TheVariants as c
-use Rattle.grammar.specs.declared.fault.Halt.TheVariants.{Unexpected, TooDeep}
+use Rattle.grammar.specs.declared.fault.Halt.TheVariants.{TooDeep}
 use Rattle.tokens.specs.Reserved.{same_word}
 use Rattle.grammar.specs.Reading as read
 use Rattle.expressions.specs.Subscripts as s

@@ -1,11 +1,10 @@
 -- Conditions (COBOL-85, Nucleus, "Conditional expressions"): their rules, and how they are read. NOT binds closer than AND,
 -- and AND closer than OR. A parenthesis opens an operand where an operator or a test follows the one that closes it, and a
 -- condition otherwise.
-use Rattle.std.specs.Prelude.{◌≡◌, ◌||◌, ◌&&◌, not, ℕ, zero, suc, if◌then◌else◌, Bool, true, false, List, [], ◌∷◌, Option, None, Some, length, Ok, Err}
+use Rattle.std.specs.Prelude.{◌≡◌, ◌||◌, ◌&&◌, not, ℕ, zero, suc, if◌then◌else◌, Bool, true, false, List, [], ◌∷◌, Option, None, Some, length, Err}
 use Rattle.tokens.specs.declared.reserved.Reserved.{Reserved}
 use Rattle.tokens.specs.declared.reserved.Reserved.TheVariants as w
 use Rattle.tokens.specs.declared.token.Token.{Token}
-use Rattle.source_tree.specs.declared.literal.Literal.{Literal}
 use Rattle.source_tree.specs.declared.literal.LiteralValue.{LiteralValue}
 use Rattle.source_tree.specs.declared.literal.LiteralValue.TheVariants as value
 use Rattle.source_tree.specs.declared.reference.Reference.{Reference}

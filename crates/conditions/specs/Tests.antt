@@ -11,9 +11,7 @@ use Rattle.tokens.specs.declared.token.Operator.{Operator as Written}
 use Rattle.tokens.specs.declared.token.Operator.TheVariants as written
 use Rattle.source_tree.specs.declared.condition.Relation.{Relation}
 use Rattle.source_tree.specs.declared.condition.Relation.TheVariants as relation
-use Rattle.source_tree.specs.declared.condition.SignTest.{SignTest}
 use Rattle.source_tree.specs.declared.condition.SignTest.TheVariants as sign
-use Rattle.source_tree.specs.declared.condition.Class.{Class}
 use Rattle.source_tree.specs.declared.condition.Class.TheVariants as class
 use Rattle.grammar.specs.Parts.{Part, ◌then◌, ◌or◌, without, optional, stands, word, telling, is_told}
 use Rattle.grammar.specs.Reading as r

@@ -1,15 +1,13 @@
 -- Looking past the parts of a reference, step by step as they are read.
-use Rattle.std.proofs.Common.{◌≡◌, Bool, true, false, if◌then◌else◌, List, [], ◌∷◌, Option, Some, None, refl, sym, ap, ◌∙◌}
+use Rattle.std.proofs.Common.{◌≡◌, Bool, true, false, if◌then◌else◌, List, [], ◌∷◌, Option, Some, None, refl, ap, ◌∙◌}
 use Rattle.std.specs.Prelude.{Ok, Err}
 use Rattle.tokens.specs.declared.reserved.Reserved.TheVariants as w
-use Rattle.tokens.specs.declared.token.Kind.{Kind}
-use Rattle.tokens.specs.declared.token.Kind.TheVariants as k
 use Rattle.tokens.specs.declared.token.Token.{Token}
 use Rattle.grammar.specs.Parts.{is_told, begins_telling, name_in, begins_name}
 use Rattle.grammar.specs.Reading as read
 use Rattle.grammar.specs.Reading.{Outcome, Parser, Words, and_then, rest_of, past, and_past, needed, begins_word, is_word, after_word, one_token, past_any, past_several}
 use Rattle.grammar.proofs.Past.{past_then, past_if, any_passes, several_passes}
-use Rattle.expressions.specs.Marks.{left_in, left_of, right_in, right_of, begins_left, sign_in, begins_sign}
+use Rattle.expressions.specs.Marks.{left_in, right_in, begins_left, sign_in, begins_sign}
 use Rattle.expressions.specs.Subscripts as s
 use Rattle.expressions.specs.References as g
 use Rattle.expressions.specs.Looking.{past_first}

@@ -4,7 +4,6 @@ use Rattle.tokens.specs.declared.reserved.Reserved.{Reserved}
 use Rattle.tokens.specs.declared.token.Kind.{Kind}
 use Rattle.tokens.specs.declared.token.Kind.TheVariants as k
 use Rattle.tokens.specs.declared.token.Token.{Token}
-use Rattle.source_tree.specs.declared.reference.Reference.{Reference}
 use Rattle.grammar.specs.Parts.{Part, ◌then◌, some_of, word, begins_telling, begins_name}
 use Rattle.grammar.specs.Reading.{Words, past, also_after}
 use Rattle.expressions.specs.Marks.{sum_in, product_in}

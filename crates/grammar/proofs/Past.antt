@@ -1,5 +1,5 @@
 -- Looking past what would be read: it passes what the rule spells.
-use Rattle.std.proofs.Common.{◌≡◌, ℕ, zero, suc, Bool, true, false, if◌then◌else◌, List, [], ◌∷◌, ◌++◌, length, Option, Some, None, refl, sym, ap, ◌∙◌}
+use Rattle.std.proofs.Common.{◌≡◌, ℕ, zero, suc, Bool, true, false, if◌then◌else◌, List, [], ◌∷◌, ◌++◌, length, Option, Some, None, refl, ap, ◌∙◌}
 use Rattle.std.specs.Prelude.{Ok, Err}
 use Rattle.tokens.specs.declared.token.Token.{Token}
 use Rattle.grammar.specs.Parts.{Part, ◌then◌, some_of}

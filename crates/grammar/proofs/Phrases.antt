@@ -1,5 +1,5 @@
 -- Two-sided phrases, whatever reads their statements: what is read is spelled, and what is spelled is read.
-use Rattle.std.proofs.Common.{◌≡◌, ◌<◌, ◌≤◌, List, [], ◌∷◌, length, Option, Some, None, Ok, refl, sym, ap, ◌∙◌, subst, arith}
+use Rattle.std.proofs.Common.{◌≡◌, ◌<◌, ◌≤◌, List, length, Option, Some, None, Ok, refl, ap, ◌∙◌, subst, arith}
 use Rattle.std.specs.Option.{option_map}
 use Rattle.tokens.specs.declared.reserved.Reserved.{Reserved}
 use Rattle.tokens.specs.declared.reserved.Reserved.TheVariants as w
@@ -10,7 +10,7 @@ use Rattle.grammar.specs.declared.phrase.Phrase.TheVariants.{SizeError, AtEnd, I
 use Rattle.grammar.specs.Parts.{Part, ◌then◌, optional, word}
 use Rattle.grammar.specs.Reading.{Parser, Words, after_word, past_word}
 use Rattle.grammar.specs.Phrases as g
-use Rattle.grammar.proofs.Outcomes.{Answers, Reached, step, unstep, value, after, last}
+use Rattle.grammar.proofs.Outcomes.{Reached, step, unstep, value, after, last}
 use Rattle.grammar.proofs.Looking.{Finds, is_absent, is_missing, some_is, none_not, past_does, past_is, finds_word, finds_also, finds_past}
 use Rattle.grammar.proofs.Lists.{Sound, Complete, Shrinks}
 use Rattle.grammar.proofs.Parts.{word_shrinks, skip_shrinks}

@@ -1,16 +1,15 @@
 -- Conditions with NOT and parentheses: what is read is spelled, and what is spelled is read.
-use Rattle.std.proofs.Common.{◌≡◌, ◌<◌, ◌≤◌, ℕ, zero, suc, ◌-◌, Bool, true, false, if◌then◌else◌, List, [], ◌∷◌, length, Option, Some, None, Ok, inl, inr, refl, sym, ap, ◌∙◌, subst, arith}
+use Rattle.std.proofs.Common.{◌≡◌, ◌<◌, ℕ, zero, suc, ◌-◌, Bool, true, false, if◌then◌else◌, List, length, Some, Ok, inl, inr, refl, sym, ap, ◌∙◌, subst, arith}
 use Rattle.std.specs.Prelude.{◌⊎◌, ◌||◌, ◌&&◌, not, Err}
 use Rattle.tokens.specs.declared.reserved.Reserved.TheVariants as w
 use Rattle.tokens.specs.declared.token.Kind.{Kind}
 use Rattle.tokens.specs.declared.token.Kind.TheVariants as k
 use Rattle.tokens.specs.declared.token.Token.{Token}
 use Rattle.source_tree.specs.declared.condition.Condition.{Condition}
-use Rattle.source_tree.specs.declared.condition.Condition.TheVariants as c
 use Rattle.grammar.specs.declared.fault.Halt.{Halt}
 use Rattle.grammar.specs.declared.fault.Halt.TheVariants.{TooDeep, Unexpected}
-use Rattle.grammar.specs.Parts.{Part, ◌then◌, ◌or◌, without, tested}
-use Rattle.grammar.specs.Reading.{Outcome, Parser, is_kind, begins_word, expect, one_token}
+use Rattle.grammar.specs.Parts.{Part, ◌then◌, ◌or◌, tested}
+use Rattle.grammar.specs.Reading.{Parser, is_kind, begins_word, expect, one_token}
 use Rattle.grammar.proofs.Outcomes.{Answers, Reached, Halts, Deeper, allow, one_deeper, step, unstep, value, last}
 use Rattle.grammar.proofs.Looking.{none_not, tests_tested, word_begins}
 use Rattle.grammar.proofs.Turns.{deeper}

@@ -1,25 +1,22 @@
 -- Conditions without NOT, AND, OR and parentheses around them: what is read is spelled, and what is spelled is read.
-use Rattle.std.proofs.Common.{◌≡◌, ◌<◌, ◌≤◌, ℕ, Bool, true, false, if◌then◌else◌, List, [], ◌∷◌, length, Option, Some, None, Ok, inl, inr, refl, sym, ap, ◌∙◌, subst, arith}
-use Rattle.std.specs.Prelude.{◌⊎◌, ◌||◌, ◌&&◌, not, Err}
+use Rattle.std.proofs.Common.{◌≡◌, ℕ, Bool, true, false, if◌then◌else◌, List, length, Option, Ok, inl, inr, refl, sym, ap, ◌∙◌, subst, arith}
+use Rattle.std.specs.Prelude.{◌||◌, ◌&&◌, not}
 use Rattle.tokens.specs.declared.reserved.Reserved.TheVariants as w
 use Rattle.tokens.specs.declared.token.Token.{Token}
 use Rattle.source_tree.specs.declared.reference.Reference.{Reference}
-use Rattle.source_tree.specs.declared.expression.Expression.{Expression}
-use Rattle.source_tree.specs.declared.condition.Relation.{Relation}
 use Rattle.source_tree.specs.declared.condition.SignTest.{SignTest}
 use Rattle.source_tree.specs.declared.condition.Side.{Side}
 use Rattle.source_tree.specs.declared.condition.Side.TheVariants as side_as
 use Rattle.source_tree.specs.declared.condition.Condition.{Condition}
 use Rattle.source_tree.specs.declared.condition.Condition.TheVariants as c
 use Rattle.grammar.specs.declared.fault.Halt.{Halt}
-use Rattle.grammar.specs.Parts.{Part, ◌or◌, without, tested, begins_name, name_in}
-use Rattle.grammar.specs.Reading.{Parser, rest_of, begins_word}
+use Rattle.grammar.specs.Parts.{Part, ◌or◌, tested, begins_name, name_in}
+use Rattle.grammar.specs.Reading.{rest_of, begins_word}
 use Rattle.grammar.proofs.Outcomes.{Answers, Reached, Deeper, step, unstep, value, after, last}
 use Rattle.grammar.proofs.Looking.{tests_tested}
 use Rattle.grammar.proofs.Lists.{Sound, Complete, Shrinks}
 use Rattle.expressions.specs.Marks.{left_in, begins_left}
 use Rattle.expressions.specs.References.{reference, reference_reader}
-use Rattle.expressions.specs.Expressions.{expression, expression_reader}
 use Rattle.expressions.specs.Looking.{past_reference, past_parentheses, begins_operator}
 use Rattle.expressions.proofs.Exact.Marks.{begins_not, name_left, either}
 use Rattle.expressions.proofs.Exact.References.{reference_sound, reference_complete, reference_shrinks, reference_starts}
@@ -31,8 +28,8 @@ use Rattle.conditions.specs.declared.asked.Asked.TheVariants as asked_as
 use Rattle.conditions.specs.Tests.{asked, asked_reader, begins_test, begins_class}
 use Rattle.conditions.specs.Conditions as g
 use Rattle.conditions.specs.Conditions.{goes_on, goes_on_after, class_follows}
-use Rattle.conditions.proofs.Exact.Tests.{asked_sound, asked_complete, asked_shrinks, asked_even, asks_class, asked_begins, asked_class, no_test_no_class, operator_no_class}
-use Rattle.conditions.proofs.Exact.Sides.{side_sound, side_complete, side_shrinks, side_even, side_no_not, expression_no_not, name_no_not, text_opens}
+use Rattle.conditions.proofs.Exact.Tests.{asked_sound, asked_complete, asked_shrinks, asked_even, asked_begins, asked_class, no_test_no_class, operator_no_class}
+use Rattle.conditions.proofs.Exact.Sides.{side_sound, side_complete, side_shrinks, side_even, side_no_not, name_no_not, text_opens}
 
 -- ---- what is read is spelled
 

@@ -1,5 +1,5 @@
 -- Sides of a relation: what is read is spelled, and what is spelled is read; and how sides and references begin.
-use Rattle.std.proofs.Common.{◌≡◌, ◌<◌, ℕ, Bool, true, false, if◌then◌else◌, List, [], ◌∷◌, length, Option, Some, None, Ok, inl, inr, refl, sym, ap, ◌∙◌, subst}
+use Rattle.std.proofs.Common.{◌≡◌, ℕ, Bool, true, false, if◌then◌else◌, List, [], ◌∷◌, Option, Some, None, Ok, inl, inr, refl, sym, ap, ◌∙◌, subst}
 use Rattle.std.specs.Prelude.{◌||◌, not}
 use Rattle.std.specs.Option.{option_map}
 use Rattle.tokens.specs.declared.reserved.Reserved.{Reserved}
@@ -8,25 +8,22 @@ use Rattle.tokens.specs.declared.token.Kind.{Kind}
 use Rattle.tokens.specs.declared.token.Kind.TheVariants as k
 use Rattle.tokens.specs.declared.token.Token.{Token}
 use Rattle.lexical.specs.declared.place.Place.{Place}
-use Rattle.source_tree.specs.declared.name.Name.{Name}
 use Rattle.source_tree.specs.declared.literal.Figurative.{Figurative}
 use Rattle.source_tree.specs.declared.literal.Figurative.TheVariants as figurative
 use Rattle.source_tree.specs.declared.literal.LiteralValue.{LiteralValue}
 use Rattle.source_tree.specs.declared.literal.LiteralValue.TheVariants as value_as
 use Rattle.source_tree.specs.declared.literal.Literal.{Literal}
-use Rattle.source_tree.specs.declared.reference.Reference.{Reference}
 use Rattle.source_tree.specs.declared.condition.Side.{Side}
 use Rattle.source_tree.specs.declared.condition.Side.TheVariants as side_as
-use Rattle.grammar.specs.declared.fault.Halt.{Halt}
-use Rattle.grammar.specs.Parts.{Part, word, telling, is_told, named_by, begins_name}
+use Rattle.grammar.specs.Parts.{is_told, named_by, begins_name}
 use Rattle.tokens.specs.Reserved.{same_word}
-use Rattle.grammar.specs.Reading.{Parser, is_kind, begins_word}
-use Rattle.grammar.proofs.Outcomes.{Answers, Reached, Deeper, step, unstep, value, last}
+use Rattle.grammar.specs.Reading.{is_kind, begins_word}
+use Rattle.grammar.proofs.Outcomes.{Reached, Deeper, step, unstep, value, last}
 use Rattle.grammar.proofs.Looking.{some_is, none_not, same_words, true_not_false, begins_no_other}
 use Rattle.grammar.proofs.Lists.{Sound, Complete, Shrinks}
 use Rattle.expressions.specs.Marks.{left_of, sign_by, begins_left}
-use Rattle.expressions.specs.Literals.{literal, literal_reader, plain_in, value_by, figurative_of, zero_in, number_value_by, literal_at}
-use Rattle.expressions.specs.Expressions.{expression, expression_reader}
+use Rattle.expressions.specs.Literals.{literal, literal_reader, value_by, figurative_of, zero_in, number_value_by, literal_at}
+use Rattle.expressions.specs.Expressions.{expression_reader}
 use Rattle.expressions.specs.Looking.{begins_expression}
 use Rattle.expressions.proofs.Exact.Balance.{Even, literal_even, expression_even}
 use Rattle.expressions.proofs.Exact.Leads.{expression_starts}

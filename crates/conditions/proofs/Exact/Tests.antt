@@ -1,5 +1,5 @@
 -- What is asked of an operand: what is read is spelled, and what is spelled is read; and what is seen ahead.
-use Rattle.std.proofs.Common.{◌≡◌, ◌<◌, ◌≤◌, ℕ, suc, Bool, true, false, if◌then◌else◌, List, [], ◌∷◌, length, Option, Some, None, Ok, inl, inr, refl, sym, ap, ◌∙◌, subst, arith}
+use Rattle.std.proofs.Common.{◌≡◌, ◌<◌, ◌≤◌, Bool, true, false, if◌then◌else◌, List, [], ◌∷◌, length, Option, Some, None, Ok, inl, inr, refl, sym, ap, ◌∙◌, subst, arith}
 use Rattle.std.specs.Prelude.{◌||◌}
 use Rattle.std.specs.Option.{option_map}
 use Rattle.tokens.specs.declared.reserved.Reserved.{Reserved}
@@ -11,7 +11,7 @@ use Rattle.tokens.specs.declared.token.Operator.{Operator as Written}
 use Rattle.source_tree.specs.declared.condition.Relation.{Relation}
 use Rattle.source_tree.specs.declared.condition.Relation.TheVariants as relation
 use Rattle.grammar.specs.declared.fault.Halt.{Halt}
-use Rattle.grammar.specs.Parts.{Part, stands, optional, word, telling, is_told}
+use Rattle.grammar.specs.Parts.{stands, optional, word, telling, is_told}
 use Rattle.grammar.specs.Reading as r
 use Rattle.grammar.specs.Reading.{Parser, is_kind, begins_word, after_word, past_word, otherwise_here, expect, skip, one_token}
 use Rattle.grammar.proofs.Outcomes.{Answers, Reached, step, unstep, value, after, last}
@@ -20,7 +20,7 @@ use Rattle.grammar.proofs.Lists.{Sound, Complete, Shrinks}
 use Rattle.grammar.proofs.Parts.{one_token_sound, one_token_complete, telling_shrinks, word_sound, word_complete, word_shrinks, skip_sound, skip_complete, skip_shrinks, stands_sound, stands_complete, stands_shrinks}
 use Rattle.expressions.specs.Marks.{product_by, sum_by}
 use Rattle.expressions.specs.Looking.{begins_operator}
-use Rattle.expressions.proofs.Exact.Balance.{Even, plain_kind, plain_told, word_even, then_even, or_even, without_even, optional_even}
+use Rattle.expressions.proofs.Exact.Balance.{Even, plain_kind, plain_told, word_even, then_even, without_even, optional_even}
 use Rattle.conditions.specs.declared.asked.Test.{Test}
 use Rattle.conditions.specs.declared.asked.Test.TheVariants as test
 use Rattle.conditions.specs.declared.asked.Asked.{Asked}

@@ -1,5 +1,5 @@
 -- What is spelled closes each parenthesis that it opens.
-use Rattle.std.proofs.Common.{◌≡◌, ℕ, zero, suc, Bool, true, false, List, [], ◌∷◌, Option, Some, None, inl, inr, refl, sym, ap, ◌∙◌}
+use Rattle.std.proofs.Common.{◌≡◌, ℕ, zero, suc, List, [], ◌∷◌, Option, Some, None, inl, inr, refl, sym, ap, ◌∙◌}
 use Rattle.tokens.specs.declared.reserved.Reserved.{Reserved}
 use Rattle.tokens.specs.declared.reserved.Reserved.TheVariants as w
 use Rattle.tokens.specs.declared.token.Kind.{Kind}
@@ -19,8 +19,8 @@ use Rattle.source_tree.specs.declared.expression.Operator.{Operator}
 use Rattle.source_tree.specs.declared.expression.Expression.{Expression}
 use Rattle.grammar.specs.Parts as parts
 use Rattle.grammar.specs.Parts.{Part, ◌then◌, ◌or◌, without, optional, tested, telling, begins_telling, named_by, word}
-use Rattle.grammar.proofs.Looking.{some_is, none_not}
-use Rattle.expressions.specs.Marks.{left, right, left_in, left_of, right_in, right_of, sign_in, sign_by, sum_in, sum_by, product_in, product_by}
+use Rattle.grammar.proofs.Looking.{none_not}
+use Rattle.expressions.specs.Marks.{left, right, left_of, right_of, sign_in, sign_by, sum_in, sum_by, product_in, product_by}
 use Rattle.expressions.specs.Subscripts as s
 use Rattle.expressions.specs.References as r
 use Rattle.expressions.specs.Literals as l

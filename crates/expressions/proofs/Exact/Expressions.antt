@@ -1,13 +1,12 @@
 -- Arithmetic expressions: what is read is spelled, and what is spelled is read.
-use Rattle.std.proofs.Common.{◌≡◌, ◌<◌, ◌≤◌, ℕ, zero, suc, ◌-◌, Bool, true, false, List, [], ◌∷◌, length, Option, inl, inr, refl, sym, ap, ◌∙◌, subst, arith}
+use Rattle.std.proofs.Common.{◌≡◌, ◌<◌, ℕ, zero, suc, ◌-◌, Bool, true, false, List, length, Option, inl, inr, refl, sym, ap, ◌∙◌, subst, arith}
 use Rattle.std.specs.Prelude.{◌||◌, if◌then◌else◌, Ok, Err}
 use Rattle.tokens.specs.declared.token.Token.{Token}
 use Rattle.source_tree.specs.declared.expression.Operator.{Operator}
 use Rattle.source_tree.specs.declared.expression.Expression.{Expression}
 use Rattle.grammar.specs.declared.fault.Halt.{Halt}
 use Rattle.grammar.specs.declared.fault.Halt.TheVariants.{TooDeep}
-use Rattle.grammar.specs.Parts as parts
-use Rattle.grammar.specs.Parts.{Part, ◌or◌, tested, telling, begins_telling}
+use Rattle.grammar.specs.Parts.{Part, ◌or◌, tested, begins_telling}
 use Rattle.grammar.specs.Reading as read
 use Rattle.grammar.specs.Reading.{Outcome, Parser, one_token}
 use Rattle.grammar.proofs.Outcomes.{Answers, Reached, Halts, Deeper, allow, one_deeper, step, unstep, value, last}

@@ -1,5 +1,5 @@
 -- What stands first in an expression, and what follows it.
-use Rattle.std.proofs.Common.{◌≡◌, ℕ, zero, suc, Bool, true, false, List, [], ◌∷◌, Option, Some, None, inl, inr, refl, sym, ap, ◌∙◌}
+use Rattle.std.proofs.Common.{◌≡◌, ℕ, zero, suc, Bool, true, false, List, [], ◌∷◌, Option, Some, None, inl, inr, refl, ap, ◌∙◌}
 use Rattle.std.specs.Prelude.{◌⊎◌, ◌||◌}
 use Rattle.tokens.specs.declared.token.Kind.{Kind}
 use Rattle.tokens.specs.declared.token.Kind.TheVariants as k
@@ -10,7 +10,6 @@ use Rattle.source_tree.specs.declared.expression.Operator.{Operator}
 use Rattle.source_tree.specs.declared.expression.Expression.{Expression}
 use Rattle.grammar.specs.Parts as parts
 use Rattle.grammar.specs.Parts.{Part, ◌then◌, some_of, tested, telling, begins_telling, named_by, name_in, begins_name}
-use Rattle.grammar.specs.Reading.{rest_of}
 use Rattle.grammar.proofs.Lists.{Starts}
 use Rattle.grammar.proofs.Looking.{Finds, true_not_false, finds_also}
 use Rattle.grammar.proofs.Parts.{telling_starts}

@@ -1,15 +1,13 @@
 -- Tokens that are told as values, and what tells them apart.
-use Rattle.std.proofs.Common.{◌≡◌, ◌<◌, ◌≤◌, Bool, true, false, List, Option, None, Some, refl, ap, ◌∙◌}
+use Rattle.std.proofs.Common.{◌≡◌, Bool, true, false, List, Option, None, Some, refl, ap, ◌∙◌}
 use Rattle.std.specs.Prelude.{◌||◌}
-use Rattle.tokens.specs.declared.reserved.Reserved.TheVariants as w
 use Rattle.tokens.specs.declared.token.Kind.{Kind}
 use Rattle.tokens.specs.declared.token.Kind.TheVariants as k
 use Rattle.tokens.specs.declared.token.Token.{Token}
 use Rattle.lexical.specs.declared.place.Place.{Place}
 use Rattle.source_tree.specs.declared.name.Name.{Name}
-use Rattle.source_tree.specs.declared.literal.Integer.{Integer}
 use Rattle.source_tree.specs.declared.literal.LiteralValue.{LiteralValue}
-use Rattle.grammar.specs.Parts.{telling, begins_telling, is_told, named_by, name_in, name, begins_name}
+use Rattle.grammar.specs.Parts.{telling, begins_telling, is_told, named_by, name_in}
 use Rattle.expressions.specs.declared.marks.PlusOrMinus.{PlusOrMinus}
 use Rattle.expressions.specs.Marks.{left_of, left_in, sign_by, sign_in}
 use Rattle.expressions.specs.Subscripts.{integer_by, integer_in}

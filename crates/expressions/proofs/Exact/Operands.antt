@@ -1,5 +1,5 @@
 -- Operands: what is read is spelled, and what is spelled is read.
-use Rattle.std.proofs.Common.{◌≡◌, ◌<◌, Bool, true, false, List, length, Option, Some, None, refl, sym, ap, ◌∙◌, subst, arith}
+use Rattle.std.proofs.Common.{◌≡◌, Bool, true, false, List, Option, Some, None, refl, ap, subst}
 use Rattle.std.specs.Prelude.{◌||◌, if◌then◌else◌, Ok}
 use Rattle.std.specs.Option.{option_map}
 use Rattle.tokens.specs.declared.token.Token.{Token}
@@ -9,10 +9,9 @@ use Rattle.source_tree.specs.declared.literal.Literal.{Literal}
 use Rattle.source_tree.specs.declared.expression.Operand.{Operand}
 use Rattle.source_tree.specs.declared.expression.Operand.TheVariants as operand_as
 use Rattle.grammar.specs.declared.fault.Halt.{Halt}
-use Rattle.grammar.specs.Parts as parts
-use Rattle.grammar.specs.Parts.{telling, begins_telling, begins_name, name_in}
-use Rattle.grammar.specs.Reading.{Outcome, Parser, one_token}
-use Rattle.grammar.proofs.Outcomes.{Answers, Reached, step, unstep, value, last}
+use Rattle.grammar.specs.Parts.{begins_name, name_in}
+use Rattle.grammar.specs.Reading.{one_token}
+use Rattle.grammar.proofs.Outcomes.{Reached, step, unstep, value, last}
 use Rattle.grammar.proofs.Lists.{Sound, Complete, Shrinks, Starts}
 use Rattle.grammar.proofs.Parts.{one_token_sound, one_token_complete, telling_shrinks}
 use Rattle.expressions.specs.Marks.{left_in, sign_in, begins_left, begins_sign}

@@ -1,14 +1,11 @@
 -- Qualified names and subscripts: what is read is spelled, and what is spelled is read.
-use Rattle.std.proofs.Common.{◌≡◌, ◌<◌, ◌≤◌, Bool, true, false, List, [], ◌∷◌, length, Ok, inl, inr, refl, sym, ap, ◌∙◌, subst, arith}
+use Rattle.std.proofs.Common.{◌≡◌, ◌≤◌, Bool, true, false, List, length, Ok, inl, inr, refl, ap, subst, arith}
 use Rattle.std.specs.Prelude.{◌||◌, if◌then◌else◌}
 use Rattle.tokens.specs.declared.reserved.Reserved.TheVariants as w
 use Rattle.tokens.specs.declared.token.Token.{Token}
-use Rattle.source_tree.specs.declared.name.Name.{Name}
 use Rattle.source_tree.specs.declared.literal.Integer.{Integer}
-use Rattle.source_tree.specs.declared.reference.QualifiedName.{QualifiedName}
 use Rattle.source_tree.specs.declared.reference.Adjustment.{Adjustment}
 use Rattle.source_tree.specs.declared.reference.Adjustment.TheVariants as adjustment
-use Rattle.source_tree.specs.declared.reference.Subscript.{Subscript}
 use Rattle.source_tree.specs.declared.reference.Subscript.TheVariants as subscript_as
 use Rattle.grammar.specs.declared.fault.Halt.{Halt}
 use Rattle.grammar.specs.Parts as parts
@@ -16,8 +13,8 @@ use Rattle.grammar.specs.Parts.{tested, telling, begins_telling, name_in}
 use Rattle.grammar.specs.Reading as read
 use Rattle.tokens.specs.Reserved.{same_word}
 use Rattle.grammar.specs.Reading.{Outcome, Parser, ◌>>◌, begins_word, one_token}
-use Rattle.grammar.proofs.Outcomes.{Answers, Reached, step, unstep, value, after, last}
-use Rattle.grammar.proofs.Looking.{Tests, tests_tested, word_begins, begins_no_other}
+use Rattle.grammar.proofs.Outcomes.{Reached, step, unstep, value, after, last}
+use Rattle.grammar.proofs.Looking.{tests_tested, word_begins, begins_no_other}
 use Rattle.grammar.proofs.Lists as lists
 use Rattle.grammar.proofs.Lists.{Sound, Complete, Shrinks, Starts}
 use Rattle.grammar.proofs.Parts.{name_sound, name_complete, name_shrinks, name_starts, word_sound, word_complete, word_shrinks, one_token_sound, one_token_complete, telling_shrinks, telling_starts}

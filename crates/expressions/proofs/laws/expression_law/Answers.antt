@@ -1,5 +1,5 @@
 use Rattle.expressions.proofs.Exact.Expressions.{expression_sound}
-use Rattle.expressions.proofs.Exact.Laws.{Never, only, only_to_depth}
+use Rattle.expressions.proofs.Exact.Laws.{only_to_depth}
 use Rattle.expressions.proofs.laws.expression_law.Goals as goal
 
 pub returns-clause-spelled : goal.returns-clause-spelled

@@ -1,6 +1,6 @@
 use Rattle.expressions.specs.Literals.{literal, literal_reader}
 use Rattle.expressions.proofs.Exact.Literals.{literal_sound, literal_complete}
-use Rattle.expressions.proofs.Exact.Laws.{Never, only, only_to_depth}
+use Rattle.expressions.proofs.Exact.Laws.{Never, only}
 use Rattle.expressions.proofs.laws.literal_law.Goals as goal
 
 pub returns-clause-spelled : goal.returns-clause-spelled

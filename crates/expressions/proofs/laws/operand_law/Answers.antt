@@ -1,6 +1,6 @@
 use Rattle.expressions.specs.Operands.{operand, operand_reader, number_operand, number_operand_reader}
 use Rattle.expressions.proofs.Exact.Operands.{operand_sound, operand_complete, number_operand_sound, number_operand_complete}
-use Rattle.expressions.proofs.Exact.Laws.{Never, only, only_to_depth}
+use Rattle.expressions.proofs.Exact.Laws.{Never, only}
 use Rattle.expressions.proofs.laws.operand_law.Goals as goal
 
 pub returns-clause-spelled : goal.returns-clause-spelled

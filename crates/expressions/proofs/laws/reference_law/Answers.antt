@@ -1,6 +1,6 @@
 use Rattle.expressions.specs.References.{reference, reference_reader}
 use Rattle.expressions.proofs.Exact.References.{reference_sound, reference_complete}
-use Rattle.expressions.proofs.Exact.Laws.{Never, only, only_to_depth}
+use Rattle.expressions.proofs.Exact.Laws.{Never, only}
 use Rattle.expressions.proofs.laws.reference_law.Goals as goal
 
 pub returns-clause-spelled : goal.returns-clause-spelled
