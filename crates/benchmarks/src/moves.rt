@@ -234,7 +234,12 @@ pub fn measure(rt: &HostRuntime) -> io::Result<()> {
         moved,
         read.saturating_add(stored),
     )?;
-    print(rt, "edit of 12 places beside store, 9 digits", edited, stored)?;
+    print(
+        rt,
+        "edit of 12 places beside store, 9 digits",
+        edited,
+        stored,
+    )?;
     for size in SIZES {
         measure_texts(rt, size)?;
     }

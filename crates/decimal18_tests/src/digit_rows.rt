@@ -51,11 +51,7 @@ fn runs_of_digits(rt: HostRuntime) {
     same(&rt, number_behind(0, b"0000000"), Some(0));
     same(&rt, number_behind(7, b""), Some(7));
     same(&rt, number_behind(12, b"3"), Some(123));
-    same(
-        &rt,
-        number_behind(12, b"34567890"),
-        Some(1_234_567_890),
-    );
+    same(&rt, number_behind(12, b"34567890"), Some(1_234_567_890));
     same(
         &rt,
         number_behind(12, b"3456789012345678"),

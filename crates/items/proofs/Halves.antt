@@ -287,5 +287,5 @@ pub pair_put : (bytes : List ℕ) (at m rest value : ℕ) → 0 < at → at ≤ 
     (at - 1 ≤ length new) × (rest / 100 ≡ m / 10 ^ (2 * (length new - (at - 1)))) × (drop (at - 1) new ≡ joined (digit_halves (2 * (length new - (at - 1))) m))
 pair_put bytes at m rest value some h e written is =
     let P : ℕ → Type 0 = λ v. (at - 1 ≤ length (set bytes (at - 1) v)) × (rest / 100 ≡ m / 10 ^ (2 * (length (set bytes (at - 1) v) - (at - 1))))
-        × (drop (at - 1) (set bytes (at - 1) v) ≡ joined (digit_halves (2 * (length (set bytes (at - 1) v) - (at - 1))) m)) in
+    × (drop (at - 1) (set bytes (at - 1) v) ≡ joined (digit_halves (2 * (length (set bytes (at - 1) v) - (at - 1))) m)) in
     subst P (sym is) (pair_step bytes at m rest some h e written)

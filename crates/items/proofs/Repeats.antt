@@ -2,7 +2,8 @@
 use Rattle.std.proofs.Common.{◌≡◌, ℕ, zero, suc, ◌+◌, ◌-◌, ◌<◌, ◌≤◌, ◌⊎◌, inl, inr, List, [], ◌∷◌, ◌++◌, length, take, drop, get_or, set, ap, sym, ◌∙◌, arith, subst}
 use Rattle.std.proofs.lemmas.List.{append_assoc, append-nil, length-append, length-set, take-append-le, at_drop_more, take_more_set, drop_all}
 use Rattle.std.specs.List.{repeat}
-use Rattle.items.specs.Texts.{repeated}
+use Rattle.std.specs.Prelude.{replicate}
+use Rattle.items.specs.Texts.{repeated, padded, space}
 
 repeat_long : (n : ℕ) (text : List ℕ) → 1 ≤ length text → n ≤ length (repeat n text)
 repeat_long zero text h = omega arith
@@ -83,3 +84,11 @@ begin size text some =
     let all : size - 0 ≡ size = omega arith in
     let enough : size ≤ size = omega arith in
     ap (λ n. to_come n size text 0) all ∙ once_more size size text some enough
+
+-- ---- a text that fills its room
+
+-- A text that is no shorter than its room has no spaces behind it.
+pub full_text : (size : ℕ) (new text : List ℕ) → size ≤ length text → new ≡ take size text → new ≡ padded size text
+full_text size new text h e =
+    let none : 0 ≡ size - length text = omega arith in
+    e ∙ sym (append-nil (take size text)) ∙ ap (λ n. take size text ++ replicate n space) none

@@ -117,3 +117,30 @@ fn thirty_characters_at_the_most(rt: HostRuntime) {
     );
     same(&rt, answered(rt.alloc(), &[nine, twice]), Err(Some(20)));
 }
+
+// A text, and how its picture is written.
+const SPELLINGS: [(&str, &str); 8] = [
+    ("99", "99"),
+    ("9(2)", "9(2)"),
+    ("zZ9.99cr", "ZZ9.99CR"),
+    ("s9(09)v9(9)", "S9(9)V9(9)"),
+    ("x(001)", "X"),
+    ("XXBXX/X", "XXBXX/X"),
+    (
+        "x(999999999999999999999999999)",
+        "X(999999999999999999999999999)",
+    ),
+    ("$$,$$(003)9.99DB", "$$,$$(3)9.99DB"),
+];
+
+#[test]
+fn spellings(rt: HostRuntime) -> Result<(), Fail> {
+    for (text, spelled) in SPELLINGS.iter() {
+        let picture = Picture::read(rt.alloc(), text.as_bytes())?;
+        let told = picture.spelling()?;
+        same_in(&rt, text, told.as_slice(), spelled.as_bytes());
+        let again = Picture::read(rt.alloc(), told.as_slice())?;
+        says_the_same(&rt, text, &again, &picture);
+    }
+    Ok(())
+}
