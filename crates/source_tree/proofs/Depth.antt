@@ -4,13 +4,12 @@ use Rattle.source_tree.specs.declared.performing.Performed.{Performed}
 use Rattle.source_tree.specs.declared.performing.Performed.TheVariants.{Statements}
 use Rattle.source_tree.specs.declared.performing.Turns.{Turns}
 use Rattle.source_tree.specs.declared.performing.Turns.TheVariants.{Once}
-use Rattle.source_tree.specs.declared.performing.Performing.{Performing}
 use Rattle.source_tree.specs.declared.statement.Verb.{Verb}
 use Rattle.source_tree.specs.declared.statement.Verb.TheVariants as verb
 use Rattle.source_tree.specs.declared.statement.Statement.{Statement, out-Statement}
 use Rattle.source_tree.specs.declared.program.Paragraph.{Paragraph}
 use Rattle.source_tree.specs.State.{State, Outcome, Done, Over, then_do, in_turn, spend_from}
-use Rattle.source_tree.specs.Performing.{repeat, body, performing}
+use Rattle.source_tree.specs.Performing.{repeat, body}
 use Rattle.source_tree.specs.Meaning.{step, exec, sentence, paragraph, range}
 use Rattle.source_tree.proofs.Runs
 use Rattle.source_tree.proofs.Runs.{Within, IsRun, in_turn_runs, body_runs, exec_runs, paragraph_runs}
