@@ -1,11 +1,11 @@
 -- The forest of the entries in a group, and of those after it.
-use Rattle.std.proofs.Common.{◌≡◌, ℕ, suc, ◌<◌, Bool, true, false, nat_lt, if◌then◌else◌, List, [], ◌∷◌, take, drop, refl, sym, ap, ◌∙◌, arith}
+use Rattle.std.proofs.Common.{◌≡◌, ℕ, ◌<◌, Bool, true, false, nat_lt, List, [], ◌∷◌, take, drop, refl, sym, ap, ◌∙◌, arith}
 use Rattle.source_tree.specs.declared.entry.ItemEntry.{ItemEntry}
 use Rattle.source_tree.specs.declared.entry.ConditionEntry.{ConditionEntry}
 use Rattle.source_tree.specs.declared.entry.Entry.{Entry}
 use Rattle.source_tree.specs.declared.entry.Entry.TheVariants.{Item, Condition}
 use Rattle.source_tree.specs.Levels.{Forest, End, Tree, level_of, deeper, beyond, leading, nested, with_entry}
-use Rattle.entries.specs.Nesting.{is_deeper, deeper_count}
+use Rattle.entries.specs.Nesting.{deeper_count}
 
 -- what is deeper than the inner level is deeper than the outer one
 below : (outer inner n : ℕ) → outer < inner → nat_lt inner n ≡ true → nat_lt outer n ≡ true

@@ -30,19 +30,26 @@ fn some_entries(rt: &impl Abort, alloc: Global) -> Vec<Entry> {
     entries
 }
 
+// The entries but for so many at the front.
+fn behind<'a>(rt: &impl Abort, entries: &'a [Entry], count: usize) -> &'a [Entry] {
+    let enough = count <= entries.len();
+    assert!(rt; enough);
+    &entries[count..]
+}
+
 #[test]
 fn first_items(rt: HostRuntime) {
     let entries = some_entries(&rt, rt.alloc());
     same(&rt, first_item(&rt, &entries), (3, 1));
-    same(&rt, first_item(&rt, &entries[1..]), (1, 2));
-    same(&rt, first_item(&rt, &entries[4..]), (0, 0));
+    same(&rt, first_item(&rt, behind(&rt, &entries, 1)), (1, 2));
+    same(&rt, first_item(&rt, behind(&rt, &entries, 4)), (0, 0));
 }
 
 #[test]
 fn groups(rt: HostRuntime) {
     let entries = some_entries(&rt, rt.alloc());
-    let (inner, next) = split_group(1, &entries[1..]);
+    let (inner, next) = split_group(1, behind(&rt, &entries, 1));
     same(&rt, (inner.len(), next.len()), (3, 1));
-    let (inner, next) = split_group(5, &entries[1..]);
+    let (inner, next) = split_group(5, behind(&rt, &entries, 1));
     same(&rt, (inner.len(), next.len()), (0, 4));
 }

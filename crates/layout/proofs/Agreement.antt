@@ -1,12 +1,10 @@
 -- The places of the definition are those that the code takes, one after another.
-use Rattle.std.proofs.Common.{◌≡◌, ℕ, ◌+◌, ◌-◌, Bool, true, false, if◌then◌else◌, List, [], ◌∷◌, ◌++◌, refl, ap, ◌∙◌}
+use Rattle.std.proofs.Common.{◌≡◌, ℕ, ◌+◌, ◌-◌, Bool, true, false, if◌then◌else◌, [], ◌∷◌, ◌++◌, refl, ap, ◌∙◌}
 use Rattle.std.specs.Prelude.{map}
 use Rattle.std.proofs.lemmas.List.{map-append, append-nil}
-use Rattle.source_tree.specs.declared.table.Dimension.{Dimension}
-use Rattle.source_tree.specs.declared.entry.Around.{Around}
 use Rattle.source_tree.specs.declared.entry.ItemEntry.{ItemEntry}
 use Rattle.source_tree.specs.Levels.{Forest, End, Tree}
-use Rattle.source_tree.specs.Clauses.{nothing_around, inside, occurrences}
+use Rattle.source_tree.specs.Clauses.{nothing_around, inside}
 use Rattle.source_tree.specs.Rooms.{redefines, item_with}
 use Rattle.source_tree.specs.Places.{Surroundings, with_dimension, within, places, top, storage_places}
 use Rattle.layout.specs.declared.placed.PlacedItem.{PlacedItem}

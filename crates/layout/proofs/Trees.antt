@@ -1,5 +1,6 @@
 -- What is known of a forest whose first item is known.
-use Rattle.std.proofs.Common.{◌≡◌, ℕ, ◌+◌, ◌-◌, if◌then◌else◌, List, [], ◌∷◌, ◌++◌, sym, ap, subst, ◌∙◌, append_assoc}
+use Rattle.std.proofs.Common.{◌≡◌, ℕ, ◌+◌, ◌-◌, if◌then◌else◌, List, [], ◌∷◌, ◌++◌, sym, ap, subst, ◌∙◌, append_assoc, ◌≤◌, Bool, true, false, arith}
+use Rattle.std.proofs.lemmas.List.{append-nil}
 use Rattle.source_tree.specs.declared.table.Dimension.{Dimension}
 use Rattle.source_tree.specs.declared.entry.Around.{Around}
 use Rattle.source_tree.specs.declared.entry.ItemEntry.{ItemEntry}
@@ -49,3 +50,35 @@ stored_tree out areas area F one conditions inner next e is =
     append_assoc out (entry_items nothing_around area [] one inner 0) (storage_items (area + 1) next)
     ∙ ap (λ n. out ++ (entry_items nothing_around n [] one inner 0 ++ storage_items (n + 1) next)) is
     ∙ ap (λ G. out ++ storage_items areas G) (sym e)
+
+-- ---- turns of the loops
+
+pub below_if : (b : Bool) (n x y m : ℕ) → n ≡ (if b then x else y) → x ≤ m → y ≤ m → n ≤ m
+below_if true n x y m e hx hy = omega (arith, e)
+below_if false n x y m e hx hy = omega (arith, e)
+
+pub group_step : (new out all : List PlacedItem) (around : Around) (area : ℕ) (dimensions : List Dimension) (last here at n : ℕ) (F : Forest) (one : ItemEntry) (conditions : List ConditionEntry) (inner next : Forest)
+    → F ≡ Tree one conditions inner next → at ≡ (if redefines one then last else here) → n ≡ taken around one inner
+    → new ≡ out ++ entry_items around area dimensions one inner at → out ++ group_items around area dimensions last here F ≡ all
+    → new ++ group_items around area dimensions at (here + n) next ≡ all
+group_step new out all around area dimensions last here at n F one conditions inner next e begin bytes added before =
+    ap (λ l. l ++ group_items around area dimensions at (here + n) next) added
+    ∙ ap (λ m. (out ++ entry_items around area dimensions one inner at) ++ group_items around area dimensions at (here + m) next) bytes
+    ∙ placed_tree out around area dimensions last here at F one conditions inner next e begin ∙ before
+
+pub group_end : (out all : List PlacedItem) (around : Around) (area : ℕ) (dimensions : List Dimension) (last here : ℕ) (F : Forest)
+    → F ≡ End → out ++ group_items around area dimensions last here F ≡ all → out ≡ all
+unfolding group_items
+group_end out all around area dimensions last here F e before =
+    sym (append-nil out) ∙ ap (λ G. out ++ group_items around area dimensions last here G) (sym e) ∙ before
+
+pub storage_step : (new out all : List PlacedItem) (areas area : ℕ) (F : Forest) (one : ItemEntry) (conditions : List ConditionEntry) (inner next : Forest)
+    → F ≡ Tree one conditions inner next → area ≡ (if redefines one then areas - 1 else areas)
+    → new ≡ out ++ entry_items nothing_around area [] one inner 0 → out ++ storage_items areas F ≡ all
+    → new ++ storage_items (area + 1) next ≡ all
+storage_step new out all areas area F one conditions inner next e is added before =
+    ap (λ l. l ++ storage_items (area + 1) next) added ∙ stored_tree out areas area F one conditions inner next e is ∙ before
+
+pub storage_end : (out all : List PlacedItem) (areas : ℕ) (F : Forest) → F ≡ End → out ++ storage_items areas F ≡ all → out ≡ all
+unfolding storage_items
+storage_end out all areas F e before = sym (append-nil out) ∙ ap (λ G. out ++ storage_items areas G) (sym e) ∙ before
