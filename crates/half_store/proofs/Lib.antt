@@ -1,0 +1,10 @@
+mod Examples
+mod Staged
+mod Written
+mod Rooted
+mod Parts
+mod Inserted
+mod Placed
+mod Replaced
+mod Sought
+mod Turned
