@@ -8,3 +8,9 @@ mod Placed
 mod Replaced
 mod Sought
 mod Turned
+mod Rested
+mod ReadBack
+mod ReadFile
+mod Checked
+mod Formatted
+mod Opened

@@ -8,3 +8,6 @@ pub mod Seeking
 pub mod Changing
 pub mod Settled
 pub mod Held
+pub mod Read
+pub mod Readable
+pub mod Opened

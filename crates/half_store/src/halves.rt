@@ -18,7 +18,7 @@ use std::alloc::Global;
 
 /// The sectors of a half.
 #[tactic(auto, unfolding(crate::specs::Half::half))]
-fn half_of(sectors: u32) -> u32
+pub(crate) fn half_of(sectors: u32) -> u32
     requires { 2 ≤ sectors }
     ensures { result ≡ half sectors }
 {
@@ -27,7 +27,7 @@ fn half_of(sectors: u32) -> u32
 
 /// The first sector of the half of a generation.
 #[tactic(auto, unfolding(crate::specs::Half::start, crate::specs::Half::half))]
-fn start_of(sectors: u32, generation: u64) -> u32
+pub(crate) fn start_of(sectors: u32, generation: u64) -> u32
     requires least { 2 ≤ sectors }
     requires most { sectors ≤ 921600 }
     ensures { result ≡ start sectors generation }
@@ -37,7 +37,7 @@ fn start_of(sectors: u32, generation: u64) -> u32
 
 /// The sectors of so many bytes.
 #[tactic(auto, unfolding(crate::specs::Half::count))]
-fn count_of(bytes: usize) -> u32
+pub(crate) fn count_of(bytes: usize) -> u32
     requires { bytes ≤ 2 ^ 40 }
     ensures { result ≡ count bytes }
 {

@@ -5,11 +5,16 @@
 
 mod blocks;
 mod changing;
+mod checking;
 mod creating;
+mod empty;
 mod finding;
 mod halves;
+mod heads;
 mod keeping;
 mod inserting;
+mod opening;
+mod reading;
 mod removing;
 mod replacing;
 mod root;
@@ -20,5 +25,7 @@ mod spelling;
 mod store;
 mod stored;
 
+pub use empty::format;
+pub use opening::recover;
 pub use store::HalfStore;
 pub use stored::{StoredFile, StoredRow};
