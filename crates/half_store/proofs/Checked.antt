@@ -49,6 +49,7 @@ module _ {A K : Type 0} (c : K → K → Ordering) (total : IsTotalOrder c) (f :
           let below = sorted_head c (f (get_or items (k + 1) d)) (map f (drop (k + 1 + 1) items)) rest in
           both (f (get_or items k d)) (map f (drop (k + 1) items))
           (subst (λ (l : List A). AllByRecursion (λ other. c (f (get_or items k d)) other ≡ Less) (map f l)) (sym next) (less there, lower (f (get_or items k d)) (f (get_or items (k + 1) d)) (map f (drop (k + 1 + 1) items)) (less there) below)) sorted
+
       last : length items ≤ k + 1 → IsStrictlySortedBy c (map f (get_or items k d ∷ drop (k + 1) items))
       last le = both (f (get_or items k d)) (map f (drop (k + 1) items)) (subst (λ (l : List A). AllByRecursion (λ other. c (f (get_or items k d)) other ≡ Less) (map f l)) (sym (drop_all (k + 1) items le)) tt) sorted
 

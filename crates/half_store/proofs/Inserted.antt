@@ -48,4 +48,3 @@ module _ (o : Organization) (number : ℕ) (bytes : List ℕ) (rows : List Store
       let none : drop k rows ≡ [] = drop_all k rows le in
       so_far new is ∙ ap (λ (l : List StoredRow). map row_of (take k rows) ++ with_row o new (map row_of l)) none
       ∙ ap (λ (l : List StoredRow). map row_of (take k rows) ++ new ∷ map row_of l) (sym none)
-

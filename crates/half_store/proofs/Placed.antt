@@ -100,7 +100,6 @@ early_held g name files held early is = go files early (subst (λ (o : Option Fi
 pub no_change : (name : List ℕ) (files : Files) (changed : Changed) → is_change changed.outcome ≡ false → files_after name files changed ≡ files
 no_change name files changed is = ap (λ (b : Bool). after_if b name changed.file files) is
 
-
 -- a changed file among files
 three_ok : {T E A B : Type 0} {Q R : T → Type 0} (r : Result T E) → IfOk r Q → OnOk r A → OnOk r B → IfOk r R → {C : Type 0} → ((x : T) → Q x → A → B → R x → C) → OnOk r C
 three_ok (Ok x) q a b r from = from x q a b r
@@ -183,6 +182,7 @@ put_before name files k d f passed behind named = sym (passed (file_of f) ∙ ap
         ∙ not_before (bytes_cmp (get_or files k d).spec.name.items name) name (file_of f) (named_of (get_or files k d)) (files_of (drop (k + 1) files)) (behind lt).0 (behind lt).1
         ∙ ap (λ (n : List ℕ). record { name = n; file = file_of f } ∷ named_of (get_or files k d) ∷ files_of (drop (k + 1) files)) (sym named)
         ∙ ap (λ (l : List StoredFile). named_of f ∷ files_of l) (sym (drop_more files k d lt))
+
     past : length files ≤ k → with_file name (file_of f) (files_of (drop k files)) ≡ files_of (f ∷ drop k files)
     past le = ap (λ (l : List StoredFile). with_file name (file_of f) (files_of l)) (drop_all k files le)
         ∙ ap (λ (n : List ℕ). let one : Named = record { name = n; file = file_of f } in one ∷ []) (sym named)

@@ -184,8 +184,13 @@ each_long size spelled long [] = tt
 each_long size spelled long (a ∷ items) = (long a, each_long size spelled long items)
 
 pub alternates_long : (keys : List AlternateKey) → length keys ≤ 7 → length (alternates_bytes keys) ≡ 35
-alternates_long keys few = omega (arith, few, length-append (flat_map alternate_bytes keys) (replicate (5 * (7 - length keys)) 0), length-replicate {A = ℕ} (5 * (7 - length keys)) 0,
-    all_long 5 key_in alternate_bytes keys (each_long 5 alternate_bytes (λ key. refl) keys))
+alternates_long keys few = omega (
+  arith,
+  few,
+  length-append (flat_map alternate_bytes keys) (replicate (5 * (7 - length keys)) 0),
+  length-replicate {A = ℕ} (5 * (7 - length keys)) 0,
+  all_long 5 key_in alternate_bytes keys (each_long 5 alternate_bytes (λ key. refl) keys),
+)
 
 pub keys_back : (keys : List AlternateKey) (more : List ℕ) → AreSmall keys → keys_in (length keys) (alternates_bytes keys ++ more) ≡ keys
 keys_back keys more small = ap (keys_in (length keys)) (append_assoc (flat_map alternate_bytes keys) (replicate (5 * (7 - length keys)) 0) more)
@@ -233,12 +238,12 @@ module _ (spec : Spec) (next : ℕ) (lt : next < 2 ^ 64) (is : IsPlain spec) (ro
   row_same : (more : List ℕ) → row_in spec (row_bytes o row ++ more) ≡ row
   row_same more =
       ap (λ (n : ℕ). row_with n (take spec.record_length (drop (key_size o) (row_bytes o row ++ more))) (numbers_in (length spec.alternates) (drop spec.record_length (drop (key_size o) (row_bytes o row ++ more)))))
-          (ap (number_in o) (grouped more) ∙ number_of o next row (row.bytes ++ (arrived ++ more)) lt good.number)
+      (ap (number_in o) (grouped more) ∙ number_of o next row (row.bytes ++ (arrived ++ more)) lt good.number)
       ∙ ap (λ (b : List ℕ). row_with row.number b (numbers_in (length spec.alternates) (drop spec.record_length (drop (key_size o) (row_bytes o row ++ more)))))
-          (ap (take spec.record_length) (behind_key more) ∙ take_at row.bytes (arrived ++ more) spec.record_length good.long)
+      (ap (take spec.record_length) (behind_key more) ∙ take_at row.bytes (arrived ++ more) spec.record_length good.long)
       ∙ ap (λ (a : List ℕ). row_with row.number row.bytes a)
-          (ap (numbers_in (length spec.alternates)) (behind_record more) ∙ ap (λ (n : ℕ). numbers_in n (arrived ++ more)) (sym good.arrivals)
-          ∙ all_same 8 (big_number 8) (big_bytes 8) row.arrivals more (all_numbers next row.arrivals lt good.given))
+      (ap (numbers_in (length spec.alternates)) (behind_record more) ∙ ap (λ (n : ℕ). numbers_in n (arrived ++ more)) (sym good.arrivals)
+      ∙ all_same 8 (big_number 8) (big_bytes 8) row.arrivals more (all_numbers next row.arrivals lt good.given))
 
   row_rest : (more : List ℕ) → drop (row_size spec) (row_bytes o row ++ more) ≡ more
   row_rest more =
@@ -251,8 +256,15 @@ module _ (spec : Spec) (next : ℕ) (lt : next < 2 ^ 64) (is : IsPlain spec) (ro
   row_back = record { same = row_same; rest = row_rest }
 
   pub row_long : length (row_bytes o row) ≡ row_size spec
-  row_long = omega (arith, length-append (key ++ row.bytes) arrived, length-append key row.bytes, own_key, good.long, good.arrivals,
-      all_long 8 (big_number 8) (big_bytes 8) row.arrivals (each_long 8 (big_bytes 8) (λ n. refl) row.arrivals))
+  row_long = omega (
+    arith,
+    length-append (key ++ row.bytes) arrived,
+    length-append key row.bytes,
+    own_key,
+    good.long,
+    good.arrivals,
+    all_long 8 (big_number 8) (big_bytes 8) row.arrivals (each_long 8 (big_bytes 8) (λ n. refl) row.arrivals),
+  )
 
 pub all_rows : (spec : Spec) (next : ℕ) (rows : List Row) → next < 2 ^ 64 → IsPlain spec → AllByRecursion (IsRow spec next) rows
     → AllByRecursion (Back (row_size spec) (row_in spec) (row_bytes spec.organization)) rows × AllByRecursion (λ row. length (row_bytes spec.organization row) ≡ row_size spec) rows
@@ -309,7 +321,9 @@ spec_told None name o n keys name' spec some file a b c d named sound = absurd (
     ∙ ap (λ (x : ℕ). is_name name' && is_spec (record { organization = spec.organization; record_length = x; alternates = keys.items })) c
     ∙ ap (λ (x : List AlternateKey). is_name name' && is_spec (record { organization = spec.organization; record_length = spec.record_length; alternates = x })) d
     ∙ ap (λ (b : Bool). b && is_spec spec) named ∙ sound in cc)
-spec_told (Some f) name o n keys name' spec some file a b c d named sound = (ap (λ (v : Vec ℕ Global). v.items) file.0 ∙ a,
-    ap (λ (x : Organization). let s : Spec = record { organization = x; record_length = f.record_length; alternates = f.alternates.items } in s) (file.1 ∙ b)
-    ∙ ap (λ (x : ℕ). let s : Spec = record { organization = spec.organization; record_length = x; alternates = f.alternates.items } in s) (file.2 ∙ c)
-    ∙ ap (λ (x : List AlternateKey). let s : Spec = record { organization = spec.organization; record_length = spec.record_length; alternates = x } in s) (ap (λ (v : Vec AlternateKey Global). v.items) file.3 ∙ d))
+spec_told (Some f) name o n keys name' spec some file a b c d named sound = (
+  ap (λ (v : Vec ℕ Global). v.items) file.0 ∙ a,
+  ap (λ (x : Organization). let s : Spec = record { organization = x; record_length = f.record_length; alternates = f.alternates.items } in s) (file.1 ∙ b)
+      ∙ ap (λ (x : ℕ). let s : Spec = record { organization = spec.organization; record_length = x; alternates = f.alternates.items } in s) (file.2 ∙ c)
+      ∙ ap (λ (x : List AlternateKey). let s : Spec = record { organization = spec.organization; record_length = spec.record_length; alternates = x } in s) (ap (λ (v : Vec AlternateKey Global). v.items) file.3 ∙ d),
+)

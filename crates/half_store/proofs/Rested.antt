@@ -59,11 +59,11 @@ module _ (bytes : List ℕ) (at : ℕ) (one : Named) (more : List ℕ) (good : I
   file_is rows next read arrival =
       ap (λ (l : List ℕ). let n : Named = record { name = l; file = record { spec = spec_of spec; rows = map row_of rows; next_arrival = next } } in n) told.0
       ∙ ap (λ (l : List Row). let n : Named = record { name = one.name; file = record { spec = spec_of spec; rows = l; next_arrival = next } } in n)
-          (read ∙ ap (rows_in (spec_of spec) count) (sym (drop-drop 121 at bytes)) ∙ ap (λ (s : Spec). rows_in s count (drop 121 (drop at bytes))) told.1
-          ∙ ap (λ (k : ℕ). rows_in one.file.spec k (drop 121 (drop at bytes))) count_rows ∙ rows_are one more (drop at bytes) good is)
+      (read ∙ ap (rows_in (spec_of spec) count) (sym (drop-drop 121 at bytes)) ∙ ap (λ (s : Spec). rows_in s count (drop 121 (drop at bytes))) told.1
+      ∙ ap (λ (k : ℕ). rows_in one.file.spec k (drop 121 (drop at bytes))) count_rows ∙ rows_are one more (drop at bytes) good is)
       ∙ ap (λ (s : Spec). let n : Named = record { name = one.name; file = record { spec = s; rows = one.file.rows; next_arrival = next } } in n) told.1
       ∙ ap (λ (k : ℕ). let n : Named = record { name = one.name; file = record { spec = one.file.spec; rows = one.file.rows; next_arrival = k } } in n)
-          (arrival ∙ ap (big_number 8) (sym (drop-drop 105 at bytes)) ∙ next_is one more (drop at bytes) good is)
+      (arrival ∙ ap (big_number 8) (sym (drop-drop 105 at bytes)) ∙ next_is one more (drop at bytes) good is)
 
   pub end_is : (end : ℕ) → end ≡ at + 121 + row_size (spec_of spec) * count → drop end bytes ≡ more
   end_is end same = ap (λ (n : ℕ). drop n bytes) (same ∙ ap (λ (n : ℕ). at + 121 + n) sized ∙ (let e : at + 121 + row_size one.file.spec * length one.file.rows ≡ at + (121 + row_size one.file.spec * length one.file.rows) = grouped (row_size one.file.spec * length one.file.rows) in e))

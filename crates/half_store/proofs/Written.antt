@@ -184,4 +184,3 @@ module _ (n g : ℕ) (base : List Sector) (before after : Files) (bytes : List �
 pub drafted_at : (n g : ℕ) (bytes : List ℕ) (planned : List Block) (sector : Sector) → IsDraft n g bytes planned sector → (there : ℕ) → 1024 ≤ n → n ≤ there → SectorsAre (λ s. s < there) planned
 drafted_at n g bytes planned sector draft there least size = subst (SectorsAre (λ (s : ℕ). s < there)) (sym draft.blocks)
     (are_at [] (start n (g + 1)) draft.long there (count (length bytes)) (omega (arith, size, few (length bytes) n draft.fits, within n (g + 1) (omega (arith, least)))))
-

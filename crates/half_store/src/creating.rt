@@ -72,7 +72,14 @@ pub(crate) fn create_in(
     ensures sound { result ≢ Err StoreFault.Damaged }
 {
     let place = place_of_name(files, &spec.name);
-    if place < files.len() && files[place].spec.name.as_slice().cmp(spec.name.as_slice()).is_eq() {
+    if place < files.len()
+        && files[place]
+            .spec
+            .name
+            .as_slice()
+            .cmp(spec.name.as_slice())
+            .is_eq()
+    {
         files[place] = fresh_file(alloc, spec)?;
         return Ok(());
     }

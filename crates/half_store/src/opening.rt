@@ -48,10 +48,10 @@ fn are_zeros(bytes: &[u8]) -> bool
 }
 
 /// Whether the payload of a root has zeros behind the length.
-fn has_zeros(root: &Root) -> bool
-    ensures { result ≡ list_all (λ byte. byte == 0) (drop 8 root.now.payload) }
+fn has_zeros(payload: &[u8; 4076]) -> bool
+    ensures { result ≡ list_all (λ byte. byte == 0) (drop 8 payload.now) }
 {
-    are_zeros(&root.payload[8..])
+    are_zeros(&payload[8..])
 }
 
 /// How many bytes of its half a root names.
@@ -70,7 +70,7 @@ fn is_half_root(root: &Root) -> bool
     if length_in(root) > 4096 * half_of(root.sectors) as u64 {
         return false;
     }
-    has_zeros(root)
+    has_zeros(&root.payload)
 }
 
 /// Whether both roots of a volume are so.

@@ -94,12 +94,7 @@ fn read_row(alloc: Global, bytes: &[u8], spec: &FileSpec) -> Result<StoredRow, S
 }
 
 /// The row from a place on.
-fn row_at(
-    alloc: Global,
-    bytes: &[u8],
-    at: usize,
-    spec: &FileSpec,
-) -> Result<StoredRow, StoreFault>
+fn row_at(alloc: Global, bytes: &[u8], at: usize, spec: &FileSpec) -> Result<StoredRow, StoreFault>
     requires { at + read.row_size (spec_of spec.now) ≤ length bytes.now }
     ensures row { IfOk result (λ row. row_of row ≡ row_in (spec_of spec.now) (drop at bytes.now)) }
     ensures memory { IsOkUnless result StoreFault.Memory }
@@ -191,10 +186,7 @@ fn read_file(alloc: Global, bytes: &[u8], at: usize) -> Result<Option<FoundFile>
 }
 
 /// The files that bytes spell, if they spell any. It may find files that spell other bytes.
-pub(crate) fn read_files(
-    alloc: Global,
-    bytes: &[u8],
-) -> Result<Option<Vec<StoredFile>>, StoreFault>
+pub(crate) fn read_files(alloc: Global, bytes: &[u8]) -> Result<Option<Vec<StoredFile>>, StoreFault>
     ensures files { (files : Files) → AllByRecursion IsReadable files → bytes.now ≡ spelled files → IfRead result (λ found. files_of found.items ≡ files) }
     ensures memory { IsOkUnless result StoreFault.Memory }
 {

@@ -184,11 +184,7 @@ fn next_after(changed: bool, next: u64) -> u64
     requires { next + 1 < 2 ^ 64 }
     ensures { result ≡ (if changed then next + 1 else next) }
 {
-    if changed {
-        next + 1
-    } else {
-        next
-    }
+    if changed { next + 1 } else { next }
 }
 
 /// The row of the record's prime key, or of this number where the file has none, gets another record.
@@ -210,14 +206,29 @@ pub(crate) fn replace_row(
     };
     let keys = spec.alternates.as_slice();
     let old = &file.rows[place];
-    if has_other_taken(keys, &file.rows, organization, number, prime, &old.bytes, bytes) {
+    if has_other_taken(
+        keys,
+        &file.rows,
+        organization,
+        number,
+        prime,
+        &old.bytes,
+        bytes,
+    ) {
         return Ok(Outcome::Taken);
     }
     if file.next_arrival >= ARRIVALS - 1 {
         return Err(StoreFault::Full);
     }
-    let duplicate =
-        has_other_duplicate(keys, &file.rows, organization, number, prime, &old.bytes, bytes);
+    let duplicate = has_other_duplicate(
+        keys,
+        &file.rows,
+        organization,
+        number,
+        prime,
+        &old.bytes,
+        bytes,
+    );
     let changed = is_any_changed(keys, &old.bytes, bytes);
     let row = row_after(alloc, old, bytes, file.next_arrival, keys)?;
     file.rows[place] = row;

@@ -46,8 +46,16 @@ fn a_failure_spends_the_store(rt: HostRuntime) {
     let log = sequential(&rt, alloc, b"LOG", 4);
     same(&rt, volume.create(&rt, &log), Ok(()));
     volume.station.fail_at(1);
-    same(&rt, volume.insert(&rt, &log, b"ONE "), Err(StoreFault::Device));
-    same(&rt, volume.insert(&rt, &log, b"ONE "), Err(StoreFault::Spent));
+    same(
+        &rt,
+        volume.insert(&rt, &log, b"ONE "),
+        Err(StoreFault::Device),
+    );
+    same(
+        &rt,
+        volume.insert(&rt, &log, b"ONE "),
+        Err(StoreFault::Spent),
+    );
     let found = volume.find(&rt, &log);
     same(&rt, found.is_err(), true);
 }

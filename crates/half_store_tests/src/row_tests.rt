@@ -25,10 +25,22 @@ fn rows_of_an_indexed_file(rt: HostRuntime) {
     let sales = indexed(&rt, alloc, true);
     same(&rt, volume.create(&rt, &sales), Ok(()));
     same(&rt, volume.insert(&rt, &sales, b"2X1"), Ok(Outcome::Done));
-    same(&rt, volume.insert(&rt, &sales, b"1X1"), Ok(Outcome::Duplicate));
+    same(
+        &rt,
+        volume.insert(&rt, &sales, b"1X1"),
+        Ok(Outcome::Duplicate),
+    );
     same(&rt, volume.insert(&rt, &sales, b"1Y1"), Ok(Outcome::Taken));
-    same(&rt, volume.replace(&rt, &sales, 0, b"1Z1"), Ok(Outcome::Done));
-    same(&rt, volume.replace(&rt, &sales, 0, b"3Z1"), Ok(Outcome::Missing));
+    same(
+        &rt,
+        volume.replace(&rt, &sales, 0, b"1Z1"),
+        Ok(Outcome::Done),
+    );
+    same(
+        &rt,
+        volume.replace(&rt, &sales, 0, b"3Z1"),
+        Ok(Outcome::Missing),
+    );
     same(&rt, volume.remove(&rt, &sales, b"2"), Ok(Outcome::Done));
     same(&rt, volume.remove(&rt, &sales, b"2"), Ok(Outcome::Missing));
     let mut bytes = [0; 3];

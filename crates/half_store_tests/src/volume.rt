@@ -71,6 +71,7 @@ fn file(
 }
 
 /// A store and the station that it is on.
+#[derive(Drop)]
 pub struct Volume {
     pub store: HalfStore,
     pub station: MemoryStation,

@@ -19,7 +19,7 @@ pub returns-clause-spec : goal.returns-clause-spec
 returns-clause-spec c = λ name spec more named sound is.
     let bytes = c.args.bytes.now in
     let kind = c.organization_of.ensures ∙ kind_back (slice_index bytes 30) c.place_at-prime.result spec.organization (kind_read name more bytes spec named sound is)
-        (c.place_at-prime.ensures ∙ prime_read name more bytes spec named sound is) in
+    (c.place_at-prime.ensures ∙ prime_read name more bytes spec named sound is) in
     let both = sym c.in-Some.is ∙ kind in
     let same : c.in-Some.organization ≡ spec.organization = cc in
     spec_told c.new.result c.in_ok-name.name c.in-Some.organization c.short_at-length.result c.in_ok-alternates.alternates name spec c.new.ensures.some c.new.ensures.file

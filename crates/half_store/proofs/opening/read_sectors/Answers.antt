@@ -1,4 +1,4 @@
-use Rattle.std.proofs.Common.{◌≡◌, ◌+◌, ◌*◌, ◌∙◌, ℕ, suc, List, ◌++◌, length, sym, ap, arith, length-append}
+use Rattle.std.proofs.Common.{◌≡◌, ◌+◌, ◌*◌, ◌∙◌, false, true, ℕ, suc, List, ◌++◌, length, sym, ap, arith, length-append}
 use Rattle.station.specs.Disk.{sector_at}
 use Rattle.station.specs.State.{State}
 use Rattle.station.proofs.Calls.{reads_nothing, reads_then}
@@ -15,7 +15,7 @@ loop-sector-preserved g c =
     let from = c.args.from in
     let state = g.D.Device.state in
     record {
-      only = reads_then g.D.Device ⊥ ⊥ ⊥ c.args.device.now c.loop-sector.device c.read_sector.new.device (λ e. absurd e) before.only c.in_ok-part.ensures.only;
+      only = reads_then g.D.Device ⊥ (false ≡ true) ⊥ c.args.device.now c.loop-sector.device c.read_sector.new.device (λ e. absurd e) before.only c.in_ok-part.ensures.only;
       long = ap length c.in_ok-extend_from_slice.ensures.items ∙ omega (arith, before.long, c.in_ok-part.ensures.long, length-append c.loop-sector.bytes.items c.in_ok-part.part);
       bytes = λ honest.
           c.in_ok-extend_from_slice.ensures.items

@@ -26,7 +26,7 @@ loop-at-preserved c = record {
       let some : 0 < length rest = omega (arith, length-drop c.loop-at.at bytes) in
       let next = next_of files done rest some (c.loop-at.invariant.rest files each is) in
       let told = subst (λ (o : Option FoundFile). IfRead (Ok o) (λ f. (named_of f.file ≡ next.one) × (drop f.end bytes ≡ spelled next.more))) c.in-Some.is
-          (c.in_ok-found.ensures.file next.one (spelled next.more) next.good next.spells) in
+      (c.in_ok-found.ensures.file next.one (spelled next.more) next.good next.spells) in
       rest_of files done rest (drop c.in-Some.found.end bytes) next (files_of c.push.new.self.items)
       (ap files_of c.in_ok-push.ensures.items ∙ map-append named_of c.loop-at.files.items (c.in-Some.found.file ∷ []) ∙ ap (λ (n : Named). done ++ n ∷ []) told.0) told.1;
 }

@@ -32,7 +32,7 @@ returns-then-has_other_taken-clause-becomes c = λ ascend.
     let found = found_row o seen pair rows c.deref.result.now place old c.deref.ensures.value named here (c.in-Some.ensures.found old) in
     let T : List ℕ → List AlternateKey → Pair → List StoredRow → Bool = λ old keys pair rows. is_taken (filter (changes old bytes) keys) (without o pair (map row_of rows)) bytes in
     let taken : T old.bytes.items file.spec.alternates.items pair rows ≡ true = sym (c.has_other_taken.ensures ∙ four T c.deref-3.result.now old.bytes.items c.as_slice-keys.result.now file.spec.alternates.items seen pair c.deref-2.result.now rows
-        c.deref-3.ensures.value c.as_slice-keys.ensures.value named c.deref-2.ensures.value) ∙ c.if-has_other_taken.true in
+    c.deref-3.ensures.value c.as_slice-keys.ensures.value named c.deref-2.ensures.value) ∙ c.if-has_other_taken.true in
     subst (λ (changed : Changed). Becomes (Ok Taken) changed file file) (sym (replaced_taken (file_of file) c.args.number bytes (row_of old) found.0 taken)) (record {
       outcome = refl;
       after = refl;
@@ -62,14 +62,14 @@ returns-clause-becomes c = λ ascend.
     let T : List ℕ → List AlternateKey → Pair → List StoredRow → Bool = λ old keys pair rows. is_taken (filter (changes old bytes) keys) (without o pair (map row_of rows)) bytes in
     let D : List ℕ → List AlternateKey → Pair → List StoredRow → Bool = λ old keys pair rows. is_duplicate (filter (changes old bytes) keys) (without o pair (map row_of rows)) bytes in
     let free : T old.bytes.items keys pair rows ≡ false = sym (c.has_other_taken.ensures ∙ four T c.deref-3.result.now old.bytes.items c.as_slice-keys.result.now keys seen pair c.deref-2.result.now rows
-        c.deref-3.ensures.value c.as_slice-keys.ensures.value named c.deref-2.ensures.value) ∙ c.if-has_other_taken.false in
+    c.deref-3.ensures.value c.as_slice-keys.ensures.value named c.deref-2.ensures.value) ∙ c.if-has_other_taken.false in
     let twice : c.has_other_duplicate-duplicate.result ≡ D old.bytes.items keys pair rows = c.has_other_duplicate-duplicate.ensures ∙ four D c.deref-5.result.now old.bytes.items c.as_slice-keys.result.now keys seen pair c.deref-4.result.now rows
-        c.deref-5.ensures.value c.as_slice-keys.ensures.value named c.deref-4.ensures.value in
+    c.deref-5.ensures.value c.as_slice-keys.ensures.value named c.deref-4.ensures.value in
     let C : List ℕ → List AlternateKey → ℕ = λ old keys. cond (list_any (λ key. changes old bytes key) keys) (next + 1) next in
     let raised : c.next_after-file.result ≡ C old.bytes.items keys = c.next_after-file.ensures ∙ ap (λ (b : Bool). cond b (next + 1) next) c.is_any_changed-changed.ensures
-        ∙ ap (λ (l : List ℕ). C l c.as_slice-keys.result.now) c.deref-6.ensures.value ∙ ap (C old.bytes.items) c.as_slice-keys.ensures.value in
+    ∙ ap (λ (l : List ℕ). C l c.as_slice-keys.result.now) c.deref-6.ensures.value ∙ ap (C old.bytes.items) c.as_slice-keys.ensures.value in
     let is : row_of row ≡ changed_row (file_of file) bytes (row_of old) = c.in_ok-row.ensures.row
-        ∙ ap (λ (l : List AlternateKey). let r : Row = record { number = old.number; bytes = bytes; arrivals = arrivals_after old.bytes.items bytes next l old.arrivals.items } in r) c.as_slice-keys.ensures.value in
+    ∙ ap (λ (l : List AlternateKey). let r : Row = record { number = old.number; bytes = bytes; arrivals = arrivals_after old.bytes.items bytes next l old.arrivals.items } in r) c.as_slice-keys.ensures.value in
     let told : c.outcome_of.result ≡ done (D old.bytes.items keys pair rows) = c.outcome_of.ensures ∙ ap done twice in
     let new : StoredFile = record file { rows = with_item file.rows place row; next_arrival = c.next_after-file.result } in
     subst (λ (changed : Changed). Becomes (Ok c.outcome_of.result) changed file new) (sym (replaced_done (file_of file) c.args.number bytes (row_of old) found.0 free)) (record {

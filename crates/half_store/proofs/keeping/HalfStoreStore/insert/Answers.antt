@@ -54,7 +54,7 @@ returns-clause-turns g c = λ files held stands has.
     let memory : files_of c.insert_in.new.files.items ≡ after = becomes.after ∙ ap (λ (l : Files). files_after name l changed) stands.there.memory in
     let are : AreFiles after = inserted_are_files name held files c.args.number c.args.bytes.now stands.there.rests.holds.sound has.there (subst (λ (s : Spec). IsNumber s.organization c.args.number) (sym has.spec) c.requires.number) (c.requires.bytes ∙ sym (ap (λ (s : Spec). s.record_length) has.spec)) (all_bytes c.args.bytes.now c.type_inv.bytes) in
     let early : AreEarly (generation + 1) after = early_after generation name files changed
-        (omega (arith, inserted_next c.args.number c.args.bytes.now held, early_held generation name files held stands.there.rests.holds.early has.there)) stands.there.rests.holds.early in
+    (omega (arith, inserted_next c.args.number c.args.bytes.now held, early_held generation name files held stands.there.rests.holds.early has.there)) stands.there.rests.holds.early in
     let idle : is_change c.in_ok-outcome.outcome ≡ false → after ≡ files = λ none. no_change name files changed (sym (ap is_change becomes.outcome) ∙ none) in
     let settles = c.settle.ensures.settles files after stands.honest stands.there.rests memory are early idle in
     record {

@@ -54,7 +54,7 @@ returns-clause-turns g c = λ files held stands has.
     let memory : files_of c.remove_in.new.files.items ≡ after = becomes.after ∙ ap (λ (l : Files). files_after name l changed) stands.there.memory in
     let are : AreFiles after = removed_are_files name held files (pair_of c.args.file.now.organization c.args.key.now c.args.number) stands.there.rests.holds.sound has.there in
     let early : AreEarly (generation + 1) after = early_after generation name files changed
-        (omega (arith, removed_next (pair_of c.args.file.now.organization c.args.key.now c.args.number) held, early_held generation name files held stands.there.rests.holds.early has.there)) stands.there.rests.holds.early in
+    (omega (arith, removed_next (pair_of c.args.file.now.organization c.args.key.now c.args.number) held, early_held generation name files held stands.there.rests.holds.early has.there)) stands.there.rests.holds.early in
     let idle : is_change c.in_ok-outcome.outcome ≡ false → after ≡ files = λ none. no_change name files changed (sym (ap is_change becomes.outcome) ∙ none) in
     let settles = c.settle.ensures.settles files after stands.honest stands.there.rests memory are early idle in
     record {
