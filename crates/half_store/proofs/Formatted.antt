@@ -1,6 +1,6 @@
 -- A volume without files, once it stands on the disk.
-use Rattle.std.proofs.Common.{◌≡◌, ◌<◌, ◌≤◌, true, ℕ, zero, suc, List, [], ◌∷◌, length, set, take, replicate, refl, sym, ◌∙◌, ap, subst, arith, get_or-set_other, get_or-set_same, length-set}
-use Rattle.std.specs.Prelude.{Some, None, Ok, Err, nat_lt}
+use Rattle.std.proofs.Common.{◌≡◌, ◌≤◌, true, ℕ, zero, suc, List, [], length, set, take, replicate, refl, sym, ◌∙◌, ap, subst, arith, get_or-set_other, get_or-set_same, length-set}
+use Rattle.std.specs.Prelude.{None, Ok, Err, nat_lt}
 use Rattle.std.specs.List.Sorted.{IsStrictlySortedBy}
 use Rattle.std.proofs.lemmas.Bool.{cond-true, lt-ltb}
 use Rattle.station.specs.Disk.{Disk, Sector, sector_at, settled, IsCrashImage}
@@ -15,7 +15,7 @@ use Rattle.roots.specs.Root.{root_in, marked, mark_index, is_blank}
 use Rattle.roots.specs.Pair.{newest_root}
 use Rattle.roots.specs.Reading.{roots_in}
 use Rattle.records.specs.Files.{AreFiles}
-use Rattle.half_store.specs.Half.{marks, joined, start, count, named_length, HoldsAt, Holds, Rests}
+use Rattle.half_store.specs.Half.{marks, joined, start, count, HoldsAt, Holds, Rests}
 use Rattle.half_store.specs.Write.{SpellsRoot}
 
 all_blank : (n : ℕ) → is_blank (replicate n 0) ≡ true

@@ -1,8 +1,8 @@
 -- What an image holds, as it is read.
-use Rattle.std.proofs.Common.{◌≡◌, ◌⊎◌, inl, inr, ◌≤◌, ℕ, List, length, refl, sym, ◌∙◌, ap, subst}
+use Rattle.std.proofs.Common.{◌≡◌, inl, inr, ◌≤◌, ℕ, List, length, refl, sym, ◌∙◌, ap, subst}
 use Rattle.std.specs.Prelude.{Option, Some, None, IfSome, Result, Ok, Err, IfErr, IfOk}
 use Rattle.answers.specs.Answer.{Gives}
-use Rattle.station.specs.Disk.{Disk, Sector, settled}
+use Rattle.station.specs.Disk.{Sector}
 use Rattle.station.specs.State.{State, synced}
 use Rattle.roots.specs.declared.error.RootsError.{RootsError}
 use Rattle.roots.specs.declared.error.RootsError.TheVariants as error
@@ -18,7 +18,7 @@ use Rattle.records.specs.declared.fault.StoreFault.TheVariants.{Device, Full, Da
 use Rattle.records.specs.Files.{Files, AreFiles}
 use Rattle.half_store.specs.Spelled.{spelled}
 use Rattle.half_store.specs.Stored.{files_of}
-use Rattle.half_store.specs.Half.{marks, named_length, named_bytes, IsHalfRoot, AreEarly, HoldsAt, Holds, Rests, IsForeign}
+use Rattle.half_store.specs.Half.{marks, named_length, named_bytes, IsHalfRoot, AreEarly, HoldsAt, Holds, Rests}
 use Rattle.half_store.specs.Opened.{HoldsNone, Refused, of_roots, IsReadCause}
 use Rattle.half_store.specs.Stands.{Stands}
 use Rattle.half_store.specs.declared.store.HalfStore.{HalfStore}

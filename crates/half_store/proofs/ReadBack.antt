@@ -1,23 +1,23 @@
 -- What was spelled is read again.
-use Rattle.std.proofs.Common.{◌≡◌, ◌⊎◌, ⊎_elim, ◌<◌, ◌≤◌, ◌+◌, ◌-◌, ◌*◌, ◌^◌, ◌==◌, Bool, true, false, not, ◌&&◌, cond, ℕ, zero, suc, List, [], ◌∷◌, ◌++◌, length, take, drop, replicate, append_assoc, length-append, refl, sym, ◌∙◌, ap, subst, arith, nat_le}
+use Rattle.std.proofs.Common.{◌≡◌, ◌<◌, ◌≤◌, ◌+◌, ◌-◌, ◌*◌, ◌^◌, ◌==◌, Bool, true, false, not, ◌&&◌, ℕ, zero, suc, List, [], ◌∷◌, ◌++◌, length, take, drop, replicate, append_assoc, length-append, refl, sym, ◌∙◌, ap, arith, nat_le}
 use Rattle.std.specs.Prelude.{Option, Some, None, Ok, Vec, is_some, IfSome, slice_index}
 use Rattle.std.specs.declared.alloc.Global.{Global}
 use Rattle.records.specs.declared.file_spec.FileSpec.{FileSpec}
 use Rattle.records.specs.Stores.{spec_of}
 use Rattle.std.specs.List.{AllByRecursion, list_all, flat_map}
-use Rattle.std.proofs.lemmas.Bool.{leb-true, eqb-true, cond-true, cond-false}
-use Rattle.std.proofs.lemmas.List.{take_at, drop_at, drop-drop, append-nil, length-replicate, length-take-le, length-drop, get_or-drop}
+use Rattle.std.proofs.lemmas.Bool.{leb-true, eqb-true, cond-false}
+use Rattle.std.proofs.lemmas.List.{take_at, drop_at, drop-drop, length-replicate, length-take-le, length-drop, get_or-drop}
 use Rattle.byteorder.specs.Endian.{big_number, big_bytes}
-use Rattle.byteorder.specs.Numbers.{length-bytes_high_first, big_number-reads_back}
+use Rattle.byteorder.specs.Numbers.{big_number-reads_back}
 use Rattle.records.specs.declared.file_spec.KeyPlace.{KeyPlace}
 use Rattle.records.specs.declared.file_spec.AlternateKey.{AlternateKey}
 use Rattle.records.specs.declared.file_spec.Organization.{Organization}
 use Rattle.records.specs.declared.file_spec.Organization.TheVariants.{Sequential, Relative, Indexed}
 use Rattle.records.specs.Spec.{Spec, is_letter, is_name, is_spec, is_place, are_keys, in_order, begins_elsewhere}
-use Rattle.records.specs.Rows.{Row, part, prime_place}
+use Rattle.records.specs.Rows.{Row, prime_place}
 use Rattle.records.specs.Files.{IsRow, IsRowNumber, IsArrival}
 use Rattle.half_store.specs.Spelled.{padded, organization_number, place_bytes, flag, alternate_bytes, alternates_bytes, spec_bytes, row_key, row_bytes}
-use Rattle.half_store.specs.Read.{name_in, place_in, key_in, keys_in, numbers_in, several, IfRead, key_size, row_size, number_in, row_in, rows_in, organization_in}
+use Rattle.half_store.specs.Read.{name_in, place_in, key_in, keys_in, numbers_in, several, IfRead, key_size, row_size, number_in, row_in, organization_in}
 
 -- one more
 module _ {A : Type 0} (size : ℕ) (one : List ℕ → A) where

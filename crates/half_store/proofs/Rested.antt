@@ -1,13 +1,12 @@
 -- The files that are still to be read.
-use Rattle.std.proofs.Common.{◌≡◌, ◌≤◌, ◌<◌, ◌+◌, ◌*◌, ◌^◌, ℕ, suc, List, [], ◌∷◌, ◌++◌, length, map, drop, append_assoc, length-append, refl, sym, ◌∙◌, ap, subst, arith}
-use Rattle.std.specs.Prelude.{Option, Some, None, Result, Ok}
-use Rattle.std.specs.List.{AllByRecursion, flat_map}
+use Rattle.std.proofs.Common.{◌≡◌, ◌≤◌, ◌<◌, ◌+◌, ◌*◌, ◌^◌, ℕ, List, [], ◌∷◌, ◌++◌, length, map, drop, append_assoc, refl, sym, ◌∙◌, ap, arith}
+use Rattle.std.specs.Prelude.{Option, Some, None, Ok}
+use Rattle.std.specs.List.{AllByRecursion}
 use Rattle.std.proofs.Math.Nat.{mul-le-mul_left}
-use Rattle.std.proofs.lemmas.List.{drop-drop, drop_all, length-drop, append-nil}
+use Rattle.std.proofs.lemmas.List.{drop-drop, length-drop, append-nil}
 use Rattle.byteorder.specs.Endian.{big_number}
-use Rattle.records.specs.declared.fault.StoreFault.{StoreFault}
 use Rattle.records.specs.declared.file_spec.FileSpec.{FileSpec}
-use Rattle.records.specs.Files.{File, Files, Named, IsNamed}
+use Rattle.records.specs.Files.{Files, Named, IsNamed}
 use Rattle.records.specs.Rows.{Row}
 use Rattle.records.specs.Spec.{Spec}
 use Rattle.records.specs.Stores.{spec_of}
@@ -15,8 +14,7 @@ use Rattle.half_store.specs.Half.{AreEarly}
 use Rattle.half_store.specs.Read.{IfRead, row_size, rows_in}
 use Rattle.half_store.specs.Readable.{IsReadable}
 use Rattle.half_store.specs.Spelled.{file_bytes, spelled}
-use Rattle.half_store.specs.Stored.{row_of, named_of, files_of}
-use Rattle.half_store.specs.declared.stored.StoredFile.{StoredFile}
+use Rattle.half_store.specs.Stored.{row_of}
 use Rattle.half_store.specs.declared.stored.StoredRow.{StoredRow}
 use Rattle.half_store.proofs.ReadFile.{next_is, long, count_is, rows_are, rest_is}
 

@@ -1,5 +1,5 @@
 -- The first row behind a place, found from the last row on.
-use Rattle.std.proofs.Common.{◌≡◌, ◌≤◌, ◌<◌, ◌+◌, Bool, true, false, cond, ℕ, zero, suc, List, [], ◌∷◌, length, drop, map, get_or, refl, sym, ◌∙◌, ap, arith}
+use Rattle.std.proofs.Common.{◌≡◌, ◌≤◌, ◌<◌, ◌+◌, Bool, true, false, cond, ℕ, zero, suc, List, [], ◌∷◌, length, drop, map, get_or, refl, ◌∙◌, ap, arith}
 use Rattle.std.specs.Prelude.{Option, Some, None, filter}
 use Rattle.std.specs.Option.{option_map}
 use Rattle.std.specs.Ordering.{is_gt}

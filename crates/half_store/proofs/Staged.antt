@@ -1,10 +1,8 @@
 -- Bytes, once their blocks are on the disk.
-use Rattle.std.proofs.Common.{◌≡◌, ◌≢◌, ◌⊎◌, inl, inr, ⊎_elim, ◌<◌, ◌≤◌, ◌+◌, ◌*◌, ◌/◌, ◌%◌, ℕ, zero, suc, List, [], ◌∷◌, ◌++◌, length, take, drop, set, refl, sym, ◌∙◌, ap, subst, arith, get_or-set_same, get_or-set_other, length-set}
+use Rattle.std.proofs.Common.{◌≡◌, ◌≢◌, ◌⊎◌, inl, inr, ⊎_elim, ◌<◌, ◌≤◌, ◌+◌, ◌*◌, ◌%◌, ℕ, zero, suc, List, [], ◌∷◌, ◌++◌, length, take, drop, set, refl, sym, ◌∙◌, ap, subst, arith, get_or-set_same, get_or-set_other}
 use Rattle.std.proofs.Math.Seq.{take-add}
-use Rattle.std.proofs.lemmas.List.{take-take}
 use Rattle.std.proofs.lemmas.Bool.{cases_eq}
 use Rattle.std.proofs.lemmas.List.Elements.{All-push, All-nil}
-use Rattle.std.specs.List.{All}
 use Rattle.station.specs.Disk.{Sector, sector_at}
 use Rattle.station.specs.Blocks.{SectorsAre, with_all}
 use Rattle.station.specs.declared.blocks.Block.{Block}

@@ -1,5 +1,5 @@
 -- What a change of a file asks of the files after it.
-use Rattle.std.proofs.Common.{◌≡◌, ◌≢◌, ◌⊎◌, ⊎_elim, ◌<◌, ◌≤◌, ◌+◌, ◌^◌, Bool, true, false, ◌||◌, cond, ℕ, suc, List, [], ◌∷◌, length, get_or, refl, sym, ◌∙◌, ap, subst, arith, Fits, w8}
+use Rattle.std.proofs.Common.{◌≢◌, ⊎_elim, ◌≤◌, ◌+◌, Bool, true, false, ◌||◌, cond, ℕ, suc, List, [], ◌∷◌, get_or, arith, Fits, w8}
 use Rattle.std.specs.Prelude.{Option, Some, None, Result, Ok, Err, IfErr, filter}
 use Rattle.std.specs.List.{AllByRecursion, list_any}
 use Rattle.std.proofs.lemmas.Bool.{cond_both}

@@ -1,9 +1,9 @@
 -- The files before and after a write of the half that isn't active.
-use Rattle.std.proofs.Common.{◌≡◌, ◌⊎◌, inl, inr, ⊎_elim, ◌<◌, ◌≤◌, ◌+◌, ◌*◌, ◌%◌, ◌^◌, ℕ, zero, suc, List, [], ◌∷◌, ◌++◌, length, map, take, drop, set, refl, sym, ◌∙◌, ap, subst, arith, get_or-set_other}
+use Rattle.std.proofs.Common.{◌≡◌, ◌⊎◌, inl, inr, ⊎_elim, ◌<◌, ◌≤◌, ◌+◌, ◌*◌, ◌%◌, ℕ, zero, suc, List, [], length, map, take, drop, set, refl, sym, ◌∙◌, ap, subst, arith, get_or-set_other}
 use Rattle.std.specs.Prelude.{Some, Ok, Contains}
 use Rattle.std.proofs.lemmas.List.{take-take}
 use Rattle.std.proofs.lemmas.List.Elements.{All-contains, All-map, All-push, All-nil}
-use Rattle.station.specs.Disk.{Disk, Sector, sector_at, settled, IsSettled, IsCrashImage}
+use Rattle.station.specs.Disk.{Disk, Sector, sector_at, settled, IsCrashImage}
 use Rattle.station.specs.State.{State, Event}
 use Rattle.station.specs.Blocks.{SectorsAre, CrashLeaves, SameOutside, OldOrNew, Old, New, with_all}
 use Rattle.station.specs.declared.blocks.Block.{Block}
@@ -14,15 +14,14 @@ use Rattle.roots.specs.Pair.{newest_root}
 use Rattle.roots.specs.Reading.{roots_in}
 use Rattle.roots.specs.Laws.{Follows}
 use Rattle.roots.specs.declared.root.Root.{Root}
-use Rattle.roots.specs.declared.root.RootSector.TheVariants.{Valid}
 use Rattle.roots.proofs.Next.{newest_within, next_is_newest}
 use Rattle.records.specs.Files.{Files, AreFiles}
 use Rattle.records.specs.Stores.{Either}
 use Rattle.half_store.specs.Spelled.{spelled}
 use Rattle.half_store.specs.Blocks.{block_at, blocks_to}
-use Rattle.half_store.specs.Half.{marks, half, start, count, joined, named_length, named_bytes, AreEarly, IsHalfRoot, HoldsAt, Holds, Rests}
+use Rattle.half_store.specs.Half.{marks, half, start, count, joined, named_length, named_bytes, AreEarly, HoldsAt, Holds, Rests}
 use Rattle.half_store.specs.Write.{SpellsRoot, IsDraft}
-use Rattle.half_store.proofs.Staged.{elsewhere, there, are_at, joined_parts, joined_same, enough, few, behind, within, apart}
+use Rattle.half_store.proofs.Staged.{there, are_at, joined_parts, joined_same, enough, few, behind, within, apart}
 
 -- a crash leaves the files of a disk at rest
 pub at_rest : (n g : ℕ) (before after : Files) (s : State) → Rests n g s.disk before → CrashLeaves s.events (Either Holds before after) s

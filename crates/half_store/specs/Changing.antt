@@ -1,9 +1,9 @@
 -- A change of a file in memory.
-use Rattle.std.specs.Prelude.{◌≡◌, ◌≢◌, ◌⊎◌, ◌≤◌, ◌+◌, ◌^◌, false, ℕ, List, Result, Err, OnOk, IfOk, IfErr}
+use Rattle.std.specs.Prelude.{◌≡◌, ◌≢◌, ◌⊎◌, ◌≤◌, ◌+◌, ◌^◌, false, ℕ, List, Result, Err, OnOk, IfOk}
 use Rattle.records.specs.declared.answer.Outcome.{Outcome}
 use Rattle.records.specs.declared.fault.StoreFault.{StoreFault}
 use Rattle.records.specs.declared.fault.StoreFault.TheVariants.{Full, Memory, Damaged}
-use Rattle.records.specs.Files.{File, Files}
+use Rattle.records.specs.Files.{File}
 use Rattle.records.specs.Changes.{Changed}
 use Rattle.records.specs.Stores.{is_change, files_after}
 use Rattle.half_store.specs.Stored.{file_of, files_of}

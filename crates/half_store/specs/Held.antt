@@ -1,5 +1,5 @@
 -- Whatever a crash leaves holds what the store stands for.
-use Rattle.std.specs.Prelude.{List, ◌≡◌}
+use Rattle.std.specs.Prelude.{List}
 use Rattle.std.proofs.Common.{sym, subst}
 use Rattle.station.specs.Disk.{Disk, Sector, IsCrashImage}
 use Rattle.station.proofs.Crash.{settled_image}

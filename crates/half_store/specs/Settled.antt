@@ -1,5 +1,5 @@
 -- The files in memory were written.
-use Rattle.std.specs.Prelude.{◌≡◌, ◌⊎◌, ◌<◌, ℕ, List, length, Result, Err, OnOk}
+use Rattle.std.specs.Prelude.{◌≡◌, ◌⊎◌, ◌<◌, ℕ, length, Result, Err, OnOk}
 use Rattle.station.specs.History.{Through}
 use Rattle.station.specs.Blocks.{CrashLeaves}
 use Rattle.station.specs.declared.device.Device.{Ghosts as Devices}

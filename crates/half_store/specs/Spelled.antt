@@ -8,7 +8,7 @@ use Rattle.records.specs.declared.file_spec.Organization.{Organization}
 use Rattle.records.specs.declared.file_spec.Organization.TheVariants.{Sequential, Relative, Indexed}
 use Rattle.records.specs.Spec.{Spec}
 use Rattle.records.specs.Rows.{Row, part, prime_place}
-use Rattle.records.specs.Files.{File, Files, Named}
+use Rattle.records.specs.Files.{Files, Named}
 
 -- a name with zeros behind it
 abbrev pub padded : List ℕ → List ℕ

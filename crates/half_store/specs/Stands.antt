@@ -1,5 +1,5 @@
 -- What the store stands for.
-use Rattle.std.specs.Prelude.{◌≡◌, ◌⊎◌, ◌<◌, List, length}
+use Rattle.std.specs.Prelude.{◌≡◌, ◌⊎◌, ◌<◌, length}
 use Rattle.station.specs.Disk.{Disk}
 use Rattle.records.specs.Files.{Files}
 use Rattle.half_store.specs.Spelled.{spelled}

@@ -1,14 +1,9 @@
-use Rattle.std.proofs.Common.{◌≡◌, ◌<◌, List, length, get_or, map, sym, ap, subst, rules}
+use Rattle.std.proofs.Common.{◌≡◌, ◌<◌, List, length, get_or, sym, subst}
 use Rattle.std.proofs.lemmas.List.{get_or_read}
 use Rattle.records.specs.Files.{File}
 use Rattle.records.specs.Changes.{inserted}
-use Rattle.records.specs.Laws.{RowsAscend}
-use Rattle.records.specs.Spec.{Spec}
-use Rattle.records.specs.Stores.{pair_of}
-use Rattle.records.proofs.Changed.{there_is_file}
-use Rattle.half_store.specs.Stored.{row_of, file_of, files_of}
 use Rattle.half_store.specs.declared.stored.StoredFile.{StoredFile}
-use Rattle.half_store.proofs.Placed.{found_there, becomes_in, held_is}
+use Rattle.half_store.proofs.Placed.{found_there, becomes_in}
 use Rattle.half_store.proofs.changing.insert_in.Goals as goal
 
 pub returns-in-Some-clause-becomes : goal.returns-in-Some-clause-becomes

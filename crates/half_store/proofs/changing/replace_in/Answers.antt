@@ -1,10 +1,8 @@
-use Rattle.std.proofs.Common.{◌≡◌, ◌<◌, List, length, get_or, map, sym, ap, subst, rules}
+use Rattle.std.proofs.Common.{◌≡◌, ◌<◌, List, length, get_or, map, sym, subst}
 use Rattle.std.proofs.lemmas.List.{get_or_read}
 use Rattle.records.specs.Files.{File}
 use Rattle.records.specs.Changes.{replaced}
 use Rattle.records.specs.Laws.{RowsAscend}
-use Rattle.records.specs.Spec.{Spec}
-use Rattle.records.specs.Stores.{pair_of}
 use Rattle.records.proofs.Changed.{there_is_file}
 use Rattle.half_store.specs.Stored.{row_of, file_of, files_of}
 use Rattle.half_store.specs.declared.stored.StoredFile.{StoredFile}

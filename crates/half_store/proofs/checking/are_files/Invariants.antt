@@ -1,4 +1,4 @@
-use Rattle.std.proofs.Common.{◌-◌, length, map, drop}
+use Rattle.std.proofs.Common.{◌-◌, length, drop}
 use Rattle.std.specs.List.{AllByRecursion}
 use Rattle.std.specs.List.Sorted.{IsStrictlySortedBy}
 use Rattle.records.specs.Files.{IsNamed, names}

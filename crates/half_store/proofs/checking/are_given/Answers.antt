@@ -1,4 +1,4 @@
-use Rattle.std.proofs.Common.{◌≡◌, ◌-◌, ℕ, List, length, map, drop, subst, arith}
+use Rattle.std.proofs.Common.{◌≡◌, ◌-◌, ℕ, length, map, drop, subst, arith}
 use Rattle.std.specs.List.{AllByRecursion}
 use Rattle.records.specs.Files.{IsArrival}
 use Rattle.half_store.proofs.Checked.{unmapped}

@@ -1,9 +1,9 @@
-use Rattle.std.proofs.Common.{◌≡◌, ◌<◌, ◌≤◌, ◌+◌, ◌-◌, ◌∙◌, ℕ, List, length, map, drop, get_or, sym, ap, subst, arith}
+use Rattle.std.proofs.Common.{◌≡◌, ◌<◌, ◌+◌, ◌-◌, ℕ, length, map, drop, get_or, sym, subst, arith}
 use Rattle.std.specs.List.{AllByRecursion}
 use Rattle.std.specs.List.Sorted.{IsStrictlySortedBy}
 use Rattle.std.proofs.lemmas.List.{get_or_read}
 use Rattle.records.specs.Files.{IsRow}
-use Rattle.records.specs.Rows.{Row, Pair, pair_cmp, prime_pair}
+use Rattle.records.specs.Rows.{Row, pair_cmp, prime_pair}
 use Rattle.records.specs.Stores.{spec_of}
 use Rattle.records.proofs.Ascending.{pair_total}
 use Rattle.half_store.specs.Stored.{row_of}

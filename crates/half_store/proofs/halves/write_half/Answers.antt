@@ -1,5 +1,4 @@
-use Rattle.std.proofs.Common.{◌≡◌, ◌<◌, ◌≤◌, ◌+◌, ◌%◌, ℕ, List, length, sym, ◌∙◌, ap, subst, arith}
-use Rattle.station.specs.Blocks.{SectorsAre}
+use Rattle.std.proofs.Common.{◌≤◌, List, length, sym, subst, arith}
 use Rattle.station.specs.declared.blocks.Block.{Block}
 use Rattle.station.proofs.Spans.{stays, weakens}
 use Rattle.half_store.specs.Write.{IsDraft}

@@ -1,4 +1,4 @@
-use Rattle.std.proofs.Common.{◌≡◌, ◌*◌, drop, rules}
+use Rattle.std.proofs.Common.{rules}
 use Rattle.half_store.specs.Read.{key_in}
 use Rattle.half_store.proofs.ReadBack.{one_more}
 use Rattle.half_store.proofs.heads.read_keys.Goals as goal

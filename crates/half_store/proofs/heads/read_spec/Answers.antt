@@ -1,5 +1,5 @@
-use Rattle.std.proofs.Common.{◌≡◌, ◌≤◌, ◌<◌, ◌∙◌, ℕ, List, length, sym, ap, arith}
-use Rattle.std.specs.Prelude.{Some, slice_index}
+use Rattle.std.proofs.Common.{◌≡◌, ◌∙◌, sym, arith}
+use Rattle.std.specs.Prelude.{slice_index}
 use Rattle.half_store.proofs.ReadBack.{name_read, kind_read, length_read, prime_read, count_read, few_keys, keys_read, kind_back, spec_told}
 use Rattle.half_store.proofs.heads.read_spec.Goals as goal
 

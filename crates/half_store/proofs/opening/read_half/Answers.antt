@@ -1,6 +1,6 @@
-use Rattle.std.proofs.Common.{◌≡◌, ◌≤◌, ◌<◌, ◌+◌, ◌*◌, ◌∙◌, length, sym, ap, arith}
+use Rattle.std.proofs.Common.{◌≤◌, ◌*◌, ◌∙◌, length, ap, arith}
 use Rattle.std.proofs.lemmas.List.{length-take-le}
-use Rattle.half_store.specs.Half.{half, named_length}
+use Rattle.half_store.specs.Half.{half}
 use Rattle.half_store.proofs.Staged.{enough, few, half_less, within}
 use Rattle.half_store.proofs.opening.read_half.Goals as goal
 

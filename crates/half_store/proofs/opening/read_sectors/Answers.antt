@@ -1,7 +1,7 @@
-use Rattle.std.proofs.Common.{◌≡◌, ◌+◌, ◌*◌, ◌∙◌, false, true, ℕ, suc, List, ◌++◌, length, sym, ap, arith, length-append}
+use Rattle.std.proofs.Common.{◌≡◌, ◌+◌, ◌∙◌, false, true, ℕ, suc, List, ◌++◌, length, ap, arith, length-append}
 use Rattle.station.specs.Disk.{sector_at}
 use Rattle.station.specs.State.{State}
-use Rattle.station.proofs.Calls.{reads_nothing, reads_then}
+use Rattle.station.proofs.Calls.{reads_then}
 use Rattle.half_store.specs.Half.{joined}
 use Rattle.half_store.proofs.opening.read_sectors.Goals as goal
 

@@ -1,7 +1,6 @@
 use Rattle.std.proofs.Common.{◌≡◌, ◌∙◌, true, false, ℕ, List, sym, ap, subst}
-use Rattle.std.specs.Prelude.{Option, Some, Ok, Vec}
+use Rattle.std.specs.Prelude.{Option, Ok, Vec}
 use Rattle.std.specs.declared.alloc.Global.{Global}
-use Rattle.records.specs.Files.{Files}
 use Rattle.records.specs.Rows.{same_bytes}
 use Rattle.records.proofs.Maps.{bytes_same, same_itself}
 use Rattle.half_store.specs.Read.{IfRead}

@@ -1,5 +1,5 @@
-use Rattle.std.proofs.Common.{◌≡◌, ◌≤◌, ◌<◌, ◌^◌, ◌+◌, ◌*◌, ◌∙◌, ℕ, List, length, map, drop, sym, ap, subst, arith}
-use Rattle.std.specs.Prelude.{Option, Some, Ok, IfSome}
+use Rattle.std.proofs.Common.{◌≡◌, ◌≤◌, ◌<◌, ◌^◌, ◌+◌, ◌*◌, length, map, drop, ap, subst, arith}
+use Rattle.std.specs.Prelude.{Option, Ok, IfSome}
 use Rattle.std.proofs.lemmas.List.{length-drop}
 use Rattle.records.specs.declared.file_spec.FileSpec.{FileSpec}
 use Rattle.records.specs.Stores.{spec_of}

@@ -1,5 +1,5 @@
-use Rattle.std.proofs.Common.{◌≡◌, ◌≤◌, ◌<◌, ◌∙◌, ℕ, List, [], ◌∷◌, ◌++◌, length, map, drop, sym, ap, subst, arith}
-use Rattle.std.specs.Prelude.{Option, Some, Ok, IfSome}
+use Rattle.std.proofs.Common.{◌≡◌, ◌≤◌, ◌<◌, ◌∙◌, [], ◌∷◌, ◌++◌, length, drop, ap, subst, arith}
+use Rattle.std.specs.Prelude.{Option, Ok, IfSome}
 use Rattle.records.specs.Files.{Named}
 use Rattle.half_store.specs.Read.{IfRead}
 use Rattle.half_store.specs.declared.reading.FoundFile.{FoundFile}

@@ -1,4 +1,4 @@
-use Rattle.std.proofs.Common.{◌≡◌, ◌*◌, drop, rules}
+use Rattle.std.proofs.Common.{rules}
 use Rattle.byteorder.specs.Endian.{big_number}
 use Rattle.half_store.proofs.ReadBack.{one_more}
 use Rattle.half_store.proofs.reading.read_numbers.Goals as goal

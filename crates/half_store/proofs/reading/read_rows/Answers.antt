@@ -1,4 +1,4 @@
-use Rattle.std.proofs.Common.{◌≡◌, ◌<◌, ◌≤◌, ◌+◌, ◌*◌, ◌∙◌, ℕ, List, [], ◌∷◌, ◌++◌, length, map, drop, sym, ap, arith, rules}
+use Rattle.std.proofs.Common.{◌+◌, ◌*◌, ◌∙◌, ℕ, [], ◌∷◌, map, drop, sym, ap, rules}
 use Rattle.std.proofs.lemmas.List.{drop-drop, map-append}
 use Rattle.records.specs.Stores.{spec_of}
 use Rattle.half_store.specs.Read.{row_size, row_in}

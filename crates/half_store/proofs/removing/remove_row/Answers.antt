@@ -1,6 +1,5 @@
 use Rattle.std.proofs.Common.{◌≡◌, ◌<◌, ◌∙◌, List, length, get_or, map, refl, sym, ap, subst}
 use Rattle.std.specs.Prelude.{Ok}
-use Rattle.std.proofs.lemmas.List.{get_or_read}
 use Rattle.records.specs.declared.answer.Outcome.TheVariants.{Done}
 use Rattle.records.specs.Rows.{Row}
 use Rattle.records.specs.Changes.{Changed}

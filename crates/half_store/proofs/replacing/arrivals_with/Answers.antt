@@ -1,5 +1,5 @@
-use Rattle.std.proofs.Common.{◌≡◌, ◌≤◌, ◌∙◌, length, sym, arith}
-use Rattle.half_store.proofs.Replaced.{arrivals_cut, arrivals_end, arrivals_more}
+use Rattle.std.proofs.Common.{◌≤◌, ◌∙◌, length, sym, arith}
+use Rattle.half_store.proofs.Replaced.{arrivals_cut}
 use Rattle.half_store.proofs.replacing.arrivals_with.Goals as goal
 
 pub returns-then-place-len-clause-arrivals : goal.returns-then-place-len-clause-arrivals

@@ -1,4 +1,4 @@
-use Rattle.std.proofs.Common.{not, ◌&&◌, map, sym, ◌∙◌}
+use Rattle.std.proofs.Common.{◌&&◌, map, sym, ◌∙◌}
 use Rattle.records.specs.declared.file_spec.AlternateKey.{AlternateKey}
 use Rattle.records.specs.Changes.{changes, repeats, without}
 use Rattle.records.specs.Stores.{pair_of}

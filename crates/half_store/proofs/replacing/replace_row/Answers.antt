@@ -3,7 +3,6 @@ use Rattle.std.specs.Prelude.{Ok, filter}
 use Rattle.std.specs.List.{list_any}
 use Rattle.std.proofs.lemmas.List.{get_or_read}
 use Rattle.records.specs.declared.file_spec.AlternateKey.{AlternateKey}
-use Rattle.records.specs.declared.answer.Outcome.{Outcome}
 use Rattle.records.specs.declared.answer.Outcome.TheVariants.{Taken}
 use Rattle.records.specs.Rows.{Row, Pair, named_pair}
 use Rattle.records.specs.Changes.{Changed, done, is_taken, is_duplicate, changes, without, in_place, changed_row, arrivals_after}

@@ -1,7 +1,7 @@
 use Rattle.half_store.specs.declared.stored.StoredRow.{StoredRow}
 use Rattle.half_store.proofs.Sought.{long_at}
 use Rattle.std.proofs.lemmas.List.{get_or_read}
-use Rattle.std.proofs.Common.{◌≡◌, ℕ, List, length, get_or, arith, map, sym, ◌∙◌, ap}
+use Rattle.std.proofs.Common.{◌≡◌, length, get_or, arith, map, sym, ◌∙◌, ap}
 use Rattle.std.specs.Option.{option_map}
 use Rattle.records.specs.Order.{found}
 use Rattle.records.specs.Stores.{spec_of, bound, record_of}

@@ -1,7 +1,7 @@
-use Rattle.std.proofs.Common.{rules, ◌≡◌, ◌≤◌, ◌<◌, ◌+◌, ◌∙◌, inl, inr, ℕ, List, length, true, false, sym, ap, subst, arith}
+use Rattle.std.proofs.Common.{rules, ◌≡◌, ◌≤◌, ◌<◌, ◌+◌, ◌∙◌, inr, length, ap, subst, arith}
 use Rattle.station.proofs.Spans.{stays}
 use Rattle.records.specs.Files.{Files, AreFiles, with_file, empty_file}
-use Rattle.records.specs.Stores.{spec_of, is_change}
+use Rattle.records.specs.Stores.{spec_of}
 use Rattle.records.proofs.Changed.{created_are_files}
 use Rattle.half_store.specs.Stored.{files_of}
 use Rattle.half_store.specs.Half.{AreEarly}

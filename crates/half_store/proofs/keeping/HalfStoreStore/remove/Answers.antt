@@ -1,18 +1,15 @@
-use Rattle.std.proofs.Common.{rules, ◌≡◌, ◌≤◌, ◌<◌, ◌+◌, ◌∙◌, inl, inr, ℕ, List, length, true, false, sym, ap, subst, arith}
-use Rattle.std.specs.List.{AllByRecursion}
+use Rattle.std.proofs.Common.{rules, ◌≡◌, ◌+◌, ◌∙◌, inl, inr, false, sym, ap, subst, arith}
 use Rattle.station.proofs.Spans.{stays}
 use Rattle.station.proofs.TwoPhase.{on_ok}
-use Rattle.records.specs.declared.file_spec.Organization.{Organization}
-use Rattle.records.specs.Files.{Files, AreFiles, IsByte}
-use Rattle.records.specs.Spec.{Spec}
+use Rattle.records.specs.Files.{Files, AreFiles}
 use Rattle.records.specs.Changes.{removed}
-use Rattle.records.specs.Stores.{Has, IsNumber, pair_of, files_after, is_change}
+use Rattle.records.specs.Stores.{Has, pair_of, files_after, is_change}
 use Rattle.records.proofs.Changed.{removed_are_files}
 use Rattle.half_store.specs.Stored.{files_of}
 use Rattle.half_store.specs.Half.{AreEarly}
 use Rattle.half_store.proofs.Written.{at_rest}
 use Rattle.half_store.proofs.Placed.{early_held, early_after, no_change}
-use Rattle.half_store.proofs.Turned.{all_bytes, removed_next, cause_sound}
+use Rattle.half_store.proofs.Turned.{removed_next, cause_sound}
 use Rattle.half_store.proofs.keeping.HalfStoreStore.remove.Goals as goal
 
 pub returns-then-self-clause-turns : goal.returns-then-self-clause-turns

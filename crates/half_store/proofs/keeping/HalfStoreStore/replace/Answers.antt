@@ -1,12 +1,10 @@
-use Rattle.std.proofs.Common.{rules, ◌≡◌, ◌≤◌, ◌<◌, ◌+◌, ◌∙◌, inl, inr, ℕ, List, length, true, false, sym, ap, subst, arith}
-use Rattle.std.specs.List.{AllByRecursion}
+use Rattle.std.proofs.Common.{rules, ◌≡◌, ◌+◌, ◌∙◌, inl, inr, false, sym, ap, subst, arith}
 use Rattle.station.proofs.Spans.{stays}
 use Rattle.station.proofs.TwoPhase.{on_ok}
-use Rattle.records.specs.declared.file_spec.Organization.{Organization}
-use Rattle.records.specs.Files.{Files, AreFiles, IsByte}
+use Rattle.records.specs.Files.{Files, AreFiles}
 use Rattle.records.specs.Spec.{Spec}
 use Rattle.records.specs.Changes.{replaced}
-use Rattle.records.specs.Stores.{Has, IsNumber, pair_of, files_after, is_change}
+use Rattle.records.specs.Stores.{Has, files_after, is_change}
 use Rattle.records.proofs.Changed.{replaced_are_files}
 use Rattle.half_store.specs.Stored.{files_of}
 use Rattle.half_store.specs.Half.{AreEarly}

@@ -6,7 +6,7 @@ use Rattle.records.specs.Rows.{Row}
 use Rattle.records.specs.Spec.{Spec}
 use Rattle.records.specs.Stores.{Has}
 use Rattle.half_store.specs.Seeking.{AreRecords}
-use Rattle.half_store.specs.Stored.{row_of, file_of, files_of}
+use Rattle.half_store.specs.Stored.{row_of, file_of}
 use Rattle.half_store.specs.declared.stored.StoredRow.{StoredRow}
 use Rattle.half_store.specs.declared.stored.StoredFile.{StoredFile}
 use Rattle.half_store.proofs.Placed.{one_file, found_there, records_held}

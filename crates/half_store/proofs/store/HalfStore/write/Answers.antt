@@ -1,4 +1,4 @@
-use Rattle.std.proofs.Common.{◌≡◌, ◌∙◌, List, sym, ap}
+use Rattle.std.proofs.Common.{◌∙◌, List, ap}
 use Rattle.station.proofs.Spans.{stays}
 use Rattle.half_store.specs.Spelled.{spelled}
 use Rattle.half_store.specs.Stored.{files_of}
