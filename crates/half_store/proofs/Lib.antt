@@ -1,0 +1,16 @@
+mod Examples
+mod Staged
+mod Written
+mod Rooted
+mod Parts
+mod Inserted
+mod Placed
+mod Replaced
+mod Sought
+mod Turned
+mod Rested
+mod ReadBack
+mod ReadFile
+mod Checked
+mod Formatted
+mod Opened

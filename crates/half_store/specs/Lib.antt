@@ -1,0 +1,13 @@
+pub mod Spelled
+pub mod Stored
+pub mod Half
+pub mod Blocks
+pub mod Write
+pub mod Stands
+pub mod Seeking
+pub mod Changing
+pub mod Settled
+pub mod Held
+pub mod Read
+pub mod Readable
+pub mod Opened

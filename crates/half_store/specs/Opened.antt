@@ -1,0 +1,36 @@
+-- What is told of a volume that is opened.
+use Rattle.std.specs.Prelude.{◌≡◌, ◌⊎◌, List}
+use Rattle.station.specs.Disk.{Sector}
+use Rattle.roots.specs.declared.error.RootsError.{RootsError}
+use Rattle.roots.specs.declared.error.RootsError.TheVariants as roots
+use Rattle.roots.specs.declared.pair.RootsFault.{RootsFault}
+use Rattle.roots.specs.declared.pair.RootsFault.TheVariants as fault
+use Rattle.records.specs.declared.fault.StoreFault.{StoreFault}
+use Rattle.records.specs.declared.fault.StoreFault.TheVariants.{Device, Full, Damaged, Memory, Spent, Layout}
+use Rattle.records.specs.Files.{Files}
+use Rattle.half_store.specs.Half.{Holds, IsForeign}
+
+-- an image that holds no files
+abbrev pub HoldsNone : List Sector → Type 0
+HoldsNone image = (files : Files) → Holds image files → ⊥
+
+-- What a refusal tells of the image: `Device` and `Memory` tell nothing of it, and `Full` and `Spent` don't come.
+abbrev pub Refused : List Sector → StoreFault → Type 0
+Refused image Device = Unit {0}
+Refused image Full = ⊥
+Refused image Damaged = HoldsNone image
+Refused image Memory = Unit {0}
+Refused image Spent = ⊥
+Refused image Layout = IsForeign image
+
+abbrev pub of_fault : RootsFault → StoreFault
+of_fault fault.Damaged = Damaged
+of_fault fault.ForeignMark = Layout
+
+abbrev pub of_roots : RootsError → StoreFault
+of_roots roots.Device = Device
+of_roots (roots.Roots f) = of_fault f
+
+-- the causes of a read that is refused
+abbrev pub IsReadCause : StoreFault → Type 0
+IsReadCause fault = (fault ≡ Device) ⊎ (fault ≡ Memory)

@@ -1,0 +1,154 @@
+//! Whether files in memory are files of a volume.
+ghost use Rattle.std.specs.Prelude.{◌≡◌, ◌≤◌, ◌<◌, ◌+◌, true, false, ℕ, length, map, get_or};
+ghost use Rattle.std.specs.List.{AllByRecursion};
+ghost use Rattle.std.specs.declared.cmp.Ordering.TheVariants.{Less};
+ghost use Rattle.records.specs.Rows.{bytes_cmp, pair_cmp, prime_pair};
+ghost use Rattle.records.specs.Files.{IsByte, IsArrival, IsRowNumber, IsRow, IsFile, AreFiles};
+ghost use Rattle.records.specs.Laws.{RowsAscend};
+ghost use Rattle.records.specs.Stores.{spec_of};
+ghost use Rattle.half_store.specs.Half.{AreEarly};
+ghost use Rattle.half_store.specs.Stored.{row_of, file_of, files_of};
+ghost use Rattle.half_store.specs.declared.stored.StoredRow.{StoredRow};
+ghost use Rattle.half_store.specs.declared.stored.StoredFile.{StoredFile};
+
+use crate::rows::prime_cmp;
+use crate::stored::{StoredFile, StoredRow};
+use records::{FileSpec, Organization};
+
+/// What a slice of bytes has is bytes.
+fn are_bytes(_bytes: &[u8])
+    ensures { AllByRecursion IsByte _bytes.now }
+{}
+
+fn is_given(next: u64, arrival: u64) -> bool
+    ensures yes { result ≡ true → IsArrival next arrival }
+    ensures no { result ≡ false → IsArrival next arrival → ⊥ }
+{
+    1 <= arrival && arrival < next
+}
+
+/// Whether each arrival was given before the next one.
+fn are_given(next: u64, arrivals: &[u64]) -> bool
+    ensures yes { result ≡ true → AllByRecursion (IsArrival next) arrivals.now }
+    ensures no { result ≡ false → AllByRecursion (IsArrival next) arrivals.now → ⊥ }
+{
+    for back in 0..arrivals.len() {
+        let place = arrivals.len() - 1 - back;
+        if !is_given(next, arrivals[place]) {
+            return false;
+        }
+    }
+    true
+}
+
+/// Whether a row may have this number.
+fn is_row_number(organization: Organization, next: u64, number: u64) -> bool
+    ensures yes { result ≡ true → IsRowNumber organization next number }
+    ensures no { result ≡ false → IsRowNumber organization next number → ⊥ }
+{
+    match organization {
+        Organization::Sequential => 1 <= number && number < next,
+        Organization::Relative => 1 <= number && number <= 999_999_999,
+        Organization::Indexed(_) => number == 0,
+    }
+}
+
+/// Whether a row is one of such a file.
+fn is_row(spec: &FileSpec, next: u64, row: &StoredRow) -> bool
+    ensures yes { result ≡ true → IsRow (spec_of spec.now) next (row_of row.now) }
+    ensures no { result ≡ false → IsRow (spec_of spec.now) next (row_of row.now) → ⊥ }
+{
+    if row.bytes.len() != spec.record_length as usize {
+        return false;
+    }
+    if !is_row_number(spec.organization, next, row.number) {
+        return false;
+    }
+    if row.arrivals.len() != spec.alternates.len() {
+        return false;
+    }
+    are_bytes(&row.bytes);
+    are_given(next, &row.arrivals)
+}
+
+/// Whether the row behind this one, if there is one, comes behind it under the prime key.
+fn is_before_next(organization: Organization, rows: &[StoredRow], place: usize) -> bool
+    requires { place < length rows.now }
+    ensures yes { result ≡ true → (d : StoredRow) → place + 1 < length rows.now → pair_cmp (prime_pair organization (row_of (get_or rows.now place d))) (prime_pair organization (row_of (get_or rows.now (place + 1) d))) ≡ Less }
+    ensures no { result ≡ false → (d : StoredRow) → (place + 1 < length rows.now) × (pair_cmp (prime_pair organization (row_of (get_or rows.now place d))) (prime_pair organization (row_of (get_or rows.now (place + 1) d))) ≡ Less → ⊥) }
+{
+    if place + 1 >= rows.len() {
+        return true;
+    }
+    let next = &rows[place + 1];
+    prime_cmp(organization, &rows[place], next.number, &next.bytes).is_lt()
+}
+
+/// Whether rows are those of such a file, and ascend.
+fn are_rows(spec: &FileSpec, next: u64, rows: &[StoredRow]) -> bool
+    ensures yes { result ≡ true → AllByRecursion (IsRow (spec_of spec.now) next) (map row_of rows.now) × RowsAscend spec.now.organization (map row_of rows.now) }
+    ensures no { result ≡ false → AllByRecursion (IsRow (spec_of spec.now) next) (map row_of rows.now) → RowsAscend spec.now.organization (map row_of rows.now) → ⊥ }
+{
+    for back in 0..rows.len() {
+        let place = rows.len() - 1 - back;
+        if !is_row(spec, next, &rows[place]) {
+            return false;
+        }
+        if !is_before_next(spec.organization, rows, place) {
+            return false;
+        }
+    }
+    true
+}
+
+/// Whether a file is one of a volume of this generation.
+fn is_file(file: &StoredFile, generation: u64) -> bool
+    ensures yes { result ≡ true → IsFile (file_of file.now) × (file.now.next_arrival ≤ generation) }
+    ensures no { result ≡ false → IsFile (file_of file.now) → file.now.next_arrival ≤ generation → ⊥ }
+{
+    if file.next_arrival < 1 {
+        return false;
+    }
+    if generation < file.next_arrival {
+        return false;
+    }
+    are_rows(&file.spec, file.next_arrival, &file.rows)
+}
+
+/// Whether the file behind this one, if there is one, has a greater name.
+fn is_named_before_next(files: &[StoredFile], place: usize) -> bool
+    requires { place < length files.now }
+    ensures yes { result ≡ true → (d : StoredFile) → place + 1 < length files.now → bytes_cmp (get_or files.now place d).spec.name.items (get_or files.now (place + 1) d).spec.name.items ≡ Less }
+    ensures no { result ≡ false → (d : StoredFile) → (place + 1 < length files.now) × (bytes_cmp (get_or files.now place d).spec.name.items (get_or files.now (place + 1) d).spec.name.items ≡ Less → ⊥) }
+{
+    if place + 1 >= files.len() {
+        return true;
+    }
+    let next = &files[place + 1];
+    files[place]
+        .spec
+        .name
+        .as_slice()
+        .cmp(next.spec.name.as_slice())
+        .is_lt()
+}
+
+/// Whether files are those of a volume of this generation.
+pub(crate) fn are_files(files: &[StoredFile], generation: u64) -> bool
+    ensures yes { result ≡ true → AreFiles (files_of files.now) × AreEarly generation (files_of files.now) }
+    ensures no { result ≡ false → AreFiles (files_of files.now) → AreEarly generation (files_of files.now) → ⊥ }
+{
+    if files.len() > 255 {
+        return false;
+    }
+    for back in 0..files.len() {
+        let place = files.len() - 1 - back;
+        if !is_file(&files[place], generation) {
+            return false;
+        }
+        if !is_named_before_next(files, place) {
+            return false;
+        }
+    }
+    true
+}

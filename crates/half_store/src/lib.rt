@@ -1,0 +1,31 @@
+//! A store that keeps all files in one of two halves of a volume, and writes the other at each change.
+//!
+//! Promise: at each moment of a change a crash leaves the files before, or those after.
+#![tactic(auto)]
+
+mod blocks;
+mod changing;
+mod checking;
+mod creating;
+mod empty;
+mod finding;
+mod halves;
+mod heads;
+mod inserting;
+mod keeping;
+mod opening;
+mod reading;
+mod removing;
+mod replacing;
+mod root;
+mod rows;
+mod seeking;
+mod settling;
+mod spelling;
+mod store;
+mod stored;
+
+pub use empty::format;
+pub use opening::recover;
+pub use store::HalfStore;
+pub use stored::{StoredFile, StoredRow};

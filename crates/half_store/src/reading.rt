@@ -1,0 +1,203 @@
+//! Files are read from their bytes.
+ghost use Rattle.std.specs.Prelude.{◌≡◌, ◌≤◌, ◌<◌, ◌+◌, ◌*◌, ◌^◌, ◌++◌, true, ℕ, List, length, map, drop, Ok, None, IfOk, IfSome, IsOkUnless, Option};
+ghost use Rattle.std.specs.List.{AllByRecursion};
+ghost use Rattle.records.specs.Stores.{spec_of};
+ghost use Rattle.records.specs.Files.{Files, Named, IsNamed};
+ghost use Rattle.half_store.specs.Stored.{row_of, named_of, files_of};
+ghost use Rattle.byteorder.specs.Endian.{big_number};
+ghost use Rattle.records.specs.Spec.{Spec, is_spec, is_name};
+ghost use Rattle.half_store.specs.Spelled.{padded, spec_bytes, file_bytes, spelled};
+ghost use Rattle.half_store.specs.Read as read;
+ghost use Rattle.half_store.specs.Read.{IfRead, numbers_in, row_in, rows_in};
+ghost use Rattle.half_store.specs.Readable.{IsReadable};
+
+use crate::heads::read_spec;
+use crate::stored::{StoredFile, StoredRow};
+use byteorder::{BigEndian, ByteOrder};
+use records::{FileSpec, Organization, StoreFault};
+use std::alloc::Global;
+
+/// The bytes of a file in front of its rows.
+const HEAD_BYTES: usize = 121;
+
+/// The number of eight bytes from a place on.
+fn number_at(bytes: &[u8], at: usize) -> u64
+    requires { at + 8 ≤ length bytes.now }
+    ensures { result ≡ big_number 8 (drop at bytes.now) }
+{
+    BigEndian::read_u64(&bytes[at..])
+}
+
+/// So many numbers of eight bytes.
+fn read_numbers(alloc: Global, bytes: &[u8], count: usize) -> Result<Vec<u64>, StoreFault>
+    requires { 8 * count ≤ length bytes.now }
+    ensures numbers { IfOk result (λ numbers. numbers.items ≡ numbers_in count bytes.now) }
+    ensures memory { IsOkUnless result StoreFault.Memory }
+{
+    let mut numbers = Vec::new(alloc);
+    for place in 0..count {
+        numbers.push(number_at(bytes, 8 * place))?;
+    }
+    Ok(numbers)
+}
+
+/// The bytes in front of a record.
+fn key_size(organization: Organization) -> usize
+    ensures size { result ≡ read.key_size organization }
+    ensures bound { result < 2 ^ 16 }
+{
+    match organization {
+        Organization::Sequential => 8,
+        Organization::Relative => 4,
+        Organization::Indexed(place) => place.length as usize,
+    }
+}
+
+/// The bytes of a row.
+fn row_size(spec: &FileSpec) -> usize
+    requires { length spec.now.alternates.items ≤ 7 }
+    ensures size { result ≡ read.row_size (spec_of spec.now) }
+    ensures bound { result < 2 ^ 18 }
+{
+    key_size(spec.organization) + spec.record_length as usize + 8 * spec.alternates.len()
+}
+
+/// The number at the front of a row.
+fn read_number(organization: Organization, bytes: &[u8]) -> u64
+    requires { read.key_size organization ≤ length bytes.now }
+    ensures { result ≡ read.number_in organization bytes.now }
+{
+    match organization {
+        Organization::Sequential => BigEndian::read_u64(bytes),
+        Organization::Relative => BigEndian::read_u32(bytes) as u64,
+        Organization::Indexed(_) => 0,
+    }
+}
+
+/// The row at the front of the bytes.
+fn read_row(alloc: Global, bytes: &[u8], spec: &FileSpec) -> Result<StoredRow, StoreFault>
+    requires { read.row_size (spec_of spec.now) ≤ length bytes.now }
+    ensures row { IfOk result (λ row. row_of row ≡ row_in (spec_of spec.now) bytes.now) }
+    ensures memory { IsOkUnless result StoreFault.Memory }
+{
+    let number = read_number(spec.organization, bytes);
+    let size = spec.record_length as usize;
+    let behind = &bytes[key_size(spec.organization)..];
+    let mut record = Vec::new(alloc);
+    record.extend_from_slice(&behind[..size])?;
+    let arrivals = read_numbers(alloc, &behind[size..], spec.alternates.len())?;
+    Ok(StoredRow {
+        number,
+        bytes: record,
+        arrivals,
+    })
+}
+
+/// The row from a place on.
+fn row_at(alloc: Global, bytes: &[u8], at: usize, spec: &FileSpec) -> Result<StoredRow, StoreFault>
+    requires { at + read.row_size (spec_of spec.now) ≤ length bytes.now }
+    ensures row { IfOk result (λ row. row_of row ≡ row_in (spec_of spec.now) (drop at bytes.now)) }
+    ensures memory { IsOkUnless result StoreFault.Memory }
+{
+    read_row(alloc, &bytes[at..], spec)
+}
+
+/// Rows, and the place behind them.
+#[derive(Drop)]
+struct FoundRows {
+    rows: Vec<StoredRow>,
+    end: usize,
+}
+
+/// So many rows from a place on, if there are so many bytes.
+fn read_rows(
+    alloc: Global,
+    bytes: &[u8],
+    at: usize,
+    spec: &FileSpec,
+    count: u64,
+) -> Result<Option<FoundRows>, StoreFault>
+    requires keys { length spec.now.alternates.items ≤ 7 }
+    requires at { at ≤ length bytes.now }
+    ensures rows { IfOk result (λ found. IfSome found (λ r. map row_of r.rows.items ≡ rows_in (spec_of spec.now) count (drop at bytes.now))) }
+    ensures end { IfOk result (λ found. IfSome found (λ r. (r.end ≡ at + read.row_size (spec_of spec.now) * count) × (r.end ≤ length bytes.now))) }
+    ensures none { result ≡ Ok None → length bytes.now < at + read.row_size (spec_of spec.now) * count }
+    ensures memory { IsOkUnless result StoreFault.Memory }
+{
+    let size = row_size(spec);
+    let mut rows = Vec::new(alloc);
+    let mut place = at;
+    for _row in 0..count {
+        if bytes.len() - place < size {
+            return Ok(None);
+        }
+        let row = row_at(alloc, bytes, place, spec)?;
+        rows.push(row)?;
+        place += size;
+    }
+    Ok(Some(FoundRows { rows, end: place }))
+}
+
+/// The name of a file and what it is, from a place on.
+fn spec_at(alloc: Global, bytes: &[u8], at: usize) -> Result<Option<FileSpec>, StoreFault>
+    requires { at + 121 ≤ length bytes.now }
+    ensures keys { IfOk result (λ found. IfSome found (λ f. length f.alternates.items ≤ 7)) }
+    ensures spec { (name : List ℕ) (spec : Spec) (more : List ℕ) → is_name name ≡ true → is_spec spec ≡ true → drop at bytes.now ≡ padded name ++ spec_bytes spec ++ more →
+        IfRead result (λ f. (f.name.items ≡ name) × (spec_of f ≡ spec)) }
+    ensures memory { IsOkUnless result StoreFault.Memory }
+{
+    read_spec(alloc, &bytes[at..])
+}
+
+/// A file, and the place behind it.
+#[derive(Drop)]
+struct FoundFile {
+    file: StoredFile,
+    end: usize,
+}
+
+/// The file from a place on.
+fn read_file(alloc: Global, bytes: &[u8], at: usize) -> Result<Option<FoundFile>, StoreFault>
+    requires { at ≤ length bytes.now }
+    ensures end { IfOk result (λ found. IfSome found (λ f. (at < f.end) × (f.end ≤ length bytes.now))) }
+    ensures file { (one : Named) (more : List ℕ) → IsReadable one → drop at bytes.now ≡ file_bytes one ++ more →
+        IfRead result (λ f. (named_of f.file ≡ one) × (drop f.end bytes.now ≡ more)) }
+    ensures memory { IsOkUnless result StoreFault.Memory }
+{
+    if bytes.len() - at < HEAD_BYTES {
+        return Ok(None);
+    }
+    let Some(spec) = spec_at(alloc, bytes, at)? else {
+        return Ok(None);
+    };
+    let next_arrival = number_at(bytes, at + 105);
+    let count = number_at(bytes, at + 113);
+    let Some(found) = read_rows(alloc, bytes, at + HEAD_BYTES, &spec, count)? else {
+        return Ok(None);
+    };
+    Ok(Some(FoundFile {
+        file: StoredFile {
+            spec,
+            rows: found.rows,
+            next_arrival,
+        },
+        end: found.end,
+    }))
+}
+
+/// The files that bytes spell, if they spell any. It may find files that spell other bytes.
+pub(crate) fn read_files(alloc: Global, bytes: &[u8]) -> Result<Option<Vec<StoredFile>>, StoreFault>
+    ensures files { (files : Files) → AllByRecursion IsReadable files → bytes.now ≡ spelled files → IfRead result (λ found. files_of found.items ≡ files) }
+    ensures memory { IsOkUnless result StoreFault.Memory }
+{
+    let mut files = Vec::new(alloc);
+    let mut at = 0;
+    while at < bytes.len() {
+        let Some(found) = read_file(alloc, bytes, at)? else {
+            return Ok(None);
+        };
+        files.push(found.file)?;
+        at = found.end;
+    }
+    Ok(Some(files))
+}

@@ -1,0 +1,220 @@
+//! Rows are sought in the order of a key.
+ghost use Rattle.std.specs.Prelude.{◌≡◌, ◌≤◌, ◌<◌, ◌+◌, length, map, get_or, None, Some, Option, IsOk, OnOk, OnErr, IfOk, IfErr, IfSome};
+ghost use Rattle.std.specs.Option.{option_map};
+ghost use Rattle.std.specs.Ordering.{is_gt};
+ghost use Rattle.records.specs.Rows.{Pair, pair_cmp, pair_under};
+ghost use Rattle.records.specs.Order.{is_behind, sought, has_value, found};
+ghost use Rattle.records.specs.Stores.{spec_of, IsKey, bound, record_of};
+ghost use Rattle.records.specs.declared.key.Side.TheVariants.{After};
+ghost use Rattle.half_store.specs.Stored.{row_of};
+ghost use Rattle.half_store.specs.Seeking.{AreRecords};
+ghost use Rattle.half_store.specs.Seeking.{IsBest};
+ghost use Rattle.half_store.specs.declared.stored.StoredRow.{StoredRow};
+
+use crate::rows::part_of;
+use crate::stored::StoredRow;
+use records::{FileSpec, Found, KeyOfReference, Organization, Side, StoreFault};
+use std::cmp::Ordering;
+
+/// A row's value of a key.
+fn value_under<'a>(spec: &FileSpec, key: KeyOfReference, row: &'a StoredRow) -> &'a [u8]
+    requires { IsKey (spec_of spec.now) key }
+    ensures { result.now ≡ (pair_under (spec_of spec.now) key (row_of row.now)).value }
+{
+    match key {
+        KeyOfReference::Prime => match spec.organization {
+            Organization::Indexed(place) => part_of(place, &row.bytes),
+            _ => &row.bytes[..0],
+        },
+        KeyOfReference::Alternate(_) => part_of(spec.key_place(key), &row.bytes),
+    }
+}
+
+/// A row's number among rows of one value.
+fn number_under(spec: &FileSpec, key: KeyOfReference, row: &StoredRow) -> u64
+    ensures { result ≡ (pair_under (spec_of spec.now) key (row_of row.now)).number }
+{
+    match key {
+        KeyOfReference::Prime => match spec.organization {
+            Organization::Indexed(_) => 0,
+            _ => row.number,
+        },
+        KeyOfReference::Alternate(i) => match row.arrivals.get(i as usize) {
+            Some(arrival) => *arrival,
+            None => 0,
+        },
+    }
+}
+
+/// How a row's place in the order of a key compares with another.
+fn cmp_under(
+    spec: &FileSpec,
+    key: KeyOfReference,
+    row: &StoredRow,
+    value: &[u8],
+    number: u64,
+) -> Ordering
+    requires { IsKey (spec_of spec.now) key }
+    ensures { result ≡ pair_cmp (pair_under (spec_of spec.now) key (row_of row.now)) (record { value = value.now; number = number }) }
+{
+    value_under(spec, key, row)
+        .cmp(value)
+        .then(number_under(spec, key, row).cmp(&number))
+}
+
+/// Whether a row is behind a place in the order of a key.
+fn stands_behind(
+    spec: &FileSpec,
+    key: KeyOfReference,
+    row: &StoredRow,
+    side: Side,
+    value: &[u8],
+    number: u64,
+) -> bool
+    requires { IsKey (spec_of spec.now) key }
+    ensures { result ≡ is_behind side (record { value = value.now; number = number }) (pair_under (spec_of spec.now) key (row_of row.now)) }
+{
+    match side {
+        Side::From => !cmp_under(spec, key, row, value, number).is_lt(),
+        Side::After => cmp_under(spec, key, row, value, number).is_gt(),
+        Side::Beyond => {
+            let own = value_under(spec, key, row);
+            let start = if value.len() < own.len() {
+                &own[..value.len()]
+            } else {
+                own
+            };
+            start.cmp(value).is_gt()
+        }
+    }
+}
+
+/// Whether a row comes behind another in the order of a key.
+fn comes_behind(spec: &FileSpec, key: KeyOfReference, row: &StoredRow, other: &StoredRow) -> bool
+    requires { IsKey (spec_of spec.now) key }
+    ensures { result ≡ is_gt (pair_cmp (pair_under (spec_of spec.now) key (row_of row.now)) (pair_under (spec_of spec.now) key (row_of other.now))) }
+{
+    cmp_under(
+        spec,
+        key,
+        row,
+        value_under(spec, key, other),
+        number_under(spec, key, other),
+    )
+    .is_gt()
+}
+
+/// The place of the first of the rows from a place on, where `best` is that of the rows behind it.
+fn better(
+    rows: &[StoredRow],
+    spec: &FileSpec,
+    key: KeyOfReference,
+    side: Side,
+    value: &[u8],
+    number: u64,
+    place: usize,
+    best: Option<usize>,
+) -> Option<usize>
+    requires key { IsKey (spec_of spec.now) key }
+    requires place { place < length rows.now }
+    requires best { IfSome best (λ i. i < length rows.now) }
+    ensures bound { IfSome result (λ i. i < length rows.now) }
+    ensures best { IsBest (spec_of spec.now) key (bound side value.now number) rows.now (place + 1) best → IsBest (spec_of spec.now) key (bound side value.now number) rows.now place result }
+{
+    if !stands_behind(spec, key, &rows[place], side, value, number) {
+        return best;
+    }
+    match best {
+        None => Some(place),
+        Some(other) => {
+            if comes_behind(spec, key, &rows[place], &rows[other]) {
+                return Some(other);
+            }
+            Some(place)
+        }
+    }
+}
+
+/// The place of the first row behind a place in the order of a key.
+pub(crate) fn seek_row(
+    rows: &[StoredRow],
+    spec: &FileSpec,
+    key: KeyOfReference,
+    side: Side,
+    value: &[u8],
+    number: u64,
+) -> Option<usize>
+    requires { IsKey (spec_of spec.now) key }
+    ensures bound { IfSome result (λ i. i < length rows.now) }
+    ensures row { (d : StoredRow) → sought (spec_of spec.now) key (bound side value.now number) (map row_of rows.now) ≡ option_map (λ i. row_of (get_or rows.now i d)) result }
+{
+    let mut best: Option<usize> = None;
+    for back in 0..rows.len() {
+        let place = rows.len() - 1 - back;
+        best = better(rows, spec, key, side, value, number, place, best);
+    }
+    best
+}
+
+/// Whether the row behind this one has its value.
+fn has_repeat(rows: &[StoredRow], spec: &FileSpec, key: KeyOfReference, row: &StoredRow) -> bool
+    requires { IsKey (spec_of spec.now) key }
+    ensures { result ≡ has_value (spec_of spec.now) key (pair_under (spec_of spec.now) key (row_of row.now)).value
+        (sought (spec_of spec.now) key (record { side = After; pair = pair_under (spec_of spec.now) key (row_of row.now) }) (map row_of rows.now)) }
+{
+    let value = value_under(spec, key, row);
+    let number = number_under(spec, key, row);
+    match seek_row(rows, spec, key, Side::After, value, number) {
+        None => false,
+        Some(next) => value_under(spec, key, &rows[next]).cmp(value).is_eq(),
+    }
+}
+
+/// What is told of a row.
+pub(crate) fn found_of(
+    rows: &[StoredRow],
+    spec: &FileSpec,
+    key: KeyOfReference,
+    row: &StoredRow,
+) -> Found
+    requires { IsKey (spec_of spec.now) key }
+    ensures { result ≡ found (spec_of spec.now) key (map row_of rows.now) (row_of row.now) }
+{
+    let repeated = match key {
+        KeyOfReference::Prime => false,
+        KeyOfReference::Alternate(_) => has_repeat(rows, spec, key, row),
+    };
+    Found {
+        number: number_under(spec, key, row),
+        repeated,
+    }
+}
+
+/// The first row behind a place in the order of a key, its record put into `bytes`. A record of another length is damage.
+pub(crate) fn seek_in(
+    rows: &[StoredRow],
+    spec: &FileSpec,
+    key: KeyOfReference,
+    side: Side,
+    value: &[u8],
+    number: u64,
+    bytes: &mut [u8],
+) -> Result<Option<Found>, StoreFault>
+    requires { IsKey (spec_of spec.now) key }
+    ensures found { IfOk result (λ answer. answer ≡ option_map (found (spec_of spec.now) key (map row_of rows.now)) (sought (spec_of spec.now) key (bound side value.now number) (map row_of rows.now))) }
+    ensures bytes { OnOk result (bytes.new ≡ record_of bytes.old (sought (spec_of spec.now) key (bound side value.now number) (map row_of rows.now))) }
+    ensures kept { OnErr result (bytes.new ≡ bytes.old) }
+    ensures cause { IfErr result (λ fault. fault ≡ StoreFault.Damaged) }
+    ensures sound { AreRecords (length bytes.old) (map row_of rows.now) → IsOk result }
+{
+    let place = match seek_row(rows, spec, key, side, value, number) {
+        None => return Ok(None),
+        Some(place) => place,
+    };
+    let row = &rows[place];
+    if row.bytes.len() != bytes.len() {
+        return Err(StoreFault::Damaged);
+    }
+    bytes.copy_from_slice(&row.bytes);
+    Ok(Some(found_of(rows, spec, key, row)))
+}
