@@ -43,9 +43,9 @@ pub below_behind : (used : List Bool) (s n : ℕ) (b : Bool) → s < n → s < l
 below_behind used s n b lt low =
     let moved : unused_below (set used s b) n ≡ unused_count (set (take n used) s b) = ap unused_count (take-set-lt n used s b lt) in
     let there : s < length (take n used) = ⊎_elim
-        (λ short. omega (arith, lt, length-take-le n used (omega (arith, short))))
-        (λ long. let all : take n used ≡ used = take_all n used long in omega (arith, low, ap length all))
-        (cases_lt n (length used)) in
+    (λ short. omega (arith, lt, length-take-le n used (omega (arith, short))))
+    (λ long. let all : take n used ≡ used = take_all n used long in omega (arith, low, ap length all))
+    (cases_lt n (length used)) in
     let sum : unused_count (set (take n used) s b) + bit (get_or (take n used) s false) ≡ unused_count (take n used) + bit b = sum_by-set bit (take n used) s b false there in
     let same : get_or (take n used) s false ≡ get_or used s false = get_or-take n used s false lt in
     let bits : bit (get_or (take n used) s false) ≡ bit (get_or used s false) = ap bit same in
@@ -73,9 +73,9 @@ run_counted used start end there is =
     let up : start + (end - start) ≡ end = omega (arith, there, is) in
     let to : unused_below used (start + (end - start)) ≡ unused_below used end = ap (unused_below used) up in
     let last : unused_below used (start + 1024) ≡ unused_below used end = ⊎_elim
-        (λ lt. let e : start + 1024 ≡ end = omega (arith, lt, is) in ap (unused_below used) e)
-        (λ le. let e : length used ≡ end = omega (arith, le, is) in below_end used (start + 1024) le ∙ ap (unused_below used) e)
-        (cases_lt (start + 1024) (length used)) in
+    (λ lt. let e : start + 1024 ≡ end = omega (arith, lt, is) in ap (unused_below used) e)
+    (λ le. let e : length used ≡ end = omega (arith, le, is) in below_end used (start + 1024) le ∙ ap (unused_below used) e)
+    (cases_lt (start + 1024) (length used)) in
     omega (arith, parts, to, last)
 
 module _ (used : List Bool) (counts : List ℕ) (are : AreRuns used counts) where

@@ -54,4 +54,3 @@ high_fill (s ∷ start) [] count is low = absurd (omega (arith, is))
 high_fill (s ∷ start) (x ∷ key) count is low =
     then_same_gt (nat_cmp x s) (key_cmp key (start ++ replicate count 255)) (key_cmp (take (length start) key) start)
     (high_fill start key count (omega (arith, is)) (All-tail (λ byte. byte < 256) x key low))
-
