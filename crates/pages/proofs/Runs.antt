@@ -1,10 +1,9 @@
 -- Runs of sectors, and how many of each aren't marked.
-use Rattle.std.proofs.Common.{◌≡◌, ◌≢◌, ⊎_elim, ◌<◌, ◌≤◌, ◌+◌, ◌-◌, ◌*◌, ◌/◌, min, inl, inr, cond, Bool, true, false, not, ℕ, zero, suc, List, [], length, take, take_all, drop, set, get_or, refl, sym, ◌∙◌, ap, subst, arith, length-set, get_or-set_other, get_or-set_same}
-use Rattle.std.specs.Prelude.{count_by}
+use Rattle.std.proofs.Common.{◌≡◌, ⊎_elim, ◌<◌, ◌≤◌, ◌+◌, ◌-◌, ◌*◌, ◌/◌, min, cond, Bool, true, false, not, ℕ, List, length, take, take_all, drop, set, get_or, refl, sym, ◌∙◌, ap, arith, length-set, get_or-set_other, get_or-set_same}
 use Rattle.std.proofs.lemmas.Bool.{cases_lt, cases_eq, cases_Bool}
-use Rattle.std.proofs.lemmas.List.{take-take, take-set-le, take-append-drop, get_or-take, get_or_past, length-take-le, drop-take}
+use Rattle.std.proofs.lemmas.List.{take-take, take-set-le, get_or-take, length-take-le, drop-take}
 use Rattle.std.proofs.Math.Seq.{take-set-lt}
-use Rattle.std.proofs.lemmas.List.Sums.{count_by_more_yes, count_by-le-length, sum_by-append, sum_by-set, sum_by-take-drop}
+use Rattle.std.proofs.lemmas.List.Sums.{count_by_more_yes, count_by-le-length, sum_by-set, sum_by-take-drop}
 use Rattle.pages.specs.Runs.{unused_count, unused_below, AreRuns}
 
 -- 1 for a sector that isn't marked
