@@ -1,11 +1,8 @@
-use Rattle.std.proofs.Common.{◌≡◌, List, sym, ap, subst, ◌∙◌, refl}
-use Rattle.std.specs.Prelude.{Option, Some, None, Result, IfOk, OnErr, slice_index_or}
+use Rattle.std.proofs.Common.{◌≡◌, List, sym, ap, ◌∙◌, refl}
+use Rattle.std.specs.Prelude.{Option, Some, None, slice_index_or}
 use Rattle.station.specs.Disk.{Sector}
 use Rattle.pages.specs.Image.{Map}
 use Rattle.pages.specs.Pages.{map_now, page_of}
-use Rattle.pages.specs.declared.error.PagesError.{PagesError}
-use Rattle.btree.specs.declared.child.Child.{Child}
-use Rattle.btree.specs.Reading.{SpellsNoPart}
 use Rattle.btree.specs.Steps.{StepsIn, StepsAt}
 use Rattle.btree.proofs.Frames.{untouched_on}
 use Rattle.btree.proofs.Parts.{no_part, read_none}
