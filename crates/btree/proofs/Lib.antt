@@ -45,4 +45,5 @@ pub mod Clearing
 pub mod Stays
 pub mod There
 pub mod Lengths
+pub mod Stepping
 mod Examples

@@ -49,4 +49,3 @@ entry_there (a ∷ more) e up has =
     (λ same. subst (λ (x : Entry). entry_with (a ∷ more) x.key ≡ Some x) (sym same) (ap (λ (o : Ordering). if is_eq o then Some a else entry_with more a.key) (tied_itself nat_list_cmp_total a.key)))
     (λ later. found_later a e more (key_cmp a.key e.key) (behind_first a more e up.0 later) (entry_there more e up.1 later))
     (in_cons a more e has)
-

@@ -13,3 +13,4 @@ pub mod Fates
 pub mod Shrinks
 pub mod Removals
 pub mod Walks
+pub mod Steps

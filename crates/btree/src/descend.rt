@@ -6,11 +6,12 @@ ghost use Rattle.tree_pages.specs.Form.{IsForm};
 ghost use Rattle.tree_pages.specs.Node.{IsNode};
 ghost use Rattle.btree.specs.Tree.{Part, IsTree};
 ghost use Rattle.btree.specs.Path.{EndsAt};
+ghost use Rattle.btree.specs.Steps.{LeadsTo};
 ghost use Rattle.btree.specs.Reading.{Untouched, IsRefusal};
 
-use crate::child::{child_place, right_beside};
 use crate::key::Key;
 use crate::part::read_part;
+use crate::step::step_at;
 use crate::turn::Turn;
 use pages::{PageMap, PagesError};
 use smallvec::SmallVec;
@@ -28,6 +29,62 @@ pub(crate) struct Descent {
     pub page: u32,
     pub leaf: TreePage,
     pub right: Option<Key>,
+}
+
+/// The page of the leaf that a key leads to, with the turns on the way, and the first key to the right of the leaf.
+#[derive(Drop)]
+struct Way {
+    path: SmallVec<Turn, LEVELS>,
+    page: u32,
+    right: Option<Key>,
+}
+
+/// Goes down from a page to the leaf where the key belongs. Refusals are those of `descend`.
+fn follow<D: Device>(
+    alloc: Global,
+    pages: &mut PageMap,
+    device: &mut D,
+    form: TreeForm,
+    root: u32,
+    key: &[u8],
+) -> Result<Way, PagesError>
+    requires open { IsOpen pages.old }
+    requires sectors { sectors_of pages.old ≤ D.sectors device.old }
+    requires form { IsForm form }
+    ensures honest { D.is_honest device.old ↔ D.is_honest device.new }
+    ensures sectors { D.sectors device.new ≡ D.sectors device.old }
+    ensures failures { Blames (result ≡ Err PagesError.Device) (D.failures device.old) (D.failures device.new) }
+    ensures state { D.is_honest device.old → D.state device.new ≡ D.state device.old }
+    ensures history { D.is_honest device.old → D.history device.new ≡ D.history device.old }
+    ensures untouched { Untouched pages.old pages.new }
+    ensures agrees { D.is_honest device.old → Agrees pages.old (D.state device.old).disk → Agrees pages.new (D.state device.new).disk }
+    ensures open { IsOpen pages.new }
+    ensures way { D.is_honest device.old → Agrees pages.old (D.state device.old).disk → (levels : List (List Part)) →
+        IsTree form (map_now pages.old (D.state device.old).disk.present).pages root levels →
+        IfOk result (λ way. LeadsTo form (map_now pages.old (D.state device.old).disk.present).pages key.now levels way.path.items way.page way.right) }
+    ensures damaged { D.is_honest device.old → Agrees pages.old (D.state device.old).disk → result ≡ Err PagesError.Damaged →
+        (levels : List (List Part)) → IsTree form (map_now pages.old (D.state device.old).disk.present).pages root levels → ⊥ }
+    ensures spent { result ≡ Err PagesError.Spent ↔ is_spent pages.old ≡ true }
+    ensures cause { IfErr result (IsRefusal form) }
+{
+    // How many page numbers there are is needed below.
+    let _page_count = pages.page_count();
+    let mut path = SmallVec::new(alloc);
+    let mut right = None;
+    let mut page = root;
+    for _depth in 0..LEVELS {
+        match step_at(alloc, pages, device, form, page, key, &mut right)? {
+            Some(child) => {
+                path.push_reserved(Turn {
+                    page,
+                    place: child.place,
+                });
+                page = child.page;
+            }
+            None => return Ok(Way { path, page, right }),
+        }
+    }
+    Err(PagesError::Damaged)
 }
 
 /// Goes down from a page to the leaf where the key belongs. `Damaged` tells that the page is no tree's root. `Memory` comes only
@@ -61,25 +118,15 @@ pub(crate) fn descend<D: Device>(
     ensures spent { result ≡ Err PagesError.Spent ↔ is_spent pages.old ≡ true }
     ensures cause { IfErr result (IsRefusal form) }
 {
-    // How many page numbers there are is needed below.
-    let _page_count = pages.page_count();
-    let mut path = SmallVec::new(alloc);
-    let mut right = None;
-    let mut page = root;
-    for _depth in 0..LEVELS {
-        let part = read_part(pages, device, form, page)?;
-        if part.kind() == Kind::Leaf {
-            return Ok(Descent {
-                path,
-                page,
-                leaf: part,
-                right,
-            });
-        }
-        let place = child_place(&part, key);
-        right = right_beside(alloc, &part, place, right)?;
-        path.push_reserved(Turn { page, place });
-        page = part.child(place);
+    let Way { path, page, right } = follow(alloc, pages, device, form, root, key)?;
+    let leaf = read_part(pages, device, form, page)?;
+    if leaf.kind() != Kind::Leaf {
+        return Err(PagesError::Damaged);
     }
-    Err(PagesError::Damaged)
+    Ok(Descent {
+        path,
+        page,
+        leaf,
+        right,
+    })
 }

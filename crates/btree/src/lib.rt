@@ -26,6 +26,7 @@ mod replace;
 mod rise;
 mod shrink;
 mod shrink_page;
+mod step;
 mod tree;
 mod turn;
 

@@ -1,5 +1,5 @@
 -- A draft with all its pages and maps is a plan.
-use Rattle.std.proofs.Common.{◌≡◌, inl, ◌<◌, ◌+◌, ◌*◌, ◌^◌, Bool, false, ℕ, List, [], ◌++◌, length, get_or, refl, sym, ◌∙◌, ap, subst, arith}
+use Rattle.std.proofs.Common.{◌≡◌, inl, ◌<◌, ◌+◌, ◌*◌, ◌^◌, false, ℕ, List, [], ◌++◌, length, get_or, refl, sym, ◌∙◌, ap, subst, arith}
 use Rattle.std.specs.Prelude.{Contains, Vec}
 use Rattle.std.specs.List.{All}
 use Rattle.std.specs.declared.alloc.Global.{Global}

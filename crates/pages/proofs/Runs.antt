@@ -1,10 +1,9 @@
 -- Runs of sectors, and how many of each aren't marked.
-use Rattle.std.proofs.Common.{◌≡◌, ◌≢◌, ⊎_elim, ◌<◌, ◌≤◌, ◌+◌, ◌-◌, ◌*◌, ◌/◌, min, inl, inr, cond, Bool, true, false, not, ℕ, zero, suc, List, [], length, take, take_all, drop, set, get_or, refl, sym, ◌∙◌, ap, subst, arith, length-set, get_or-set_other, get_or-set_same}
-use Rattle.std.specs.Prelude.{count_by}
+use Rattle.std.proofs.Common.{◌≡◌, ⊎_elim, ◌<◌, ◌≤◌, ◌+◌, ◌-◌, ◌*◌, ◌/◌, min, cond, Bool, true, false, not, ℕ, List, length, take, take_all, drop, set, get_or, refl, sym, ◌∙◌, ap, arith, length-set, get_or-set_other, get_or-set_same}
 use Rattle.std.proofs.lemmas.Bool.{cases_lt, cases_eq, cases_Bool}
-use Rattle.std.proofs.lemmas.List.{take-take, take-set-le, take-append-drop, get_or-take, get_or_past, length-take-le, drop-take}
+use Rattle.std.proofs.lemmas.List.{take-take, take-set-le, get_or-take, length-take-le, drop-take}
 use Rattle.std.proofs.Math.Seq.{take-set-lt}
-use Rattle.std.proofs.lemmas.List.Sums.{count_by_more_yes, count_by-le-length, sum_by-append, sum_by-set, sum_by-take-drop}
+use Rattle.std.proofs.lemmas.List.Sums.{count_by_more_yes, count_by-le-length, sum_by-set, sum_by-take-drop}
 use Rattle.pages.specs.Runs.{unused_count, unused_below, AreRuns}
 
 -- 1 for a sector that isn't marked
@@ -43,9 +42,9 @@ pub below_behind : (used : List Bool) (s n : ℕ) (b : Bool) → s < n → s < l
 below_behind used s n b lt low =
     let moved : unused_below (set used s b) n ≡ unused_count (set (take n used) s b) = ap unused_count (take-set-lt n used s b lt) in
     let there : s < length (take n used) = ⊎_elim
-        (λ short. omega (arith, lt, length-take-le n used (omega (arith, short))))
-        (λ long. let all : take n used ≡ used = take_all n used long in omega (arith, low, ap length all))
-        (cases_lt n (length used)) in
+    (λ short. omega (arith, lt, length-take-le n used (omega (arith, short))))
+    (λ long. let all : take n used ≡ used = take_all n used long in omega (arith, low, ap length all))
+    (cases_lt n (length used)) in
     let sum : unused_count (set (take n used) s b) + bit (get_or (take n used) s false) ≡ unused_count (take n used) + bit b = sum_by-set bit (take n used) s b false there in
     let same : get_or (take n used) s false ≡ get_or used s false = get_or-take n used s false lt in
     let bits : bit (get_or (take n used) s false) ≡ bit (get_or used s false) = ap bit same in
@@ -73,9 +72,9 @@ run_counted used start end there is =
     let up : start + (end - start) ≡ end = omega (arith, there, is) in
     let to : unused_below used (start + (end - start)) ≡ unused_below used end = ap (unused_below used) up in
     let last : unused_below used (start + 1024) ≡ unused_below used end = ⊎_elim
-        (λ lt. let e : start + 1024 ≡ end = omega (arith, lt, is) in ap (unused_below used) e)
-        (λ le. let e : length used ≡ end = omega (arith, le, is) in below_end used (start + 1024) le ∙ ap (unused_below used) e)
-        (cases_lt (start + 1024) (length used)) in
+    (λ lt. let e : start + 1024 ≡ end = omega (arith, lt, is) in ap (unused_below used) e)
+    (λ le. let e : length used ≡ end = omega (arith, le, is) in below_end used (start + 1024) le ∙ ap (unused_below used) e)
+    (cases_lt (start + 1024) (length used)) in
     omega (arith, parts, to, last)
 
 module _ (used : List Bool) (counts : List ℕ) (are : AreRuns used counts) where

@@ -1,5 +1,5 @@
 -- Keys that begin with some bytes, and their place among the others.
-use Rattle.std.proofs.Common.{◌≡◌, ◌<◌, ◌+◌, ℕ, zero, suc, Bool, false, List, [], ◌∷◌, ◌++◌, length, refl, sym, ◌∙◌, arith}
+use Rattle.std.proofs.Common.{◌≡◌, ◌<◌, ◌+◌, ℕ, zero, suc, false, List, [], ◌∷◌, ◌++◌, length, refl, arith}
 use Rattle.std.specs.Prelude.{take, replicate}
 use Rattle.std.specs.List.{All}
 use Rattle.std.proofs.lemmas.List.Elements.{All-head, All-tail}
@@ -54,4 +54,3 @@ high_fill (s ∷ start) [] count is low = absurd (omega (arith, is))
 high_fill (s ∷ start) (x ∷ key) count is low =
     then_same_gt (nat_cmp x s) (key_cmp key (start ++ replicate count 255)) (key_cmp (take (length start) key) start)
     (high_fill start key count (omega (arith, is)) (All-tail (λ byte. byte < 256) x key low))
-

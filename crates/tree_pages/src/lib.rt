@@ -13,6 +13,8 @@ mod search;
 mod tree_page;
 
 pub use form::{Kind, MOST_ROW_BYTES, ROW_BYTES, TreeForm};
-pub use laws::{beginnings_in_order, numbers_in_order, parts_in_order, row_reads_back, spells_node};
+pub use laws::{
+    beginnings_in_order, numbers_in_order, parts_in_order, row_reads_back, spells_node,
+};
 pub use node_view::NodeView;
 pub use tree_page::TreePage;

@@ -1,103 +1,61 @@
-use Rattle.std.proofs.Common.{◌≡◌, ◌≤◌, ◌+◌, ℕ, List, [], ◌∷◌, ◌++◌, length, false, Err, refl, sym, ap, subst, ◌∙◌, arith, rules}
-use Rattle.std.specs.Prelude.{Option, Some, None}
-use Rattle.std.proofs.lemmas.List.{length-append}
+use Rattle.std.proofs.Common.{◌≡◌, ℕ, List, Err, refl, sym, subst, rules}
+use Rattle.std.specs.Prelude.{Option, Some}
 use Rattle.std.proofs.lemmas.Result.{err_from_is_err_and}
 use Rattle.station.specs.Disk.{Sector}
-use Rattle.pages.specs.Pages.{map_now, is_spent, page_count}
-use Rattle.pages.specs.declared.error.PagesError.TheVariants.{Damaged, Spent}
+use Rattle.pages.specs.Pages.{map_now}
+use Rattle.pages.specs.declared.error.PagesError.TheVariants.{Damaged}
 use Rattle.tree_pages.specs.declared.form.Kind.TheVariants.{Leaf, Inner}
 use Rattle.btree.specs.Tree.{node_at, Stands}
-use Rattle.btree.specs.Path.{Turn}
-use Rattle.btree.proofs.Descents.{Along, start, step_read, ends_at, too_deep, along_stands}
-use Rattle.btree.proofs.Frames.{untouched_still, untouched_on, same_pages, false_unless, ok_or_err}
-use Rattle.btree.proofs.Parts.{few_pages}
+use Rattle.btree.specs.Path.{EndsAt}
+use Rattle.btree.specs.Steps.{LeadsTo}
+use Rattle.btree.specs.Rises.{part_of}
+use Rattle.btree.proofs.Descents.{rows_read, kind_read}
+use Rattle.btree.proofs.Frames.{untouched_on, same_pages}
 use Rattle.btree.proofs.descend.descend.Goals as goal
 
-pub loop-depth-init : goal.loop-depth-init
-loop-depth-init g c = record {
-  honest = (λ h. h, λ h. h);
-  sectors = refl;
-  failures = omega arith;
-  state = λ h. refl;
-  history = λ h. refl;
-  untouched = untouched_still c.args.pages.now;
-  agrees = λ h a. a;
-  is_open = c.requires.open;
-  spent = λ low. absurd (omega arith);
-  room = c.new-path.ensures.capacity;
-  turns = ap length c.new-path.ensures.items;
-  way = λ unspent h a levels tree.
-      let pages : List (Option Sector) = (map_now c.args.pages.now (g.D.Device.state c.args.device.now).disk.present).pages in
-      let P : List Turn → Type 0 = λ turns. Along c.args.form pages levels c.args.key.now turns c.args.root None in
-      subst P (sym c.new-path.ensures.items)
-      (start c.args.form pages c.args.root levels c.args.key.now (few_pages (map_now c.args.pages.now (g.D.Device.state c.args.device.now).disk.present).pages (page_count c.args.pages.now) c.page_count-page_count.result (c.page_count-page_count.ensures.pages (g.D.Device.state c.args.device.now).disk.present) c.page_count-page_count.ensures.count (c.page_count-page_count.ensures.few c.requires.open unspent)) tree);
-}
+pub returns-in_err-leaf-clause-untouched : goal.returns-in_err-leaf-clause-untouched
+returns-in_err-leaf-clause-untouched g c =
+    untouched_on c.args.pages.now c.follow.new.pages c.read_part.new.pages c.follow.ensures.untouched c.read_part.ensures.untouched
 
-pub returns-in_err-part-clause-untouched : goal.returns-in_err-part-clause-untouched
-returns-in_err-part-clause-untouched g c = untouched_on c.args.pages.now c.loop-depth.pages c.read_part.new.pages c.loop-depth.invariant.untouched c.read_part.ensures.untouched
-
-pub returns-in_err-part-clause-damaged : goal.returns-in_err-part-clause-damaged
-returns-in_err-part-clause-damaged g c = λ h a is levels tree.
-    let from = err_from_is_err_and c.from_residual.result c.from_residual.ensures.1 in
-    let damaged : c.read_part.result ≡ Err Damaged = cc in
-    let here : is_spent c.loop-depth.pages ≡ false = false_unless (is_spent c.loop-depth.pages) (λ spent. let other : c.read_part.result ≡ Err Spent = c.read_part.ensures.spent.1 spent in cc) in
-    let unspent : is_spent c.args.pages.now ≡ false = sym c.loop-depth.invariant.untouched.committed.spent ∙ here in
-    let stands = along_stands c.args.form (map_now c.args.pages.now (g.D.Device.state c.args.device.now).disk.present).pages levels c.args.key.now c.loop-depth.path.items c.loop-depth.page c.loop-depth.right
-    (c.loop-depth.invariant.way unspent h a levels tree) in
-    let same = same_pages c.args.pages.now c.loop-depth.pages (g.D.Device.state c.args.device.now) (g.D.Device.state c.loop-depth.device) c.loop-depth.invariant.untouched (c.loop-depth.invariant.state h) in
-    c.read_part.ensures.damaged (c.loop-depth.invariant.honest.0 h) (c.loop-depth.invariant.agrees h a) damaged stands.kind stands.part stands.same
-    (subst (λ (pages : List (Option Sector)). Stands c.args.form pages stands.kind stands.part) (sym same) stands.stands)
-
-pub returns-then-eq-clause-untouched : goal.returns-then-eq-clause-untouched
-returns-then-eq-clause-untouched g c = untouched_on c.args.pages.now c.loop-depth.pages c.read_part.new.pages c.loop-depth.invariant.untouched c.read_part.ensures.untouched
-
-pub returns-then-eq-clause-way : goal.returns-then-eq-clause-way
-returns-then-eq-clause-way g c = λ h a levels tree.
-    let here : is_spent c.loop-depth.pages ≡ false = false_unless (is_spent c.loop-depth.pages) (λ spent. ok_or_err c.in_ok-part.part Spent (sym c.in_ok-part.was ∙ c.read_part.ensures.spent.1 spent)) in
-    let unspent : is_spent c.args.pages.now ≡ false = sym c.loop-depth.invariant.untouched.committed.spent ∙ here in
+pub returns-in_err-leaf-clause-damaged : goal.returns-in_err-leaf-clause-damaged
+returns-in_err-leaf-clause-damaged g c = λ h a is levels tree.
     let pages : List (Option Sector) = (map_now c.args.pages.now (g.D.Device.state c.args.device.now).disk.present).pages in
-    let same = same_pages c.args.pages.now c.loop-depth.pages (g.D.Device.state c.args.device.now) (g.D.Device.state c.loop-depth.device) c.loop-depth.invariant.untouched (c.loop-depth.invariant.state h) in
-    let read : node_at c.args.form pages c.loop-depth.page ≡ Some c.in_ok-part.part =
-    subst (λ (p : List (Option Sector)). node_at c.args.form p c.loop-depth.page ≡ Some c.in_ok-part.part) same (c.in_ok-part.ensures.part (c.loop-depth.invariant.honest.0 h) (c.loop-depth.invariant.agrees h a)) in
-    let leaf : c.in_ok-part.part.kind ≡ Leaf = search rules in
-    ends_at c.args.form pages levels c.args.key.now c.loop-depth.path.items c.loop-depth.page c.loop-depth.right c.in_ok-part.part (c.loop-depth.invariant.way unspent h a levels tree) read leaf
+    let same = same_pages c.args.pages.now c.follow.new.pages (g.D.Device.state c.args.device.now) (g.D.Device.state c.follow.new.device) c.follow.ensures.untouched (c.follow.ensures.state h) in
+    let way = c.in_ok-path.field-0 in
+    let leads : LeadsTo c.args.form pages c.args.key.now levels way.path.items way.page way.right = c.in_ok-path.ensures.way h a levels tree in
+    let from = err_from_is_err_and c.from_residual-in_err-leaf.result c.from_residual-in_err-leaf.ensures.1 in
+    let damaged : c.read_part.result ≡ Err Damaged = cc in
+    c.read_part.ensures.damaged (c.follow.ensures.honest.0 h) (c.follow.ensures.agrees h a) damaged Leaf (part_of way.page leads.rows) refl
+    (subst (λ (p : List (Option Sector)). Stands c.args.form p Leaf (part_of way.page leads.rows)) (sym same) leads.stands)
 
-pub returns-in_err-right-clause-untouched : goal.returns-in_err-right-clause-untouched
-returns-in_err-right-clause-untouched g c = untouched_on c.args.pages.now c.loop-depth.pages c.read_part.new.pages c.loop-depth.invariant.untouched c.read_part.ensures.untouched
+pub returns-then-ne-clause-untouched : goal.returns-then-ne-clause-untouched
+returns-then-ne-clause-untouched g c =
+    untouched_on c.args.pages.now c.follow.new.pages c.read_part.new.pages c.follow.ensures.untouched c.read_part.ensures.untouched
 
-pub loop-depth-preserved : goal.loop-depth-preserved
-loop-depth-preserved g c =
-    let here : is_spent c.loop-depth.pages ≡ false = false_unless (is_spent c.loop-depth.pages) (λ spent. ok_or_err c.in_ok-part.part Spent (sym c.in_ok-part.was ∙ c.read_part.ensures.spent.1 spent)) in
-    record {
-      honest = (λ h. c.read_part.ensures.honest.0 (c.loop-depth.invariant.honest.0 h), λ h. c.loop-depth.invariant.honest.1 (c.read_part.ensures.honest.1 h));
-      sectors = c.read_part.ensures.sectors ∙ c.loop-depth.invariant.sectors;
-      failures = omega (arith, c.read_part.ensures.failures.no_fewer, c.loop-depth.invariant.failures);
-      state = λ h. c.read_part.ensures.state (c.loop-depth.invariant.honest.0 h) ∙ c.loop-depth.invariant.state h;
-      history = λ h. c.read_part.ensures.history (c.loop-depth.invariant.honest.0 h) ∙ c.loop-depth.invariant.history h;
-      untouched = untouched_on c.args.pages.now c.loop-depth.pages c.read_part.new.pages c.loop-depth.invariant.untouched c.read_part.ensures.untouched;
-      agrees = λ h a. c.read_part.ensures.agrees (c.loop-depth.invariant.honest.0 h) (c.loop-depth.invariant.agrees h a);
-      is_open = c.read_part.ensures.open;
-      spent = λ low. sym c.loop-depth.invariant.untouched.committed.spent ∙ here;
-      room = c.push_reserved.ensures.capacity ∙ c.loop-depth.invariant.room;
-      turns = ap length c.push_reserved.ensures.items ∙ length-append c.loop-depth.path.items _ ∙ ap (λ (n : ℕ). n + 1) c.loop-depth.invariant.turns;
-      way = λ unspent h a levels tree.
-          let pages : List (Option Sector) = (map_now c.args.pages.now (g.D.Device.state c.args.device.now).disk.present).pages in
-          let same = same_pages c.args.pages.now c.loop-depth.pages (g.D.Device.state c.args.device.now) (g.D.Device.state c.loop-depth.device) c.loop-depth.invariant.untouched (c.loop-depth.invariant.state h) in
-          let read : node_at c.args.form pages c.loop-depth.page ≡ Some c.in_ok-part.part =
-          subst (λ (p : List (Option Sector)). node_at c.args.form p c.loop-depth.page ≡ Some c.in_ok-part.part) same (c.in_ok-part.ensures.part (c.loop-depth.invariant.honest.0 h) (c.loop-depth.invariant.agrees h a)) in
-          let inner : c.in_ok-part.part.kind ≡ Inner = search rules in
-          let next : Along c.args.form pages levels c.args.key.now (c.loop-depth.path.items ++ record { page = c.loop-depth.page; place = c.child_place-place.result } ∷ []) c.child-page.result c.in_ok-right.right =
-          subst (λ (child : ℕ). Along c.args.form pages levels c.args.key.now (c.loop-depth.path.items ++ record { page = c.loop-depth.page; place = c.child_place-place.result } ∷ []) child c.in_ok-right.right) (sym c.child-page.ensures)
-          (step_read c.args.form c.in_ok-part.part.form pages levels c.args.key.now c.loop-depth.path.items c.loop-depth.page c.loop-depth.right c.in_ok-right.right c.in_ok-part.part c.child_place-place.result c.in_ok-part.ensures.shape.0
-          (c.loop-depth.invariant.way unspent h a levels tree) read inner c.child_place-place.ensures.chosen (record { within = c.in_ok-right.ensures.within; beyond = c.in_ok-right.ensures.beyond })) in
-          subst (λ (turns : List Turn). Along c.args.form pages levels c.args.key.now turns c.child-page.result c.in_ok-right.right) (sym c.push_reserved.ensures.items) next;
-    }
+pub returns-then-ne-clause-damaged : goal.returns-then-ne-clause-damaged
+returns-then-ne-clause-damaged g c = λ h a is levels tree.
+    let pages : List (Option Sector) = (map_now c.args.pages.now (g.D.Device.state c.args.device.now).disk.present).pages in
+    let same = same_pages c.args.pages.now c.follow.new.pages (g.D.Device.state c.args.device.now) (g.D.Device.state c.follow.new.device) c.follow.ensures.untouched (c.follow.ensures.state h) in
+    let way = c.in_ok-path.field-0 in
+    let leads : LeadsTo c.args.form pages c.args.key.now levels way.path.items way.page way.right = c.in_ok-path.ensures.way h a levels tree in
+    let read : node_at c.args.form pages way.page ≡ Some c.in_ok-leaf.leaf =
+    subst (λ (p : List (Option Sector)). node_at c.args.form p way.page ≡ Some c.in_ok-leaf.leaf) same (c.in_ok-leaf.ensures.part (c.follow.ensures.honest.0 h) (c.follow.ensures.agrees h a)) in
+    let leaf : Leaf ≡ c.in_ok-leaf.leaf.kind = kind_read c.args.form pages Leaf (part_of way.page leads.rows) way.page c.in_ok-leaf.leaf refl leads.stands read in
+    let inner : c.in_ok-leaf.leaf.kind ≡ Inner = search rules in
+    let clash : Leaf ≡ Inner = cc in
+    cc
 
-pub returns-clause-damaged : goal.returns-clause-damaged
-returns-clause-damaged g c = λ h a is levels tree.
-    let turns = c.loop-depth.invariant.turns in
-    let done = c.loop-depth-test.false in
-    let unspent : is_spent c.args.pages.now ≡ false = c.loop-depth.invariant.spent (omega arith) in
-    let deep : 21 ≤ length c.loop-depth.path.items = omega arith in
-    too_deep c.args.form (map_now c.args.pages.now (g.D.Device.state c.args.device.now).disk.present).pages c.args.root levels c.args.key.now c.loop-depth.path.items c.loop-depth.page c.loop-depth.right
-    (few_pages (map_now c.args.pages.now (g.D.Device.state c.args.device.now).disk.present).pages (page_count c.args.pages.now) c.page_count-page_count.result (c.page_count-page_count.ensures.pages (g.D.Device.state c.args.device.now).disk.present) c.page_count-page_count.ensures.count (c.page_count-page_count.ensures.few c.requires.open unspent)) tree (c.loop-depth.invariant.way unspent h a levels tree) deep
+pub returns-clause-way : goal.returns-clause-way
+returns-clause-way g c = λ h a levels tree.
+    let pages : List (Option Sector) = (map_now c.args.pages.now (g.D.Device.state c.args.device.now).disk.present).pages in
+    let same = same_pages c.args.pages.now c.follow.new.pages (g.D.Device.state c.args.device.now) (g.D.Device.state c.follow.new.device) c.follow.ensures.untouched (c.follow.ensures.state h) in
+    let way = c.in_ok-path.field-0 in
+    let leads : LeadsTo c.args.form pages c.args.key.now levels way.path.items way.page way.right = c.in_ok-path.ensures.way h a levels tree in
+    let read : node_at c.args.form pages way.page ≡ Some c.in_ok-leaf.leaf =
+    subst (λ (p : List (Option Sector)). node_at c.args.form p way.page ≡ Some c.in_ok-leaf.leaf) same (c.in_ok-leaf.ensures.part (c.follow.ensures.honest.0 h) (c.follow.ensures.agrees h a)) in
+    let rows : leads.rows ≡ c.in_ok-leaf.leaf.rows = rows_read c.args.form pages Leaf (part_of way.page leads.rows) way.page c.in_ok-leaf.leaf refl leads.stands read in
+    subst (λ (list : List (List ℕ)). EndsAt c.args.form c.args.key.now levels way.path.items way.page list way.right) rows leads.ends
+
+pub returns-clause-untouched : goal.returns-clause-untouched
+returns-clause-untouched g c =
+    untouched_on c.args.pages.now c.follow.new.pages c.read_part.new.pages c.follow.ensures.untouched c.read_part.ensures.untouched

@@ -1,6 +1,4 @@
-use Rattle.std.proofs.Common.{◌*◌, ◌∙◌, ap, arith}
-use Rattle.std.specs.Prelude.{ℕ}
-use Rattle.pages.specs.Runs.{unused_below}
+use Rattle.std.proofs.Common.{◌*◌, arith}
 use Rattle.pages.proofs.Runs.{run_counted}
 use Rattle.pages.proofs.sector_use.count_run.Goals as goal
 

@@ -1,4 +1,4 @@
-use Rattle.std.proofs.Common.{List, ℕ, subst, sym}
+use Rattle.std.proofs.Common.{ℕ, subst, sym}
 use Rattle.station.specs.Disk.{Sector}
 use Rattle.lru.specs.LruCache.{LruCache}
 use Rattle.pages.specs.Image.{pages_in}

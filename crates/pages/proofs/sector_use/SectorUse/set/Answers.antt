@@ -1,4 +1,4 @@
-use Rattle.std.proofs.Common.{◌<◌, ◌/◌, ◌≡◌, ◌∙◌, ℕ, cond, false, length, get_or, sym, ap, arith}
+use Rattle.std.proofs.Common.{◌<◌, ◌/◌, ◌∙◌, ℕ, cond, false, length, sym, ap, arith}
 use Rattle.std.proofs.lemmas.List.{get_or_read}
 use Rattle.pages.proofs.Runs.{run_few, run_there, run_some, runs_set}
 use Rattle.pages.proofs.sector_use.SectorUse.set.Goals as goal

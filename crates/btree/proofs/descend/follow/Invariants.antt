@@ -4,7 +4,7 @@ use Rattle.pages.specs.Pages.{map_now, is_spent, Agrees, IsOpen}
 use Rattle.btree.specs.Tree.{Part, IsTree}
 use Rattle.btree.specs.Reading.{Untouched}
 use Rattle.btree.proofs.Descents.{Along}
-use Rattle.btree.proofs.descend.descend.Given as goal
+use Rattle.btree.proofs.descend.follow.Given as goal
 
 abbrev pub invariant-loop-depth : goal.invariant-loop-depth
 invariant-loop-depth g l = record {

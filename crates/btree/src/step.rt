@@ -1,0 +1,78 @@
+//! One step of a key's way down a tree.
+ghost use Rattle.std.specs.Prelude.{true, ◌≡◌, ◌⊎◌, ◌<◌, ◌≤◌, ◌↔◌, Err, ℕ, IfOk, IfErr, OnErr};
+ghost use Rattle.station.specs.Failures.{Blames};
+ghost use Rattle.pages.specs.Pages.{map_now, is_spent, sectors_of, Agrees, IsOpen};
+ghost use Rattle.tree_pages.specs.Form.{IsForm};
+ghost use Rattle.btree.specs.Tree.{Part, Stands};
+ghost use Rattle.btree.specs.Reading.{Untouched, IsRefusal, SpellsNoPart};
+ghost use Rattle.btree.specs.Steps.{StepsIn, StepsAt};
+
+use crate::child::{Child, child_place, note_right};
+use crate::key::Key;
+use crate::part::part_in;
+use pages::{PageMap, PagesError};
+use station::Device;
+use std::alloc::Global;
+use tree_pages::{Kind, TreeForm};
+
+/// The child that a key leads to on the page that these bytes spell, or none where it is a leaf. The next key to the right is noted.
+fn step_in(
+    alloc: Global,
+    bytes: &[u8; 4096],
+    form: TreeForm,
+    key: &[u8],
+    right: &mut Option<Key>,
+) -> Result<Option<Child>, PagesError>
+    requires { IsForm form }
+    ensures step { IfOk result (λ child. StepsIn form bytes.now key.now right.old right.new child) }
+    ensures damaged { result ≡ Err PagesError.Damaged → SpellsNoPart form bytes.now }
+    ensures cause { OnErr result ((result ≡ Err PagesError.Damaged) ⊎ ((result ≡ Err PagesError.Memory) × (128 < form.key_length))) }
+{
+    let part = part_in(bytes, form)?;
+    if part.kind() == Kind::Leaf {
+        return Ok(None);
+    }
+    let place = child_place(&part, key);
+    note_right(alloc, &part, place, right)?;
+    let page = part.child(place);
+    Ok(Some(Child { place, page }))
+}
+
+/// The child that a key leads to on the page of that number, or none where it is a leaf. The next key to the right is noted.
+/// `Damaged` tells that the page is none of a tree. `Memory` comes only where keys are longer than 128 bytes.
+pub(crate) fn step_at<D: Device>(
+    alloc: Global,
+    pages: &mut PageMap,
+    device: &mut D,
+    form: TreeForm,
+    page: u32,
+    key: &[u8],
+    right: &mut Option<Key>,
+) -> Result<Option<Child>, PagesError>
+    requires open { IsOpen pages.old }
+    requires sectors { sectors_of pages.old ≤ D.sectors device.old }
+    requires form { IsForm form }
+    ensures honest { D.is_honest device.old ↔ D.is_honest device.new }
+    ensures sectors { D.sectors device.new ≡ D.sectors device.old }
+    ensures failures { Blames (result ≡ Err PagesError.Device) (D.failures device.old) (D.failures device.new) }
+    ensures state { D.is_honest device.old → D.state device.new ≡ D.state device.old }
+    ensures history { D.is_honest device.old → D.history device.new ≡ D.history device.old }
+    ensures untouched { Untouched pages.old pages.new }
+    ensures agrees { D.is_honest device.old → Agrees pages.old (D.state device.old).disk → Agrees pages.new (D.state device.new).disk }
+    ensures open { IsOpen pages.new }
+    ensures step { D.is_honest device.old → Agrees pages.old (D.state device.old).disk →
+        IfOk result (λ child. StepsAt form (map_now pages.old (D.state device.old).disk.present).pages page key.now right.old right.new child) }
+    ensures damaged { D.is_honest device.old → Agrees pages.old (D.state device.old).disk → result ≡ Err PagesError.Damaged →
+        (kind : Kind) (part : Part) → part.page ≡ page → Stands form (map_now pages.old (D.state device.old).disk.present).pages kind part → ⊥ }
+    ensures spent { result ≡ Err PagesError.Spent ↔ is_spent pages.old ≡ true }
+    ensures cause { IfErr result (IsRefusal form) }
+{
+    pages.note_use(page);
+    if let Some(bytes) = pages.view(page) {
+        return step_in(alloc, bytes, form, key, right);
+    }
+    match pages.read(device, page)? {
+        Some(bytes) => step_in(alloc, &bytes, form, key, right),
+        None => Err(PagesError::Damaged),
+    }
+}
