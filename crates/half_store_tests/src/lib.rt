@@ -1,0 +1,12 @@
+//! Rows of the store of halves as tests: what each call answers, and what stops and failures leave.
+//! Nothing here is built into the product.
+#![tactic(auto)]
+
+#[cfg(test)]
+mod asserted;
+#[cfg(test)]
+mod crash_tests;
+#[cfg(test)]
+mod row_tests;
+#[cfg(test)]
+mod volume;
