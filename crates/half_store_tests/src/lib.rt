@@ -7,6 +7,10 @@ mod asserted;
 #[cfg(test)]
 mod crash_tests;
 #[cfg(test)]
+mod failure_tests;
+#[cfg(test)]
+mod limit_tests;
+#[cfg(test)]
 mod row_tests;
 #[cfg(test)]
 mod volume;

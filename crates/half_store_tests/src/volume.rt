@@ -162,16 +162,24 @@ impl Volume {
     }
 }
 
-/// How many rows the files of a station hold, 99 where none can be recovered.
+/// How many rows the last file of a station has, 99 where none can be recovered.
 pub fn recovered_rows(alloc: Global, station: &mut MemoryStation) -> usize {
+    match files_and_rows(alloc, station) {
+        Some((_, rows)) => rows,
+        None => 99,
+    }
+}
+
+/// How many files a station holds, and how many rows the last of them has.
+pub fn files_and_rows(alloc: Global, station: &mut MemoryStation) -> Option<(usize, usize)> {
     match recover(alloc, station) {
-        Ok(files) => count_rows(&files),
-        Err(_) => 99,
+        Ok(files) => Some((files.len(), count_rows(&files))),
+        Err(_) => None,
     }
 }
 
 fn count_rows(files: &[StoredFile]) -> usize {
-    match files.first() {
+    match files.last() {
         Some(file) => file.rows.len(),
         None => 0,
     }
