@@ -7,6 +7,8 @@ mod asserted;
 #[cfg(test)]
 mod crash_tests;
 #[cfg(test)]
+mod damage_tests;
+#[cfg(test)]
 mod failure_tests;
 #[cfg(test)]
 mod limit_tests;
