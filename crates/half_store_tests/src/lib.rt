@@ -13,6 +13,8 @@ mod failure_tests;
 #[cfg(test)]
 mod limit_tests;
 #[cfg(test)]
+mod reopening_tests;
+#[cfg(test)]
 mod row_tests;
 #[cfg(test)]
 mod volume;

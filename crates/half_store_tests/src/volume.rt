@@ -53,6 +53,11 @@ pub fn indexed(rt: &impl Abort, alloc: Global, duplicates: bool) -> FileSpec {
     )
 }
 
+/// A relative file of records of this length.
+pub fn relative(rt: &impl Abort, alloc: Global, name: &[u8], length: u16) -> FileSpec {
+    file(rt, alloc, name, Organization::Relative, length, &[])
+}
+
 fn file(
     rt: &impl Abort,
     alloc: Global,
@@ -117,6 +122,20 @@ impl Volume {
         self.store.insert(&mut self.station, file, 1, bytes)
     }
 
+    /// A new row of a relative file, under this number.
+    pub fn insert_at(
+        &mut self,
+        rt: &impl Abort,
+        file: &FileSpec,
+        number: u64,
+        bytes: &[u8],
+    ) -> Result<Outcome, StoreFault> {
+        assert!(rt; self.store.sectors() <= self.station.count());
+        assert!(rt; 1 <= number && number <= 999_999_999);
+        assert!(rt; bytes.len() == file.record_length as usize);
+        self.store.insert(&mut self.station, file, number, bytes)
+    }
+
     pub fn replace(
         &mut self,
         rt: &impl Abort,
@@ -157,6 +176,52 @@ impl Volume {
             Side::From,
             b"",
             0,
+            bytes,
+        )
+    }
+
+    /// The first row behind a number in the order of a file without keys.
+    pub fn behind(
+        &mut self,
+        rt: &impl Abort,
+        file: &FileSpec,
+        number: u64,
+        bytes: &mut [u8],
+    ) -> Result<Option<Found>, StoreFault> {
+        assert!(rt; self.store.sectors() <= self.station.count());
+        assert!(rt; bytes.len() == file.record_length as usize);
+        self.store.seek(
+            &mut self.station,
+            file,
+            KeyOfReference::Prime,
+            Side::After,
+            b"",
+            number,
+            bytes,
+        )
+    }
+
+    /// The first row behind a value and an arrival in the order of the first alternate key.
+    pub fn behind_alternate(
+        &mut self,
+        rt: &impl Abort,
+        file: &FileSpec,
+        value: &[u8],
+        number: u64,
+        bytes: &mut [u8],
+    ) -> Result<Option<Found>, StoreFault> {
+        let key = KeyOfReference::Alternate(0);
+        assert!(rt; self.store.sectors() <= self.station.count());
+        assert!(rt; bytes.len() == file.record_length as usize);
+        assert!(rt; 1 <= file.alternates.len());
+        assert!(rt; value.len() <= file.key_place(key).length as usize);
+        self.store.seek(
+            &mut self.station,
+            file,
+            key,
+            Side::After,
+            value,
+            number,
             bytes,
         )
     }
