@@ -31,8 +31,12 @@ by_halves b = elim (cases_lt 9 (b / 16)) [
   | inl high ↦ inr (inl high, ap (λ t. if t then 10 * (b / 16) + b % 16 else 255) (and_left _ _ (lt-leb (b / 16) 9 high)))
   | inr few ↦ elim (cases_lt 9 (b % 16)) [
     | inl low ↦ inr (inr (few, low), ap (λ t. if t then 10 * (b / 16) + b % 16 else 255) (and_right _ _ (lt-leb (b % 16) 9 low)))
-    | inr less ↦ inl (few, less, ap (λ t. if t && nat_le (b % 16) 9 then 10 * (b / 16) + b % 16 else 255) (le-leb (b / 16) 9 few)
-        ∙ ap (λ t. if t then 10 * (b / 16) + b % 16 else 255) (le-leb (b % 16) 9 less))
+    | inr less ↦ inl (
+      few,
+      less,
+      ap (λ t. if t && nat_le (b % 16) 9 then 10 * (b / 16) + b % 16 else 255) (le-leb (b / 16) 9 few)
+          ∙ ap (λ t. if t then 10 * (b / 16) + b % 16 else 255) (le-leb (b % 16) 9 less),
+    )
   ]
 ]
 
