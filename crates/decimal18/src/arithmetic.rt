@@ -8,7 +8,6 @@ use crate::size_error::Size;
 use std::ops::Neg;
 
 /// n / d, by a division of 64 bits where both fit.
-#[inline]
 pub fn divided(n: u128, d: u128) -> u128
     requires { 0 < d }
     ensures { result ≡ n / d }
@@ -21,7 +20,6 @@ pub fn divided(n: u128, d: u128) -> u128
 }
 
 /// The number with this sign and absolute value.
-#[inline]
 pub fn with_sign(negative: bool, magnitude: u128) -> i128
     requires { magnitude < 10 ^ 38 }
     ensures { result ≡ signed negative magnitude }

@@ -27,7 +27,6 @@ impl Dec {
         Some((most - divisor.scale()).min(MOST_SCALE))
     }
 
-    #[inline]
     fn quotient_with(self, divisor: Dec, scale: u8) -> Dec
         requires divisor { divisor.coefficient ≢ pos 0 }
         requires scale { scale ≤ 18 }
@@ -43,7 +42,6 @@ impl Dec {
 
     /// The quotient, cut towards zero at the greatest scale from 0 to 18 at which the dividend's coefficient, with the
     /// zeros that this takes, has at most 38 digits; a size error where there is none, or the divisor is zero.
-    #[inline]
     #[tactic(auto, unfolding(crate::specs::Quotient::quotient))]
     pub fn div(self, divisor: Dec) -> Result<Dec, Size>
         ensures { result ≡ quotient self divisor }
