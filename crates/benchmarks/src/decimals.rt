@@ -350,23 +350,21 @@ fn plain_cuts(operands: &Operands) -> u64 {
     sum
 }
 
-/// Keeps an order from being dropped.
-fn told_order(sum: u64, order: Ordering) -> u64 {
-    match order {
-        Ordering::Less => sum.wrapping_add(1),
-        Ordering::Equal => sum.wrapping_add(2),
-        Ordering::Greater => sum,
+/// How many pairs were found less. Each order is kept, so that it is made.
+fn less(orders: &[Ordering]) -> u64 {
+    let mut count = 0u64;
+    for order in orders {
+        count = count.wrapping_add((*order == Ordering::Less) as u64);
     }
+    count
 }
 
 fn orders(operands: &Operands) -> u64 {
-    let mut sum = 0u64;
+    let mut orders = [Ordering::Equal; COUNT];
     for n in 0..COUNT {
-        let a = operands.left[n];
-        let b = operands.right[n];
-        sum = told_order(sum, a.cmp(&b));
+        orders[n] = operands.left[n].cmp(&operands.right[n]);
     }
-    sum
+    less(&orders)
 }
 
 fn replaced_orders(operands: &Operands) -> u64 {
@@ -380,15 +378,15 @@ fn replaced_orders(operands: &Operands) -> u64 {
 }
 
 fn plain_orders(operands: &Operands) -> u64 {
-    let mut sum = 0u64;
+    let mut orders = [Ordering::Equal; COUNT];
     for n in 0..COUNT {
         let a = operands.plain_left[n];
         let b = operands.plain_right[n];
         if let Some(order) = plain_decimals::order(a, b) {
-            sum = told_order(sum, order);
+            orders[n] = order;
         }
     }
-    sum
+    less(&orders)
 }
 
 fn texts(operands: &Operands) -> u64 {
@@ -421,21 +419,26 @@ fn plain_texts(operands: &Operands) -> u64 {
     sum
 }
 
-/// The digits that are read: they differ from number to number.
-fn text_of(number: Dec) -> &'static [u8]
+/// The digits that are read: of many texts, so that the compiler reads none beforehand.
+fn text_of(n: usize) -> &'static [u8]
     ensures { All IsAsciiDigit result.now }
 {
-    if number.is_negative() {
-        b"902345671234567890"
-    } else {
-        b"123450000987654321"
+    match n % 8 {
+        0 => b"902345671234567890",
+        1 => b"123450000987654321",
+        2 => b"314159265358979323",
+        3 => b"271828182845904523",
+        4 => b"141421356237309504",
+        5 => b"161803398874989484",
+        6 => b"000000000000000005",
+        _ => b"999999999999999999",
     }
 }
 
 fn numbers(operands: &Operands) -> u64 {
     let mut sum = 0u64;
     for n in 0..COUNT {
-        let text = text_of(operands.left[n]);
+        let text = text_of(n);
         if let Ok(value) = Dec::from_digits(n % 2 == 0, text, DECIMALS) {
             sum = sum.wrapping_add(u64::try_from(value.magnitude()).unwrap_or(0));
         }
@@ -446,7 +449,7 @@ fn numbers(operands: &Operands) -> u64 {
 fn replaced_numbers(operands: &Operands) -> u64 {
     let mut sum = 0u64;
     for n in 0..COUNT {
-        let text = text_of(operands.left[n]);
+        let text = text_of(n);
         if let Some(value) = replaced_decimals::from_digits(n % 2 == 0, text, DECIMALS) {
             sum = sum.wrapping_add(u64::try_from(value.coefficient.unsigned_abs()).unwrap_or(0));
         }
@@ -457,7 +460,7 @@ fn replaced_numbers(operands: &Operands) -> u64 {
 fn plain_numbers(operands: &Operands) -> u64 {
     let mut sum = 0u64;
     for n in 0..COUNT {
-        let text = text_of(operands.left[n]);
+        let text = text_of(n);
         if let Some(value) = plain_decimals::from_digits(n % 2 == 0, text, DECIMALS) {
             sum = sum.wrapping_add(value.coefficient.unsigned_abs());
         }

@@ -56,10 +56,10 @@ fn compared(one: &[u8], other: &mut [u8], turns: usize, plain: bool) -> u64 {
     let mut less = 0_u64;
     for turn in 0..turns {
         if let Some(last) = other.last_mut() {
-            *last = (turn % 256) as u8;
+            *last = b'a' + (turn % 16) as u8;
         }
         let is_less = if plain {
-            *one < *other
+            one.cmp(&*other) == Ordering::Less
         } else {
             is_less(one, other)
         };

@@ -27,9 +27,6 @@ fn short_raised_order(left: i64, shift: u8, right: i64) -> Ordering
     requires { shift ≤ 18 }
     ensures { result ≡ int_cmp (left *ℤ pos (10 ^ shift)) right }
 {
-    if shift == 0 {
-        return left.cmp(&right);
-    }
     match left.checked_mul(signed_power(shift)) {
         Some(raised) => raised.cmp(&right),
         None if left < 0 => Ordering::Less,
@@ -52,6 +49,20 @@ fn order_of(left: Dec, right: Dec) -> Ordering
     raised_order(left.coefficient(), shift, right.coefficient())
 }
 
+/// The order of two numbers with as many decimals.
+#[inline]
+fn order_at_scale(left: Dec, right: Dec) -> Ordering
+    requires { left.scale ≡ right.scale }
+    ensures { result ≡ order left right }
+{
+    if let Some(one) = left.short_coefficient() {
+        if let Some(two) = right.short_coefficient() {
+            return one.cmp(&two);
+        }
+    }
+    raised_order(left.coefficient(), 0, right.coefficient())
+}
+
 impl Ord for Dec {
     ghost use Rattle.std.specs.Prelude.{refl};
     ghost use Rattle.decimal18.specs.Order.{order};
@@ -68,7 +79,10 @@ impl Ord for Dec {
     #[inline]
     fn cmp(&self, other: &Dec) -> Ordering {
         let (left, right) = (*self, *other);
-        if left.scale() <= right.scale() {
+        let (left_scale, right_scale) = (left.scale(), right.scale());
+        if left_scale == right_scale {
+            order_at_scale(left, right)
+        } else if left_scale < right_scale {
             order_of(left, right)
         } else {
             order_of(right, left).reverse()

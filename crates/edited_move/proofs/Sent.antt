@@ -1,5 +1,5 @@
 -- What senders give: the size of numbers, and when a number is wanted.
-use Rattle.std.proofs.Common.{◌≡◌, ◌<◌, ◌≤◌, ◌^◌, ℕ, Bool, true, false, not, ◌&&◌, ◌||◌, ℤ, nat_lt, if◌then◌else◌, unsigned_abs, List, length, Option, Some, None, refl, sym, ap, ◌∙◌, subst, arith}
+use Rattle.std.proofs.Common.{◌≡◌, ◌<◌, ◌≤◌, ◌^◌, ℕ, Bool, true, false, not, ◌&&◌, ◌||◌, ℤ, nat_lt, if◌then◌else◌, unsigned_abs, List, length, Option, Some, None, refl, subst, arith}
 use Rattle.std.proofs.lemmas.Bool.Decides.{nat_tests}
 use Rattle.std.proofs.lemmas.Bool.{leb-true}
 use Rattle.decimal18.specs.Fraction.{Fraction}
@@ -8,7 +8,6 @@ use Rattle.items.specs.declared.item.Item.{Item}
 use Rattle.items.specs.declared.item.Kind.{Kind}
 use Rattle.items.specs.declared.item.Kind.TheVariants as k
 use Rattle.items.specs.declared.taken.Taken.{Taken}
-use Rattle.items.specs.declared.taken.Taken.TheVariants as t
 use Rattle.items.specs.Numbers.{IsNumeric, length_of}
 use Rattle.items.specs.Items.{IsItem, IsOfLength, IsOf}
 use Rattle.items.specs.Values.{integer_in, is_held, held, value_of}

@@ -67,6 +67,7 @@ pub fn is_short(receiver: Item, taken: Taken) -> bool
 }
 
 /// The unsigned integer whose digits the characters are, if they are digits.
+#[inline(never)]
 fn characters_number(bytes: &[u8]) -> Option<Dec>
     requires some { 1 ≤ length bytes.now }
     requires most { length bytes.now ≤ 18 }
@@ -81,6 +82,7 @@ fn characters_number(bytes: &[u8]) -> Option<Dec>
 }
 
 /// The number of an item's bytes, where they hold one.
+#[inline]
 fn item_number(item: Item, bytes: &[u8]) -> Option<Dec>
     requires of { IsOf item bytes.now }
     requires short { spec.is_readable item.kind item.length ≡ true }
@@ -93,6 +95,7 @@ fn item_number(item: Item, bytes: &[u8]) -> Option<Dec>
 }
 
 /// The number that a sender is, where its bytes hold one.
+#[inline]
 pub fn sender_number(taken: Taken, from: &[u8]) -> Option<Dec>
     requires taken { IsTaken taken from.now }
     requires short { spec.is_number_sender taken ≡ true }

@@ -1,6 +1,6 @@
 //! Numbers in packed usage.
 
-ghost use Rattle.std.specs.Prelude.{◌≡◌, ◌+◌, ◌-◌, ◌*◌, ◌/◌, ◌%◌, ◌<◌, ◌≤◌, ◌^◌, length, slice_index, IfSome, if◌then◌else◌};
+ghost use Rattle.std.specs.Prelude.{◌≡◌, ◌+◌, ◌-◌, ◌*◌, ◌/◌, ◌%◌, ◌<◌, ◌≤◌, ◌^◌, ◌⊎◌, length, slice_index, IfSome, if◌then◌else◌};
 ghost use Rattle.decimal18.specs.Digits.{digits_behind};
 ghost use Rattle.decimal18.specs.Fraction as numbers;
 ghost use Rattle.items.specs.Display.{are_digits};
@@ -31,6 +31,29 @@ const PAIRS: [u8; COUNT] = [
     0x96, 0x97, 0x98, 0x99,
 ];
 
+/// Values of a byte.
+const BYTES: usize = 256;
+
+/// The number of the two digits in the halves of a byte, or 255 where they aren't digits.
+const NUMBERS: [u8; BYTES] = [
+    0, 1, 2, 3, 4, 5, 6, 7, 8, 9, 255, 255, 255, 255, 255, 255, 10, 11, 12, 13, 14, 15, 16, 17, 18,
+    19, 255, 255, 255, 255, 255, 255, 20, 21, 22, 23, 24, 25, 26, 27, 28, 29, 255, 255, 255, 255,
+    255, 255, 30, 31, 32, 33, 34, 35, 36, 37, 38, 39, 255, 255, 255, 255, 255, 255, 40, 41, 42, 43,
+    44, 45, 46, 47, 48, 49, 255, 255, 255, 255, 255, 255, 50, 51, 52, 53, 54, 55, 56, 57, 58, 59,
+    255, 255, 255, 255, 255, 255, 60, 61, 62, 63, 64, 65, 66, 67, 68, 69, 255, 255, 255, 255, 255,
+    255, 70, 71, 72, 73, 74, 75, 76, 77, 78, 79, 255, 255, 255, 255, 255, 255, 80, 81, 82, 83, 84,
+    85, 86, 87, 88, 89, 255, 255, 255, 255, 255, 255, 90, 91, 92, 93, 94, 95, 96, 97, 98, 99, 255,
+    255, 255, 255, 255, 255, 255, 255, 255, 255, 255, 255, 255, 255, 255, 255, 255, 255, 255, 255,
+    255, 255, 255, 255, 255, 255, 255, 255, 255, 255, 255, 255, 255, 255, 255, 255, 255, 255, 255,
+    255, 255, 255, 255, 255, 255, 255, 255, 255, 255, 255, 255, 255, 255, 255, 255, 255, 255, 255,
+    255, 255, 255, 255, 255, 255, 255, 255, 255, 255, 255, 255, 255, 255, 255, 255, 255, 255, 255,
+    255, 255, 255, 255, 255, 255, 255, 255, 255, 255, 255, 255, 255, 255, 255, 255, 255, 255, 255,
+    255, 255, 255, 255, 255, 255,
+];
+
+/// The greatest number of two digits.
+const MOST: u8 = 99;
+
 /// The half that tells the sign.
 fn sign_half(signed: bool, negative: bool) -> u8
     ensures value { result ≡ spec.sign_half signed negative }
@@ -43,6 +66,15 @@ fn sign_half(signed: bool, negative: bool) -> u8
     }
 }
 
+/// The number of a byte's two digits, or a greater one where its halves aren't digits.
+#[inline]
+fn pair(byte: u8) -> u8
+    ensures digits { result ≤ 99 → (byte / 16 ≤ 9) × (byte % 16 ≤ 9) × (result ≡ 10 * (byte / 16) + byte % 16) }
+    ensures none { 99 < result → (9 < byte / 16) ⊎ ((byte / 16 ≤ 9) × (9 < byte % 16)) }
+{
+    NUMBERS[byte as usize]
+}
+
 /// The number that the bytes are, two digits a byte, if their halves are digits.
 fn pairs(bytes: &[u8]) -> Option<u64>
     requires { length bytes.now ≤ 9 }
@@ -51,12 +83,11 @@ fn pairs(bytes: &[u8]) -> Option<u64>
 {
     let mut number = 0;
     for byte in bytes {
-        let high = *byte / HALF;
-        let low = *byte % HALF;
-        if high > 9 || low > 9 {
+        let pair = pair(*byte);
+        if pair > MOST {
             return None;
         }
-        number = 100 * number + u64::from(10 * high + low);
+        number = 100 * number + u64::from(pair);
     }
     Some(number)
 }

@@ -1,14 +1,13 @@
 -- The order of texts: by parts, beside as many of one character, beside a literal that is repeated, and padded.
-use Rattle.std.proofs.Common.{◌≡◌, ◌≢◌, ℕ, zero, suc, ◌+◌, ◌-◌, ◌<◌, ◌≤◌, List, [], ◌∷◌, ◌++◌, length, take, drop, replicate, max, refl, ap, sym, ◌∙◌, arith, inl, inr, ⊎_elim, length-append, length-drop, append_assoc, ◌⊎◌}
+use Rattle.std.proofs.Common.{◌≡◌, ◌≢◌, ℕ, zero, suc, ◌+◌, ◌-◌, ◌≤◌, List, [], ◌∷◌, ◌++◌, length, take, drop, replicate, max, refl, ap, sym, ◌∙◌, arith, inl, inr, ⊎_elim, length-append, length-drop, ◌⊎◌}
 use Rattle.std.specs.declared.cmp.Ordering.{Ordering}
 use Rattle.std.specs.declared.cmp.Ordering.TheVariants.{Less, Equal, Greater}
 use Rattle.std.specs.Ordering.{nat_cmp, ordering_then, ordering_reverse}
-use Rattle.std.specs.Cmp.{nat_cmp_is}
 use Rattle.std.specs.Cmp.Lexicographic.{slice_cmp}
 use Rattle.std.proofs.lemmas.Cmp.{nat_list_cmp_total}
 use Rattle.std.specs.List.{repeat}
 use Rattle.std.proofs.lemmas.List.{take-append-le, take-append-drop, append-nil, length-take-le, take_all, length-replicate}
-use Rattle.std.proofs.Math.Seq.{take-append_seam, take-append-add, take-length}
+use Rattle.std.proofs.Math.Seq.{take-append-add, take-length}
 use Rattle.items.specs.Texts.{padded, repeated}
 use Rattle.text_ops.specs.Compare.{order_of_texts}
 

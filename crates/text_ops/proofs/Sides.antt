@@ -1,5 +1,5 @@
 -- The two sides of a relation by their characters.
-use Rattle.std.proofs.Common.{◌≡◌, ◌&&◌, ℕ, Bool, true, false, List, length, Option, Some, None, refl, ap, sym, subst, ◌∙◌}
+use Rattle.std.proofs.Common.{◌≡◌, ◌&&◌, ℕ, Bool, true, false, List, Option, Some, None, refl, ap, sym, subst, ◌∙◌}
 use Rattle.std.specs.Option.{option_map}
 use Rattle.std.specs.declared.cmp.Ordering.{Ordering}
 use Rattle.std.specs.declared.cmp.Ordering.TheVariants.{Equal}
@@ -7,8 +7,6 @@ use Rattle.std.specs.Ordering.{ordering_reverse}
 use Rattle.items.specs.declared.item.Kind.{Kind}
 use Rattle.items.specs.declared.item.Kind.TheVariants as k
 use Rattle.items.specs.declared.item.Item.{Item}
-use Rattle.items.specs.declared.taken.Figurative.{Figurative}
-use Rattle.items.specs.declared.taken.Figurative.TheVariants as f
 use Rattle.items.specs.declared.taken.Taken.{Taken}
 use Rattle.items.specs.declared.taken.Taken.TheVariants as t
 use Rattle.items.specs.Texts.{characters, characters_in, plain_bytes}

@@ -1,4 +1,4 @@
-use Rattle.std.proofs.Common.{◌≡◌, ◌≤◌, ◌+◌, ◌-◌, ℕ, List, length, get_or, sym, ap, ◌∙◌, subst, refl, arith}
+use Rattle.std.proofs.Common.{◌≡◌, ◌≤◌, ◌+◌, ◌-◌, ℕ, length, get_or, sym, ◌∙◌, subst, refl, arith}
 use borrow.Rule.Slice.PartMut.{put_mid}
 use Rattle.picture.specs.declared.run.Run.{Run}
 use Rattle.picture.specs.declared.symbol.Symbol.TheVariants.{A}

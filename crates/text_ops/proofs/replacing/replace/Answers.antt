@@ -1,4 +1,4 @@
-use Rattle.std.proofs.Common.{◌≡◌, ℕ, length, sym, subst, List, ◌∙◌}
+use Rattle.std.proofs.Common.{length, sym, subst, List}
 use Rattle.text_ops.specs.declared.progress.Progress.{Progress}
 use Rattle.text_ops.specs.Walk.{AreActive}
 use Rattle.text_ops.proofs.Walks.{active_begun}

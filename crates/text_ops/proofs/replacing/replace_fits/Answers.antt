@@ -1,8 +1,7 @@
-use Rattle.std.proofs.Common.{◌≡◌, ℕ, ◌+◌, length, drop, refl, sym, ap, subst, List, ◌∙◌, arith, length-drop}
+use Rattle.std.proofs.Common.{◌≡◌, ℕ, ◌+◌, length, drop, refl, sym, ap, subst, List, ◌∙◌, arith}
 use Rattle.std.proofs.Math.ListN.{drop_of_length-le}
-use Rattle.text_ops.specs.declared.progress.Fitted.{Fitted}
 use Rattle.text_ops.specs.Entries.{fit_length}
-use Rattle.text_ops.specs.Walk.{walk, size_of}
+use Rattle.text_ops.specs.Walk.{walk}
 use Rattle.text_ops.specs.Inspect.{with_each, written, replacement}
 use Rattle.text_ops.proofs.Replacements.{written_rest}
 use Rattle.text_ops.proofs.Walks.{Goes, goes_from, past_fit, past_place, goes_out}

@@ -1,5 +1,5 @@
-use Rattle.std.proofs.Common.{◌≡◌, ℕ, ◌+◌, ◌<◌, length, drop, slice_index, sym, ap, List, ◌∙◌, arith, length-drop, length-set}
-use Rattle.text_ops.specs.Walk.{walk, size_of}
+use Rattle.std.proofs.Common.{ℕ, ◌+◌, ◌<◌, length, drop, slice_index, ap, arith, length-set}
+use Rattle.text_ops.specs.Walk.{walk}
 use Rattle.text_ops.specs.Inspect.{count_of}
 use Rattle.text_ops.proofs.Walks.{goes_from, past_fit, past_place, goes_out}
 use Rattle.text_ops.proofs.Counts.{small_more, counted_more}

@@ -1,4 +1,4 @@
-use Rattle.std.proofs.Common.{◌≡◌, ap, sym, ◌∙◌, arith, length}
+use Rattle.std.proofs.Common.{ap, sym, ◌∙◌, arith, length}
 use Rattle.text_ops.proofs.Orders.{front_decides, front_agrees, last_repeated, order}
 use Rattle.text_ops.proofs.text_order.order_beside_repeated.Goals as goal
 

@@ -1,4 +1,4 @@
-use Rattle.std.proofs.Common.{◌≡◌, ap, sym, ◌∙◌, replicate, length}
+use Rattle.std.proofs.Common.{ap, sym, ◌∙◌, replicate, length}
 use Rattle.std.specs.Ordering.{ordering_then, ordering_reverse}
 use Rattle.text_ops.proofs.Orders.{order, split_order, then_decided}
 use Rattle.text_ops.proofs.text_order.order_padded.Goals as goal
