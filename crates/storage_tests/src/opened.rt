@@ -220,6 +220,19 @@ impl Volume {
         }
     }
 
+    /// The byte that a page is filled with, where its bytes stand in memory.
+    pub fn seen(&self, page: u32) -> Option<u8> {
+        match self.pages.view(page) {
+            Some(bytes) => Some(alike(bytes)),
+            None => None,
+        }
+    }
+
+    /// Notes that a page was used, if it is in the cache.
+    pub fn note_use(&mut self, page: u32) {
+        self.pages.note_use(page);
+    }
+
     /// The pages 1 to 4.
     pub fn first_pages(&mut self, rt: &impl Abort) -> [Option<u8>; 4] {
         [

@@ -64,6 +64,34 @@ fn no_page_as_it_was_before_an_edit(rt: HostRuntime) {
     }
 }
 
+// A page is seen once it was read or changed, as it is now, and the device isn't asked.
+#[test]
+fn pages_are_seen_in_memory(rt: HostRuntime) {
+    let mut volume = three_pages(&rt, rt.alloc(), 2);
+    same(&rt, volume.seen(1), None);
+    same(&rt, volume.has(&rt, 1), Some(1));
+    let before = volume.counts();
+    same(&rt, volume.seen(1), Some(1));
+    same(&rt, volume.seen(2), None);
+    works(&rt, volume.edit(&rt, 2, 22));
+    same(&rt, volume.seen(2), Some(22));
+    works(&rt, volume.release(&rt, 1));
+    same(&rt, volume.seen(1), None);
+    same(&rt, volume.counts(), before);
+}
+
+// Of two pages in the cache the one whose use was noted stays.
+#[test]
+fn a_noted_page_stays(rt: HostRuntime) {
+    let mut volume = three_pages(&rt, rt.alloc(), 2);
+    same(&rt, reads_of(&rt, &mut volume, &[1, 2, 2, 2, 2]), 2);
+    same(&rt, volume.seen(1), Some(1));
+    volume.note_use(1);
+    same(&rt, volume.has(&rt, 3), Some(3));
+    same(&rt, volume.seen(1), Some(1));
+    same(&rt, volume.seen(2), None);
+}
+
 // A read that failed leaves the cache as it was: page 1 is still there, page 2 isn't.
 #[test]
 fn a_failed_read_keeps_the_cache(rt: HostRuntime) {
