@@ -118,18 +118,14 @@ fn read_just_before(rt: HostRuntime) {
         relative(Access::Sequential),
         indexed(Access::Sequential),
     ] {
+        let second = if shape.has_keys() { b"02" } else { b"00" };
         let mut run = Run::one(&rt, rt.alloc(), said(shape));
         run.passes(
             &rt,
             &[
                 plain(OPEN_OUTPUT, b"00"),
                 told(WRITE, b"A1ax.", 0, b"00"),
-                told(
-                    WRITE,
-                    b"A2bx.",
-                    0,
-                    if shape.has_keys() { b"02" } else { b"00" },
-                ),
+                told(WRITE, b"A2bx.", 0, second),
                 told(REWRITE, b"A2bx.", 0, b"49"),
                 plain(CLOSE, b"00"),
                 plain(OPEN_I_O, b"00"),
