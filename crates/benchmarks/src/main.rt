@@ -2,6 +2,7 @@
 #![tactic(auto)]
 
 mod decimals;
+mod halves;
 mod moves;
 mod plain_decimals;
 mod replaced_decimals;
@@ -29,12 +30,13 @@ fn main(rt: HostRuntime) -> io::Result<()> {
             "releases" => volumes::measure_releases(&rt)?,
             "texts" => texts::measure(&rt)?,
             "trees" => trees::measure(&rt)?,
+            "halves" => halves::measure(&rt)?,
             other => println!(rt; "there is no measurement {other}")?,
         }
     }
     if !named {
         println!(rt;
-            "measurements: sources, memory, decimals, values, moves, texts, volumes, releases, trees"
+            "measurements: sources, memory, decimals, values, moves, texts, volumes, releases, trees, halves"
         )?;
     }
     Ok(())

@@ -1,14 +1,16 @@
 //! Moves beside what they are made of: of numbers beside reading and storing, of characters beside copying; and editing beside
 //! storing as many digits.
 
-ghost use Rattle.std.specs.Prelude.{◌≡◌, ◌<◌, ◌^◌, length, false, IfSome, unsigned_abs};
+ghost use Rattle.std.specs.Prelude.{◌≡◌, ◌<◌, ◌^◌, length, true, false, IfSome, unsigned_abs};
 ghost use Rattle.decimal18.specs.Fraction.{is_negative};
-ghost use Rattle.items.specs.Items.{IsOf};
+ghost use Rattle.items.specs.Numbers.{IsNumeric, length_of};
+ghost use Rattle.items.specs.Items.{IsItem, IsOf, IsTaken};
+ghost use Rattle.edited_move.specs.Moves.{IsPlainKind, is_short};
 ghost use Rattle.items.specs.declared.item.Kind.TheVariants.{Alphanumeric};
 
 use decimal18::Dec;
 use edited_move::{edit, move_into};
-use items::{Item, Kind, Numeric, OperationalSign, Taken, Usage, number, store};
+use items::{Item, Kind, Numeric, OperationalSign, Taken, Usage, number, numbers_are_held, store};
 use picture::Picture;
 use std::alloc::AllocError;
 use std::io;
@@ -30,6 +32,12 @@ const NUMBER: Numeric = Numeric {
     digits: 9,
     scale: 2,
     usage: Usage::Display(OperationalSign::Trailing),
+};
+
+const UNSIGNED: Numeric = Numeric {
+    digits: 9,
+    scale: 2,
+    usage: Usage::Display(OperationalSign::Unsigned),
 };
 
 const ITEM: Item = Item {
@@ -63,16 +71,64 @@ fn written(n: u32) -> Dec
     Dec::new(i128::from(123_456_789 - n % COUNT), 2)
 }
 
-fn is_moved(from: &[u8; NINE], to: &mut [u8; NINE]) -> bool {
-    move_into(Taken::Item(ITEM), from, ITEM, to).is_ok()
+/// A move of which nothing is known before it runs: what is moved to what stands in memory, as in a program's tables.
+#[inline(never)]
+fn is_moved(taken: &Taken, from: &[u8], receiver: &Item, to: &mut [u8]) -> bool
+    requires taken { IsTaken taken.now from.now }
+    requires receiver { IsItem receiver.now }
+    requires plain { IsPlainKind receiver.now.kind }
+    requires short { is_short receiver.now taken.now ≡ true }
+    requires length { length to.old ≡ receiver.now.length }
+{
+    move_into(*taken, from, *receiver, to).is_ok()
+}
+
+/// The least that moves characters: a match on what both sides are, and a copy of a slice.
+#[inline(never)]
+fn is_copied(taken: &Taken, from: &[u8], receiver: &Item, to: &mut [u8]) -> bool
+    requires { length from.now ≡ length to.old }
+{
+    match (*taken, receiver.kind) {
+        (
+            Taken::Item(
+                Item {
+                    kind: Kind::Alphanumeric { .. },
+                    ..
+                },
+            ),
+            Kind::Alphanumeric { .. },
+        ) => {
+            to.copy_from_slice(from);
+            true
+        }
+        _ => false,
+    }
+}
+
+/// Reads a number and stores it, by an item of which nothing is known before.
+#[inline(never)]
+fn is_stored(item: &Numeric, from: &[u8], to: &mut [u8]) -> bool
+    requires item { IsNumeric item.now }
+    requires from { length from.now ≡ length_of item.now }
+    requires to { length to.old ≡ length_of item.now }
+{
+    numbers_are_held();
+    match number(*item, from) {
+        Some(x) => {
+            store(*item, x, to);
+            true
+        }
+        None => false,
+    }
 }
 
 fn moved_numbers() -> u64 {
     let texts = numbers();
+    let taken = Taken::Item(ITEM);
     let mut to = [b'0'; NINE];
     let mut sum = 0u64;
     for n in 0..COUNT {
-        let is_moved = is_moved(&texts[n as usize % TEXTS], &mut to);
+        let is_moved = is_moved(&taken, &texts[n as usize % TEXTS], &ITEM, &mut to);
         sum = sum.wrapping_add(u64::from(is_moved));
     }
     sum.wrapping_add(u64::from(to[NINE - 1]))
@@ -94,6 +150,19 @@ fn stored_numbers() -> u64 {
         store(NUMBER, written(n), &mut to);
     }
     u64::from(to[NINE - 1])
+}
+
+/// Numbers read and stored one after the other, and at last one of another usage.
+fn read_and_stored() -> u64 {
+    let texts = numbers();
+    let mut to = [b'0'; NINE];
+    let mut sum = 0u64;
+    for n in 0..COUNT {
+        let is_stored = is_stored(&NUMBER, &texts[n as usize % TEXTS], &mut to);
+        sum = sum.wrapping_add(u64::from(is_stored));
+    }
+    let is_stored = is_stored(&UNSIGNED, &texts[0], &mut to);
+    sum.wrapping_add(u64::from(is_stored))
 }
 
 fn edited_numbers(picture: &Picture) -> u64 {
@@ -136,12 +205,30 @@ fn moved_texts(from: &[u8], to: &mut [u8]) -> u64 {
     let (Some(sender), Some(receiver)) = (word(from), word(to)) else {
         return 0;
     };
+    let taken = Taken::Item(sender);
     let mut sum = 0u64;
     for _ in 0..COUNT {
-        let is_moved = move_into(Taken::Item(sender), from, receiver, to).is_ok();
+        let is_moved = is_moved(&taken, from, &receiver, to);
         sum = sum.wrapping_add(u64::from(is_moved));
     }
     sum
+}
+
+/// The same by the least that does it, and at last to another kind.
+fn matched_texts(from: &[u8], to: &mut [u8]) -> u64
+    requires { length from.now ≡ length to.old }
+{
+    let (Some(sender), Some(receiver)) = (word(from), word(to)) else {
+        return 0;
+    };
+    let taken = Taken::Item(sender);
+    let mut sum = 0u64;
+    for _ in 0..COUNT {
+        let is_copied = is_copied(&taken, from, &receiver, to);
+        sum = sum.wrapping_add(u64::from(is_copied));
+    }
+    let is_copied = is_copied(&taken, from, &ITEM, to);
+    sum.wrapping_add(u64::from(is_copied))
 }
 
 /// What is measured.
@@ -149,9 +236,11 @@ fn moved_texts(from: &[u8], to: &mut [u8]) -> u64 {
 enum Measurement {
     Number,
     Store,
+    ReadAndStore,
     Move,
     Edit,
     CopyText,
+    MatchText,
     MoveText,
 }
 
@@ -174,13 +263,18 @@ impl Operands {
         match measurement {
             Measurement::Number => read_numbers(),
             Measurement::Store => stored_numbers(),
+            Measurement::ReadAndStore => read_and_stored(),
             Measurement::Move => moved_numbers(),
             Measurement::Edit => edited_numbers(&self.picture),
             Measurement::CopyText if self.from.len() == self.to.len() => copied_texts(
                 &self.from,
                 &mut self.to,
             ),
-            Measurement::CopyText => 0,
+            Measurement::MatchText if self.from.len() == self.to.len() => matched_texts(
+                &self.from,
+                &mut self.to,
+            ),
+            Measurement::CopyText | Measurement::MatchText => 0,
             Measurement::MoveText => moved_texts(&self.from, &mut self.to),
         }
     }
@@ -212,9 +306,12 @@ fn measure_texts(rt: &HostRuntime, size: usize) -> io::Result<()> {
     };
     let mut operands = Operands::new(rt, picture, size)?;
     let copy = operands.nanoseconds(rt, Measurement::CopyText)?;
+    let matched = operands.nanoseconds(rt, Measurement::MatchText)?;
     let time = operands.nanoseconds(rt, Measurement::MoveText)?;
     println!(rt; "{size} bytes")?;
-    print(rt, "move of characters beside a copy", time, copy)
+    print(rt, "match on the kinds beside a copy", matched, copy)?;
+    print(rt, "move of characters beside a copy", time, copy)?;
+    print(rt, "move of characters beside a match", time, matched)
 }
 
 /// Moves and editing, in picoseconds a call.
@@ -225,6 +322,7 @@ pub fn measure(rt: &HostRuntime) -> io::Result<()> {
     let mut operands = Operands::new(rt, picture, 1)?;
     let read = operands.nanoseconds(rt, Measurement::Number)?;
     let stored = operands.nanoseconds(rt, Measurement::Store)?;
+    let both = operands.nanoseconds(rt, Measurement::ReadAndStore)?;
     let moved = operands.nanoseconds(rt, Measurement::Move)?;
     let edited = operands.nanoseconds(rt, Measurement::Edit)?;
     print(rt, "number beside store, 9 digits", read, stored)?;
@@ -234,6 +332,7 @@ pub fn measure(rt: &HostRuntime) -> io::Result<()> {
         moved,
         read.saturating_add(stored),
     )?;
+    print(rt, "move beside a number that is then stored", moved, both)?;
     print(
         rt,
         "edit of 12 places beside store, 9 digits",

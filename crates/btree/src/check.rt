@@ -1,7 +1,7 @@
 //! The walk that tells whether the pages under a root are a tree.
 ghost use Rattle.std.specs.Prelude.{true, false, ◌≡◌, ◌≢◌, ◌≤◌, ◌<◌, ◌+◌, ◌^◌, ◌↔◌, Err, ℕ, List, [], ◌∷◌, length, map, slice_index_or, IsTrue, IfOk, IfErr, OnOk, MatchOption, IfSome};
 ghost use Rattle.std.specs.List.{All};
-ghost use Rattle.station.specs.Failures.{Blames};
+ghost use Rattle.station.specs.Calls.{OnlyReads};
 ghost use Rattle.pages.specs.Pages.{map_now, is_spent, sectors_of, Agrees, IsOpen};
 ghost use Rattle.tree_pages.specs.Form.{IsForm};
 ghost use Rattle.tree_pages.specs.Keys.{keys_of, Ascend, AllBelow};
@@ -54,11 +54,7 @@ fn check_part<D: Device>(
     requires open { IsOpen pages.old }
     requires sectors { sectors_of pages.old ≤ D.sectors device.old }
     requires form { IsForm form }
-    ensures honest { D.is_honest device.old ↔ D.is_honest device.new }
-    ensures sectors { D.sectors device.new ≡ D.sectors device.old }
-    ensures failures { Blames (result ≡ Err PagesError.Device) (D.failures device.old) (D.failures device.new) }
-    ensures state { D.is_honest device.old → D.state device.new ≡ D.state device.old }
-    ensures history { D.is_honest device.old → D.history device.new ≡ D.history device.old }
+    ensures only { OnlyReads D.Device (result ≡ Err PagesError.Device) device.old device.new }
     ensures untouched { Untouched pages.old pages.new }
     ensures agrees { D.is_honest device.old → Agrees pages.old (D.state device.old).disk → Agrees pages.new (D.state device.new).disk }
     ensures open { IsOpen pages.new }
@@ -99,11 +95,7 @@ fn check_inner<D: Device>(
     requires open { IsOpen pages.old }
     requires sectors { sectors_of pages.old ≤ D.sectors device.old }
     requires form { IsForm form }
-    ensures honest { D.is_honest device.old ↔ D.is_honest device.new }
-    ensures sectors { D.sectors device.new ≡ D.sectors device.old }
-    ensures failures { Blames (result ≡ Err PagesError.Device) (D.failures device.old) (D.failures device.new) }
-    ensures state { D.is_honest device.old → D.state device.new ≡ D.state device.old }
-    ensures history { D.is_honest device.old → D.history device.new ≡ D.history device.old }
+    ensures only { OnlyReads D.Device (result ≡ Err PagesError.Device) device.old device.new }
     ensures untouched { Untouched pages.old pages.new }
     ensures agrees { D.is_honest device.old → Agrees pages.old (D.state device.old).disk → Agrees pages.new (D.state device.new).disk }
     ensures open { IsOpen pages.new }
@@ -161,11 +153,7 @@ fn check_leaves<D: Device>(
     requires open { IsOpen pages.old }
     requires sectors { sectors_of pages.old ≤ D.sectors device.old }
     requires form { IsForm form }
-    ensures honest { D.is_honest device.old ↔ D.is_honest device.new }
-    ensures sectors { D.sectors device.new ≡ D.sectors device.old }
-    ensures failures { Blames (result ≡ Err PagesError.Device) (D.failures device.old) (D.failures device.new) }
-    ensures state { D.is_honest device.old → D.state device.new ≡ D.state device.old }
-    ensures history { D.is_honest device.old → D.history device.new ≡ D.history device.old }
+    ensures only { OnlyReads D.Device (result ≡ Err PagesError.Device) device.old device.new }
     ensures untouched { Untouched pages.old pages.new }
     ensures agrees { D.is_honest device.old → Agrees pages.old (D.state device.old).disk → Agrees pages.new (D.state device.new).disk }
     ensures open { IsOpen pages.new }
@@ -200,11 +188,7 @@ fn check_level<D: Device>(
     requires sectors { sectors_of pages.old ≤ D.sectors device.old }
     requires form { IsForm form }
     requires some { 0 < length names.now }
-    ensures honest { D.is_honest device.old ↔ D.is_honest device.new }
-    ensures sectors { D.sectors device.new ≡ D.sectors device.old }
-    ensures failures { Blames (result ≡ Err PagesError.Device) (D.failures device.old) (D.failures device.new) }
-    ensures state { D.is_honest device.old → D.state device.new ≡ D.state device.old }
-    ensures history { D.is_honest device.old → D.history device.new ≡ D.history device.old }
+    ensures only { OnlyReads D.Device (result ≡ Err PagesError.Device) device.old device.new }
     ensures untouched { Untouched pages.old pages.new }
     ensures agrees { D.is_honest device.old → Agrees pages.old (D.state device.old).disk → Agrees pages.new (D.state device.new).disk }
     ensures open { IsOpen pages.new }
@@ -247,11 +231,7 @@ fn check_levels<D: Device>(
     requires sectors { sectors_of pages.old ≤ D.sectors device.old }
     requires form { IsForm form }
     requires some { 0 < length names.items }
-    ensures honest { D.is_honest device.old ↔ D.is_honest device.new }
-    ensures sectors { D.sectors device.new ≡ D.sectors device.old }
-    ensures failures { Blames (result ≡ Err PagesError.Device) (D.failures device.old) (D.failures device.new) }
-    ensures state { D.is_honest device.old → D.state device.new ≡ D.state device.old }
-    ensures history { D.is_honest device.old → D.history device.new ≡ D.history device.old }
+    ensures only { OnlyReads D.Device (result ≡ Err PagesError.Device) device.old device.new }
     ensures untouched { Untouched pages.old pages.new }
     ensures agrees { D.is_honest device.old → Agrees pages.old (D.state device.old).disk → Agrees pages.new (D.state device.new).disk }
     ensures open { IsOpen pages.new }
@@ -286,11 +266,7 @@ impl Tree {
     ) -> Result<(), PagesError>
         requires open { IsOpen pages.old }
         requires sectors { sectors_of pages.old ≤ D.sectors device.old }
-        ensures honest { D.is_honest device.old ↔ D.is_honest device.new }
-        ensures sectors { D.sectors device.new ≡ D.sectors device.old }
-        ensures failures { Blames (result ≡ Err PagesError.Device) (D.failures device.old) (D.failures device.new) }
-        ensures state { D.is_honest device.old → D.state device.new ≡ D.state device.old }
-        ensures history { D.is_honest device.old → D.history device.new ≡ D.history device.old }
+        ensures only { OnlyReads D.Device (result ≡ Err PagesError.Device) device.old device.new }
         ensures untouched { Untouched pages.old pages.new }
         ensures agrees { D.is_honest device.old → Agrees pages.old (D.state device.old).disk → Agrees pages.new (D.state device.new).disk }
         ensures open { IsOpen pages.new }

@@ -2,7 +2,7 @@
 ghost use Rattle.std.specs.Prelude.{◌≡◌, ◌≢◌, ◌≤◌, ◌<◌, ◌++◌, ◌↔◌, Err, true, ℕ, List, [], length, map, IfOk, IfErr, OnOk, OnErr};
 ghost use Rattle.std.specs.List.{All};
 ghost use Rattle.station.specs.Disk.{Sector};
-ghost use Rattle.station.specs.Failures.{Blames};
+ghost use Rattle.station.specs.Calls.{OnlyReads};
 ghost use Rattle.pages.specs.Pages.{is_spent, sectors_of, catalog_of, page_count, filled_of, Agrees, IsOpen, SameCommitted};
 ghost use Rattle.tree_pages.specs.Form.{IsForm};
 ghost use Rattle.tree_pages.specs.Keys.{child_of};
@@ -71,11 +71,7 @@ fn children_of<D: Device>(
     requires open { IsOpen pages.old }
     requires sectors { sectors_of pages.old ≤ D.sectors device.old }
     requires form { IsForm form }
-    ensures honest { D.is_honest device.old ↔ D.is_honest device.new }
-    ensures sectors { D.sectors device.new ≡ D.sectors device.old }
-    ensures failures { Blames (result ≡ Err PagesError.Device) (D.failures device.old) (D.failures device.new) }
-    ensures state { D.is_honest device.old → D.state device.new ≡ D.state device.old }
-    ensures history { D.is_honest device.old → D.history device.new ≡ D.history device.old }
+    ensures only { OnlyReads D.Device (result ≡ Err PagesError.Device) device.old device.new }
     ensures untouched { Untouched pages.old pages.new }
     ensures agrees { D.is_honest device.old → Agrees pages.old (D.state device.old).disk → Agrees pages.new (D.state device.new).disk }
     ensures open { IsOpen pages.new }
@@ -117,11 +113,7 @@ fn below<D: Device>(
     requires sectors { sectors_of pages.old ≤ D.sectors device.old }
     requires form { IsForm form }
     requires some { 0 < length numbers.now }
-    ensures honest { D.is_honest device.old ↔ D.is_honest device.new }
-    ensures sectors { D.sectors device.new ≡ D.sectors device.old }
-    ensures failures { Blames (result ≡ Err PagesError.Device) (D.failures device.old) (D.failures device.new) }
-    ensures state { D.is_honest device.old → D.state device.new ≡ D.state device.old }
-    ensures history { D.is_honest device.old → D.history device.new ≡ D.history device.old }
+    ensures only { OnlyReads D.Device (result ≡ Err PagesError.Device) device.old device.new }
     ensures untouched { Untouched pages.old pages.new }
     ensures agrees { D.is_honest device.old → Agrees pages.old (D.state device.old).disk → Agrees pages.new (D.state device.new).disk }
     ensures open { IsOpen pages.new }
@@ -153,11 +145,7 @@ fn clear_levels<D: Device>(
     requires open { IsOpen pages.old }
     requires sectors { sectors_of pages.old ≤ D.sectors device.old }
     requires form { IsForm form }
-    ensures honest { D.is_honest device.old ↔ D.is_honest device.new }
-    ensures sectors { D.sectors device.new ≡ D.sectors device.old }
-    ensures failures { Blames (result ≡ Err PagesError.Device) (D.failures device.old) (D.failures device.new) }
-    ensures state { D.is_honest device.old → D.state device.new ≡ D.state device.old }
-    ensures history { D.is_honest device.old → D.history device.new ≡ D.history device.old }
+    ensures only { OnlyReads D.Device (result ≡ Err PagesError.Device) device.old device.new }
     ensures cleared { D.is_honest device.old → Agrees pages.old (D.state device.old).disk → (levels : List (List Part)) →
         IsSmall (pages_of_map pages.old (D.state device.old).disk.present) → IsDown form (pages_of_map pages.old (D.state device.old).disk.present) numbers.items levels →
         OnOk result (Moves (pages_of_map pages.old (D.state device.old).disk.present) (pages_of levels) (pages_of_map pages.new (D.state device.old).disk.present) []) }
@@ -196,11 +184,7 @@ impl Tree {
     ) -> Result<(), PagesError>
         requires open { IsOpen pages.old }
         requires sectors { sectors_of pages.old ≤ D.sectors device.old }
-        ensures honest { D.is_honest device.old ↔ D.is_honest device.new }
-        ensures sectors { D.sectors device.new ≡ D.sectors device.old }
-        ensures failures { Blames (result ≡ Err PagesError.Device) (D.failures device.old) (D.failures device.new) }
-        ensures state { D.is_honest device.old → D.state device.new ≡ D.state device.old }
-        ensures history { D.is_honest device.old → D.history device.new ≡ D.history device.old }
+        ensures only { OnlyReads D.Device (result ≡ Err PagesError.Device) device.old device.new }
 
         // Each page of the tree leaves the map, and the others stay as they are.
         ensures cleared { D.is_honest device.old → Agrees pages.old (D.state device.old).disk → (levels : List (List Part)) →

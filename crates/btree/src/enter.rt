@@ -1,7 +1,7 @@
 //! A new row comes into a tree.
 ghost use Rattle.std.specs.Prelude.{true, ◌≡◌, ◌≤◌, ◌<◌, ◌+◌, ◌*◌, ◌↔◌, Err, Some, List, length, IfOk, IfErr, IfSome};
 ghost use Rattle.station.specs.Disk.{Sector};
-ghost use Rattle.station.specs.Failures.{Blames};
+ghost use Rattle.station.specs.Calls.{OnlyReads};
 ghost use Rattle.pages.specs.Pages.{IsOpen, Agrees, SameCommitted, HasEachPage, is_spent, catalog_of, sectors_of, touched_of, filled_of};
 ghost use Rattle.tree_pages.specs.Form.{IsForm};
 ghost use Rattle.btree.specs.Tree.{Part, IsTree};
@@ -70,11 +70,7 @@ pub(crate) fn enter<D: Device>(
     requires place { place ≤ length descent.leaf.rows }
     requires key { length key.now ≡ form.key_length }
     requires value { length value.now ≡ form.value_length }
-    ensures honest { D.is_honest device.old ↔ D.is_honest device.new }
-    ensures sectors { D.sectors device.new ≡ D.sectors device.old }
-    ensures failures { Blames (result ≡ Err PagesError.Device) (D.failures device.old) (D.failures device.new) }
-    ensures state { D.is_honest device.old → D.state device.new ≡ D.state device.old }
-    ensures history { D.is_honest device.old → D.history device.new ≡ D.history device.old }
+    ensures only { OnlyReads D.Device (result ≡ Err PagesError.Device) device.old device.new }
     ensures entered { D.is_honest device.old → Agrees pages.old (D.state device.old).disk → IfOk result (λ new.
         Enters form root (pages_of_map pages.old (D.state device.old).disk.present) (pages_of_map pages.new (D.state device.old).disk.present) descent.path.items descent.page descent.leaf.rows descent.right
         place key.now value.now new) }

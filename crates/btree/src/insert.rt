@@ -1,6 +1,6 @@
 //! A new entry.
 ghost use Rattle.std.specs.Prelude.{◌≡◌, ◌≤◌, ◌<◌, ◌+◌, ◌↔◌, Err, Ok, Some, None, List, length, true, false, IsSome, IfOk, IfErr, OnErr};
-ghost use Rattle.station.specs.Failures.{Blames};
+ghost use Rattle.station.specs.Calls.{OnlyReads};
 ghost use Rattle.pages.specs.Pages.{IsOpen, Agrees, SameCommitted, HasEachPage, is_spent, committed_of, catalog_of, sectors_of, touched_of, filled_of};
 ghost use Rattle.pages.specs.Use.{free_count};
 ghost use Rattle.tree_pages.specs.Form.{IsForm};
@@ -35,11 +35,7 @@ fn insert_entry<D: Device>(
     requires form { IsForm form }
     requires key { length key.now ≡ form.key_length }
     requires value { length value.now ≡ form.value_length }
-    ensures honest { D.is_honest device.old ↔ D.is_honest device.new }
-    ensures sectors { D.sectors device.new ≡ D.sectors device.old }
-    ensures failures { Blames (result ≡ Err PagesError.Device) (D.failures device.old) (D.failures device.new) }
-    ensures state { D.is_honest device.old → D.state device.new ≡ D.state device.old }
-    ensures history { D.is_honest device.old → D.history device.new ≡ D.history device.old }
+    ensures only { OnlyReads D.Device (result ≡ Err PagesError.Device) device.old device.new }
     ensures inserted { D.is_honest device.old → Agrees pages.old (D.state device.old).disk → (levels : List (List Part)) →
         Holds form (pages_of_map pages.old (D.state device.old).disk.present) root levels →
         IfOk result (Inserts form (pages_of_map pages.old (D.state device.old).disk.present) levels (pages_of_map pages.new (D.state device.old).disk.present) key.now value.now) }
@@ -96,11 +92,7 @@ impl Tree {
         requires sectors { sectors_of pages.old ≤ D.sectors device.old }
         requires key { length key.now ≡ self.old.form.key_length }
         requires value { length value.now ≡ self.old.form.value_length }
-        ensures honest { D.is_honest device.old ↔ D.is_honest device.new }
-        ensures sectors { D.sectors device.new ≡ D.sectors device.old }
-        ensures failures { Blames (result ≡ Err PagesError.Device) (D.failures device.old) (D.failures device.new) }
-        ensures state { D.is_honest device.old → D.state device.new ≡ D.state device.old }
-        ensures history { D.is_honest device.old → D.history device.new ≡ D.history device.old }
+        ensures only { OnlyReads D.Device (result ≡ Err PagesError.Device) device.old device.new }
 
         // The list of entries has the new one at its place, and the pages around the tree stay.
         ensures inserted { D.is_honest device.old → Agrees pages.old (D.state device.old).disk → (levels : List (List Part)) →

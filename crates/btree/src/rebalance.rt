@@ -2,7 +2,7 @@
 ghost use Rattle.std.specs.Prelude.{true, ◌≡◌, ◌≢◌, ◌≤◌, ◌<◌, ◌+◌, ◌++◌, ◌↔◌, Err, Some, ℕ, List, [], ◌∷◌, length, map, take, drop, slice_index_or, IfSome, IfOk, IfErr, OnOk};
 ghost use Rattle.byteorder.specs.Endian.{big_bytes};
 ghost use Rattle.station.specs.Disk.{Sector};
-ghost use Rattle.station.specs.Failures.{Blames};
+ghost use Rattle.station.specs.Calls.{OnlyReads};
 ghost use Rattle.pages.specs.Pages.{map_now, is_spent, IsOpen, IsPage, Agrees, SameCommitted, catalog_of, sectors_of, touched_of, filled_of};
 ghost use Rattle.tree_pages.specs.Form.{IsForm, capacity};
 ghost use Rattle.tree_pages.specs.Keys.{rest_of};
@@ -218,11 +218,7 @@ fn neighbour<D: Device>(
     requires open { IsOpen pages.old }
     requires sectors { sectors_of pages.old ≤ D.sectors device.old }
     requires form { IsForm form }
-    ensures honest { D.is_honest device.old ↔ D.is_honest device.new }
-    ensures sectors { D.sectors device.new ≡ D.sectors device.old }
-    ensures failures { Blames (result ≡ Err PagesError.Device) (D.failures device.old) (D.failures device.new) }
-    ensures state { D.is_honest device.old → D.state device.new ≡ D.state device.old }
-    ensures history { D.is_honest device.old → D.history device.new ≡ D.history device.old }
+    ensures only { OnlyReads D.Device (result ≡ Err PagesError.Device) device.old device.new }
     ensures untouched { Untouched pages.old pages.new }
     ensures agrees { D.is_honest device.old → Agrees pages.old (D.state device.old).disk → Agrees pages.new (D.state device.new).disk }
     ensures catalog { catalog_of pages.new ≡ catalog_of pages.old }
@@ -257,11 +253,7 @@ pub(crate) fn rebalance_at<D: Device>(
     requires form { IsForm form }
     requires node { node.form ≡ form }
     requires lone { (lone.node.form ≡ form) × (lone.node.kind ≡ Kind.Inner) × (length lone.node.rows ≡ 1) }
-    ensures honest { D.is_honest device.old ↔ D.is_honest device.new }
-    ensures sectors { D.sectors device.new ≡ D.sectors device.old }
-    ensures failures { Blames (result ≡ Err PagesError.Device) (D.failures device.old) (D.failures device.new) }
-    ensures state { D.is_honest device.old → D.state device.new ≡ D.state device.old }
-    ensures history { D.is_honest device.old → D.history device.new ≡ D.history device.old }
+    ensures only { OnlyReads D.Device (result ≡ Err PagesError.Device) device.old device.new }
     ensures rebalances { D.is_honest device.old → Agrees pages.old (D.state device.old).disk → IfOk result (λ fate. (left right : Part) →
         CanStand (pages_of_map pages.old (D.state device.old).disk.present) turn.page node →
         IsPair form (pages_of_map pages.old (D.state device.old).disk.present) turn.page node.rows turn.place lone.page left right →

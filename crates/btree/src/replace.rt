@@ -1,7 +1,7 @@
 //! Another value for an entry.
 ghost use Rattle.std.specs.Prelude.{◌≡◌, ◌≢◌, ◌≤◌, ◌<◌, ◌+◌, ◌++◌, ◌↔◌, Err, Ok, true, false, None, List, [], ◌∷◌, length, slice_index_or, slice_set, IsSome, IfErr, OnOk};
 ghost use Rattle.station.specs.Disk.{Sector};
-ghost use Rattle.station.specs.Failures.{Blames};
+ghost use Rattle.station.specs.Calls.{OnlyReads};
 ghost use Rattle.pages.specs.Pages.{IsOpen, Agrees, SameCommitted, is_spent, catalog_of, sectors_of, touched_of, filled_of};
 ghost use Rattle.tree_pages.specs.Form.{rest_length};
 ghost use Rattle.tree_pages.specs.Keys.{key_of};
@@ -66,11 +66,7 @@ impl Tree {
         requires open { IsOpen pages.old }
         requires sectors { sectors_of pages.old ≤ D.sectors device.old }
         requires value { length value.now ≡ self.old.form.value_length }
-        ensures honest { D.is_honest device.old ↔ D.is_honest device.new }
-        ensures sectors { D.sectors device.new ≡ D.sectors device.old }
-        ensures failures { Blames (result ≡ Err PagesError.Device) (D.failures device.old) (D.failures device.new) }
-        ensures state { D.is_honest device.old → D.state device.new ≡ D.state device.old }
-        ensures history { D.is_honest device.old → D.history device.new ≡ D.history device.old }
+        ensures only { OnlyReads D.Device (result ≡ Err PagesError.Device) device.old device.new }
 
         // The entry of the key has the new value, and the pages around the tree stay.
         ensures replaced { D.is_honest device.old → Agrees pages.old (D.state device.old).disk → (levels : List (List Part)) →

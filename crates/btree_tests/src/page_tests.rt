@@ -3,7 +3,24 @@ use crate::asserted::{
     child, form_of, has_bytes, has_row, insert, insert_child, layout, leaf_of, new_page, read_page,
     same, same_in,
 };
-use tree_pages::Kind;
+use std::process::Abort;
+use tree_pages::{Kind, NodeView, TreeForm};
+
+// The page that these bytes are, seen where they stand.
+fn seen<'a>(rt: &impl Abort, bytes: &'a [u8; 4096], form: TreeForm) -> NodeView<'a> {
+    assert!(rt; form.is_possible());
+    match NodeView::read(bytes, form) {
+        Some(page) => page,
+        None => panic!(rt; "it is a page"),
+    }
+}
+
+// Asserts that the row at this place has this key and this rest.
+fn is_seen(rt: &impl Abort, page: &NodeView, place: usize, key: &[u8], rest: &[u8]) {
+    assert!(rt; place < page.count());
+    assert!(rt; page.key(place) == key, "{place}");
+    assert!(rt; page.rest(place) == rest, "{place}");
+}
 
 // Three rows that come in mixed order of places.
 #[test]
@@ -86,4 +103,28 @@ fn bytes_that_are_a_page(rt: HostRuntime) {
         let told = read.map(|page| page.count());
         same_in(&rt, &(form, kind, count), told, rows);
     }
+}
+
+#[test]
+fn a_leaf_where_it_stands(rt: HostRuntime) {
+    let bytes = layout(1, 3, b"aa111bb222cc333");
+    let page = seen(&rt, &bytes, form_of(2, 3));
+    same(&rt, (page.count(), page.kind()), (3, Kind::Leaf));
+    same(&rt, page.form(), form_of(2, 3));
+    is_seen(&rt, &page, 0, b"aa", b"111");
+    is_seen(&rt, &page, 2, b"cc", b"333");
+    same(&rt, (page.find(b"bb"), page.find(b"bc")), (Ok(1), Err(2)));
+    same(&rt, page.is_ascending(), true);
+    has_bytes(&rt, &page.to_page(), 1, 3, b"aa111bb222cc333");
+}
+
+#[test]
+fn an_inner_page_where_it_stands(rt: HostRuntime) {
+    let bytes = layout(2, 2, b"mm\x01\x02\x03\x04aa\x00\x00\x00\x07");
+    let page = seen(&rt, &bytes, form_of(2, 3));
+    same(&rt, (page.count(), page.kind()), (2, Kind::Inner));
+    assert!(rt; page.kind() == Kind::Inner);
+    assert!(rt; 2 <= page.count());
+    same(&rt, (page.child(0), page.child(1)), (0x0102_0304, 7));
+    same(&rt, page.is_ascending(), false);
 }

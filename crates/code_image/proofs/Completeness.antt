@@ -1,18 +1,10 @@
 -- What bytes spell is read from them.
-use Rattle.std.proofs.Common.{◌≡◌, ℕ, eqb, cond, List, [], ◌++◌, length, Result, Ok, Err, sym, ap, subst, ◌∙◌, append_assoc}
-use Rattle.std.specs.Prelude.{IfOk}
-use Rattle.std.proofs.lemmas.Bool.{eqb-true}
-use Rattle.std.proofs.lemmas.List.{append-nil, nil_from_length}
-use Rattle.answers.specs.Answer.{Gives}
+use Rattle.std.proofs.Common.{◌≡◌, ℕ, List, [], ◌++◌, Ok, sym, ap, ◌∙◌, append_assoc}
+use Rattle.std.proofs.lemmas.List.{append-nil}
 use Rattle.code_image.specs.declared.code.Code.{Code}
-use Rattle.code_image.specs.declared.instruction.Instruction.{Instruction}
-use Rattle.code_image.specs.declared.fault.ImageFault.{ImageFault}
-use Rattle.code_image.specs.declared.fault.ImageFault.TheVariants as faults
-use Rattle.code_image.specs.declared.fault.ImageError.{ImageError}
-use Rattle.code_image.specs.Faults.{fault_of}
-use Rattle.code_image.specs.Spelling.{mark, no_tables, table_bytes, count_bytes, literal_bytes, instruction_bytes, spelling, IsCount, HasNumbers, HasSpelling}
-use Rattle.code_image.specs.Reading.{◌>>=◌, after_mark, after_none_twice, table_at, count_at, literal_at, instruction_at, code_at}
-use Rattle.code_image.proofs.Forms.{IsBytes, bind_ok, bind_is, guard_passed, Takes, takes_then, IsForm, AreSpelled, table_form, count_form, literal_form, instruction_form, mark_takes, mark_again, none_twice_takes, none_twice_again}
+use Rattle.code_image.specs.Spelling.{no_tables, table_bytes, count_bytes, literal_bytes, instruction_bytes, spelling, HasSpelling}
+use Rattle.code_image.specs.Reading.{after_mark, after_none_twice, table_at, count_at, literal_at, instruction_at, code_at}
+use Rattle.code_image.proofs.Forms.{bind_is, mark_again, none_twice_again}
 use Rattle.code_image.proofs.Images.{end_from, instructions_from, starts_from, files_from, literals_from, tables_from, literal_table, start_table, instruction_table}
 
 regroup : (a b c d e : List ℕ) → a ++ b ++ c ++ d ++ e ≡ a ++ (b ++ (c ++ (d ++ e)))

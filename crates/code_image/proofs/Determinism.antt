@@ -1,15 +1,15 @@
 -- A run ends in one way, and what was told stays told.
 use Rattle.std.proofs.Common.{◌≡◌, ℕ, zero, suc, ◌+◌, ◌≤◌, List, Option, Some, None, sym, ◌∙◌, ⊎_elim, arith}
-use Rattle.std.specs.Prelude.{slice_get}
+use Rattle.std.specs.Prelude.{slice_get, slice_index, slice_set}
 use Rattle.std.proofs.lemmas.Bool.{cases_lt}
 use Rattle.source_tree.specs.State.{State, showing}
 use Rattle.source_tree.specs.Given.{Given}
 use Rattle.source_tree.specs.Meaning.{Run}
 use Rattle.code_image.specs.declared.code.Code.{Code}
 use Rattle.code_image.specs.declared.instruction.Instruction.{Instruction}
-use Rattle.code_image.specs.declared.instruction.Instruction.TheVariants.{Tick, Show, Stop}
+use Rattle.code_image.specs.declared.instruction.Instruction.TheVariants.{Tick, Show, Stop, Count, Turn}
 use Rattle.code_image.specs.Points.{Point, first_point}
-use Rattle.code_image.specs.Table.{Next, onward, tick_from, show_from, act, exec_code, Runs}
+use Rattle.code_image.specs.Table.{Next, onward, tick_from, show_from, turn_from, act, exec_code, Runs}
 
 -- where f is over, g is over with the same run
 abbrev Extends : Next → Next → Type 0
@@ -24,11 +24,18 @@ module _ (f g : Next) (h : Extends f g) where
   show_extends None p s run e = e
   show_extends (Some bytes) p s run e = h (record p { address = p.address + 1; state = showing bytes s }) run e
 
+  turn_extends : (left counter to : ℕ) (p : Point) (run : Run) → turn_from left counter to f p ≡ Some run → turn_from left counter to g p ≡ Some run
+  turn_extends zero counter to p run e = h (record p { address = p.address + 1 }) run e
+  turn_extends (suc n) counter to p run e = h (record p { address = to; own = record { counters = slice_set p.own.counters counter n } }) run e
+
   act_extends : (code : Code) (i : Option Instruction) (p : Point) (run : Run) → act code i f p ≡ Some run → act code i g p ≡ Some run
   act_extends code None p run e = e
   act_extends code (Some (Tick line)) p run e = tick_extends p.state.budget line p p.state run e
   act_extends code (Some (Show literal)) p run e = show_extends (slice_get code.literals literal.number) p p.state run e
   act_extends code (Some Stop) p run e = e
+  act_extends code (Some (Count counter turns)) p run e =
+      h (record p { address = p.address + 1; own = record { counters = slice_set p.own.counters counter.number turns } }) run e
+  act_extends code (Some (Turn counter to)) p run e = turn_extends (slice_index p.own.counters counter.number) counter.number to p run e
 
 longer : (code : Code) (m n : ℕ) → m ≤ n → Extends (exec_code code m) (exec_code code n)
 longer code zero n le p run e = cc
@@ -48,4 +55,4 @@ same_end code m n p run other r q =
     (cases_lt m n)
 
 pub one_run : (code : Code) (given : Given) (run other : Run) → Runs code given run → Runs code given other → run ≡ other
-one_run code given run other r q = same_end code r.0 q.0 (first_point given) run other r.1 q.1
+one_run code given run other r q = same_end code r.0 q.0 (first_point code given) run other r.1 q.1

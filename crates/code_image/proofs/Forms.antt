@@ -13,9 +13,9 @@ use Rattle.byteorder.specs.Numbers.{big_from-take, big_from-lt, big_number-reads
 use Rattle.code_image.specs.declared.fault.ImageFault.{ImageFault}
 use Rattle.code_image.specs.declared.fault.ImageFault.TheVariants as faults
 use Rattle.code_image.specs.declared.instruction.Instruction.{Instruction}
-use Rattle.code_image.specs.declared.instruction.Instruction.TheVariants.{Tick, Show, Stop}
+use Rattle.code_image.specs.declared.instruction.Instruction.TheVariants.{Tick, Show, Stop, Count, Turn}
 use Rattle.code_image.specs.Spelling.{count_bytes, line_bytes, mark, table_bytes, no_tables, literal_bytes, instruction_bytes, IsCount, HasNumbers}
-use Rattle.code_image.specs.Reading.{Read, ◌>>=◌, number_at, count_at, line_at, after_mark, after_none, after_none_twice, entries_at, table_at, literal_at, tick_at, show_at, instruction_at}
+use Rattle.code_image.specs.Reading.{Read, ◌>>=◌, number_at, count_at, line_at, after_mark, after_none, after_none_twice, entries_at, table_at, literal_at, tick_at, show_at, stop_at, count_instruction_at, turn_at, instruction_at}
 
 abbrev pub IsBytes : List ℕ → Type 0
 IsBytes bytes = (i : ℕ) → get_or bytes i 0 < 256
@@ -262,17 +262,52 @@ show_takes bytes one rest fits e =
     let b = bind_ok (count_at bytes) (λ literal. Ok (Show (record { number = literal.0 }), literal.1)) (one, rest) e in
     subst (λ (p : Instruction × List ℕ). Reads 2 bytes p.0 p.1) (ok_is (Show (record { number = b.0.0 }), b.0.1) (one, rest) b.2) (takes_kind 2 bytes (count_bytes b.0.0) b.0.1 (count_form.takes bytes b.0.0 b.0.1 fits b.1), count_form.sound bytes b.0.0 b.0.1 fits b.1)
 
-abbrev stop_at : List ℕ → Read Instruction
-stop_at bytes = Ok (Stop, bytes)
-
 stop_takes : (bytes : List ℕ) (one : Instruction) (rest : List ℕ) → IsBytes bytes → stop_at bytes ≡ Ok (one, rest) → Reads 3 bytes one rest
 stop_takes bytes one rest fits e =
     subst (λ (p : Instruction × List ℕ). Reads 3 bytes p.0 p.1) (ok_is (Stop, bytes) (one, rest) e) (record { parts = refl; rest_fits = fits }, tt)
+
+-- two numbers, one after the other
+pair_takes : (bytes : List ℕ) (first second : ℕ × List ℕ) → IsBytes bytes → count_at bytes ≡ Ok first → count_at first.1 ≡ Ok second
+    → Takes bytes (count_bytes first.0 ++ count_bytes second.0) second.1 × IsCount first.0 × IsCount second.0
+pair_takes bytes first second fits a b =
+    let t = count_form.takes bytes first.0 first.1 fits a in (
+      takes_then bytes (count_bytes first.0) first.1 (count_bytes second.0) second.1 t (count_form.takes first.1 second.0 second.1 t.rest_fits b),
+      count_form.sound bytes first.0 first.1 fits a,
+      count_form.sound first.1 second.0 second.1 t.rest_fits b,
+    )
+
+abbrev count_from : ℕ × List ℕ → Read Instruction
+count_from counter = count_at counter.1 >>= λ turns. Ok (Count (record { number = counter.0 }) turns.0, turns.1)
+
+abbrev turn_to : ℕ × List ℕ → Read Instruction
+turn_to counter = count_at counter.1 >>= λ to. Ok (Turn (record { number = counter.0 }) to.0, to.1)
+
+count_takes : (bytes : List ℕ) (one : Instruction) (rest : List ℕ) → IsBytes bytes → count_instruction_at bytes ≡ Ok (one, rest) → Reads 4 bytes one rest
+count_takes bytes one rest fits e =
+    let a = bind_ok (count_at bytes) count_from (one, rest) e in
+    let b = bind_ok (count_at a.0.1) (λ turns. Ok (Count (record { number = a.0.0 }) turns.0, turns.1)) (one, rest) a.2 in
+    let pair = pair_takes bytes a.0 b.0 fits a.1 b.1 in
+    subst (λ (p : Instruction × List ℕ). Reads 4 bytes p.0 p.1) (ok_is (Count (record { number = a.0.0 }) b.0.0, b.0.1) (one, rest) b.2)
+    (takes_kind 4 bytes (count_bytes a.0.0 ++ count_bytes b.0.0) b.0.1 pair.0, (pair.1, pair.2))
+
+turn_takes : (bytes : List ℕ) (one : Instruction) (rest : List ℕ) → IsBytes bytes → turn_at bytes ≡ Ok (one, rest) → Reads 5 bytes one rest
+turn_takes bytes one rest fits e =
+    let a = bind_ok (count_at bytes) turn_to (one, rest) e in
+    let b = bind_ok (count_at a.0.1) (λ to. Ok (Turn (record { number = a.0.0 }) to.0, to.1)) (one, rest) a.2 in
+    let pair = pair_takes bytes a.0 b.0 fits a.1 b.1 in
+    subst (λ (p : Instruction × List ℕ). Reads 5 bytes p.0 p.1) (ok_is (Turn (record { number = a.0.0 }) b.0.0, b.0.1) (one, rest) b.2)
+    (takes_kind 5 bytes (count_bytes a.0.0 ++ count_bytes b.0.0) b.0.1 pair.0, (pair.1, pair.2))
 
 -- the way that a test went
 pub chosen : {A : Type 0} (b : Bool) (x y z : A) → cond b x y ≡ z → ((b ≡ true) × (x ≡ z)) ⊎ ((b ≡ false) × (y ≡ z))
 chosen true x y z e = inl (refl, e)
 chosen false x y z e = inr (refl, e)
+
+abbrev not_read : (A : Type 0) → ImageFault → Result A ImageFault
+not_read A d = Err d
+
+failed : {A : Type 0} (d : ImageFault) (x : A) → not_read A d ≡ Ok x → ⊥
+failed d x e = cc
 
 kind_is : (k kind : ℕ) (bytes : List ℕ) (one : Instruction) (rest : List ℕ) → eqb kind k ≡ true → Reads k bytes one rest → Reads kind bytes one rest
 kind_is k kind bytes one rest e r = subst (λ (n : ℕ). Reads n bytes one rest) (sym (eqb-true kind k e)) r
@@ -284,9 +319,16 @@ kind_takes kind bytes one rest fits e =
       | inl p ↦ kind_is 1 kind bytes one rest p.0 (tick_takes bytes one rest fits p.1)
       | inr q ↦ elim (chosen (eqb kind 2) _ _ _ q.1) [
         | inl p ↦ kind_is 2 kind bytes one rest p.0 (show_takes bytes one rest fits p.1)
-        | inr r ↦
-            let g = guard_passed (eqb kind 3) faults.Value (Stop, bytes) (one, rest) r.1 in
-            kind_is 3 kind bytes one rest g.0 (stop_takes bytes one rest fits (ap (λ (p : Instruction × List ℕ). Ok p) g.1))
+        | inr r ↦ elim (chosen (eqb kind 3) _ _ _ r.1) [
+          | inl p ↦ kind_is 3 kind bytes one rest p.0 (stop_takes bytes one rest fits p.1)
+          | inr t ↦ elim (chosen (eqb kind 4) _ _ _ t.1) [
+            | inl p ↦ kind_is 4 kind bytes one rest p.0 (count_takes bytes one rest fits p.1)
+            | inr u ↦ elim (chosen (eqb kind 5) _ _ _ u.1) [
+              | inl p ↦ kind_is 5 kind bytes one rest p.0 (turn_takes bytes one rest fits p.1)
+              | inr none ↦ absurd (failed faults.Value (one, rest) none.1)
+            ]
+          ]
+        ]
       ]
     ]
 
@@ -300,6 +342,14 @@ unfolding instruction_at
 instruction_again (Tick line) rest fits = bind_is (line_at (line_bytes line ++ rest)) (λ line. Ok (Tick line.0, line.1)) (line, rest) (line_form.again line rest fits)
 instruction_again (Show literal) rest fits = bind_is (count_at (count_bytes literal.number ++ rest)) (λ literal. Ok (Show (record { number = literal.0 }), literal.1)) (literal.number, rest) (count_form.again literal.number rest fits)
 instruction_again Stop rest fits = refl
+instruction_again (Count counter turns) rest fits =
+    ap count_instruction_at (append_assoc (count_bytes counter.number) (count_bytes turns) rest)
+    ∙ bind_is (count_at (count_bytes counter.number ++ (count_bytes turns ++ rest))) count_from (counter.number, count_bytes turns ++ rest) (count_form.again counter.number (count_bytes turns ++ rest) fits.0)
+    ∙ bind_is (count_at (count_bytes turns ++ rest)) (λ turns. Ok (Count (record { number = counter.number }) turns.0, turns.1)) (turns, rest) (count_form.again turns rest fits.1)
+instruction_again (Turn counter to) rest fits =
+    ap turn_at (append_assoc (count_bytes counter.number) (count_bytes to) rest)
+    ∙ bind_is (count_at (count_bytes counter.number ++ (count_bytes to ++ rest))) turn_to (counter.number, count_bytes to ++ rest) (count_form.again counter.number (count_bytes to ++ rest) fits.0)
+    ∙ bind_is (count_at (count_bytes to ++ rest)) (λ to. Ok (Turn (record { number = counter.number }) to.0, to.1)) (to, rest) (count_form.again to rest fits.1)
 
 pub instruction_form : IsForm instruction_at instruction_bytes HasNumbers
 instruction_form = record {

@@ -4,7 +4,7 @@ use Rattle.std.specs.List.{starts_with}
 use Rattle.byteorder.specs.Endian.{big_number}
 use Rattle.code_image.specs.declared.code.Code.{Code}
 use Rattle.code_image.specs.declared.instruction.Instruction.{Instruction}
-use Rattle.code_image.specs.declared.instruction.Instruction.TheVariants.{Tick, Show, Stop}
+use Rattle.code_image.specs.declared.instruction.Instruction.TheVariants.{Tick, Show, Stop, Count, Turn}
 use Rattle.code_image.specs.declared.fault.ImageFault.{ImageFault}
 use Rattle.code_image.specs.declared.fault.ImageFault.TheVariants as faults
 use Rattle.code_image.specs.Spelling.{mark}
@@ -71,10 +71,30 @@ show_at bytes = do
   literal ← count_at bytes
   Ok (Show (record { number = literal.0 }), literal.1)
 
+abbrev pub stop_at : List ℕ → Read Instruction
+stop_at bytes = Ok (Stop, bytes)
+
+abbrev pub count_instruction_at : List ℕ → Read Instruction
+count_instruction_at bytes = do
+  counter ← count_at bytes
+  turns ← count_at counter.1
+  Ok (Count (record { number = counter.0 }) turns.0, turns.1)
+
+abbrev pub turn_at : List ℕ → Read Instruction
+turn_at bytes = do
+  counter ← count_at bytes
+  to ← count_at counter.1
+  Ok (Turn (record { number = counter.0 }) to.0, to.1)
+
 unfoldable pub instruction_at : List ℕ → Read Instruction
 instruction_at [] = Err faults.Length
 instruction_at (kind ∷ bytes) =
-    if kind == 1 then tick_at bytes else if kind == 2 then show_at bytes else if kind == 3 then Ok (Stop, bytes) else Err faults.Value
+    if kind == 1 then tick_at bytes
+    else if kind == 2 then show_at bytes
+    else if kind == 3 then stop_at bytes
+    else if kind == 4 then count_instruction_at bytes
+    else if kind == 5 then turn_at bytes
+    else Err faults.Value
 
 -- all of the bytes
 unfoldable pub code_at : List ℕ → Result Code ImageFault

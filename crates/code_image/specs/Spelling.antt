@@ -4,7 +4,7 @@ use Rattle.std.specs.List.{flat_map, AllByRecursion}
 use Rattle.byteorder.specs.Endian.{big_bytes}
 use Rattle.code_image.specs.declared.code.Code.{Code}
 use Rattle.code_image.specs.declared.instruction.Instruction.{Instruction}
-use Rattle.code_image.specs.declared.instruction.Instruction.TheVariants.{Tick, Show, Stop}
+use Rattle.code_image.specs.declared.instruction.Instruction.TheVariants.{Tick, Show, Stop, Count, Turn}
 
 -- a count, an address or an index: eight bytes, the highest first
 unfoldable pub count_bytes : ℕ → List ℕ
@@ -34,6 +34,8 @@ abbrev pub instruction_bytes : Instruction → List ℕ
 instruction_bytes (Tick line) = 1 ∷ line_bytes line
 instruction_bytes (Show literal) = 2 ∷ count_bytes literal.number
 instruction_bytes Stop = 3 ∷ []
+instruction_bytes (Count counter turns) = 4 ∷ (count_bytes counter.number ++ count_bytes turns)
+instruction_bytes (Turn counter to) = 5 ∷ (count_bytes counter.number ++ count_bytes to)
 
 -- The mark; the tables of areas, items, literals, pictures and files, of which only literals have entries yet; the starts
 -- of code paragraphs; the instructions.
@@ -49,6 +51,8 @@ abbrev pub HasNumbers : Instruction → Type 0
 HasNumbers (Tick line) = line < 2 ^ 32
 HasNumbers (Show literal) = IsCount literal.number
 HasNumbers Stop = Unit {0}
+HasNumbers (Count counter turns) = IsCount counter.number × IsCount turns
+HasNumbers (Turn counter to) = IsCount counter.number × IsCount to
 
 -- Each number of the code fits its bytes. This is so of each `Code` that a program holds.
 pub record HasSpelling (code : Code) : Type 0 where

@@ -1,10 +1,11 @@
 //! The machine's instructions.
 
 ghost use Rattle.std.specs.Prelude.{◌≡◌, ◌↔◌, ◌++◌, OnOk, IsTrue};
-ghost use Rattle.code_image.specs.Demands.{NamesLiteral};
+ghost use Rattle.code_image.specs.Demands.{NamesLiteral, NamesCounter};
 ghost use Rattle.code_image.specs.Spelling.{instruction_bytes, HasNumbers};
 ghost use Rattle.code_image.specs.Reading.{instruction_at};
 
+use crate::counter::CounterIndex;
 use crate::fault::{ImageError, ImageFault};
 use crate::literal::LiteralIndex;
 use crate::number::{put_count, put_line, read_count, read_line};
@@ -21,6 +22,10 @@ pub enum Instruction {
     Show { literal: LiteralIndex },
     /// Ends the run as Stopped.
     Stop,
+    /// Sets a counter to this.
+    Count { counter: CounterIndex, turns: u64 },
+    /// Where a counter is above 0, lowers it by one and goes to the address; else goes on.
+    Turn { counter: CounterIndex, to: usize },
 }
 
 impl Instruction {
@@ -30,7 +35,22 @@ impl Instruction {
     {
         match self {
             Instruction::Show { literal } => literal.number < count,
-            Instruction::Tick { .. } | Instruction::Stop => true,
+            Instruction::Tick { .. }
+            | Instruction::Stop
+            | Instruction::Count { .. }
+            | Instruction::Turn { .. } => true,
+        }
+    }
+
+    /// A counter that it names is one of so many.
+    pub(crate) fn names_counter(self, count: usize) -> bool
+        ensures { IsTrue result ↔ NamesCounter count self }
+    {
+        match self {
+            Instruction::Count { counter, .. } | Instruction::Turn { counter, .. } => {
+                counter.number < count
+            }
+            Instruction::Tick { .. } | Instruction::Show { .. } | Instruction::Stop => true,
         }
     }
 }
@@ -41,6 +61,10 @@ const TICK: u8 = 1;
 const SHOW: u8 = 2;
 
 const STOP: u8 = 3;
+
+const COUNT: u8 = 4;
+
+const TURN: u8 = 5;
 
 impl TableEntry for Instruction {
     ghost spelled = { instruction_bytes };
@@ -63,6 +87,16 @@ impl TableEntry for Instruction {
                 out.push(STOP)?;
                 Ok(())
             }
+            Instruction::Count { counter, turns } => {
+                out.push(COUNT)?;
+                put_count(out, counter.number)?;
+                put_count(out, turns as usize)
+            }
+            Instruction::Turn { counter, to } => {
+                out.push(TURN)?;
+                put_count(out, counter.number)?;
+                put_count(out, to)
+            }
         }
     }
 
@@ -80,6 +114,19 @@ impl TableEntry for Instruction {
                 Ok((Instruction::Show { literal }, rest))
             }
             [STOP, rest @ ..] => Ok((Instruction::Stop, rest)),
+            [COUNT, rest @ ..] => {
+                let (number, rest) = read_count(rest)?;
+                let (turns, rest) = read_count(rest)?;
+                let counter = CounterIndex { number };
+                let turns = turns as u64;
+                Ok((Instruction::Count { counter, turns }, rest))
+            }
+            [TURN, rest @ ..] => {
+                let (number, rest) = read_count(rest)?;
+                let (to, rest) = read_count(rest)?;
+                let counter = CounterIndex { number };
+                Ok((Instruction::Turn { counter, to }, rest))
+            }
             [_, ..] => Err(ImageError::Refused(ImageFault::Value)),
         }
     }

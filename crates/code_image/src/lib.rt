@@ -3,6 +3,7 @@
 #![tactic(auto)]
 
 mod code;
+mod counter;
 mod fault;
 mod instruction;
 mod laws;
@@ -14,6 +15,7 @@ mod verified;
 mod writing;
 
 pub use code::Code;
+pub use counter::CounterIndex;
 pub use fault::{ImageError, ImageFault};
 pub use instruction::Instruction;
 pub use laws::{run_law, spelling_law};

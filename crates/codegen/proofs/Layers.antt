@@ -1,18 +1,31 @@
 -- The code of a statement, by that of the statements in it.
-use Rattle.std.proofs.Common.{◌≡◌, List, [], ◌∷◌, refl, ap, ◌∙◌}
-use Rattle.std.specs.Prelude.{map}
+use Rattle.std.proofs.Common.{◌≡◌, ℕ, zero, suc, List, [], ◌∷◌, refl, ap, ◌∙◌}
+use Rattle.std.specs.Prelude.{length, map}
 use Rattle.lexical.specs.declared.place.Place.{Place}
 use Rattle.source_tree.specs.declared.performing.Performed.{Performed}
 use Rattle.source_tree.specs.declared.performing.Performed.TheVariants.{Statements}
 use Rattle.source_tree.specs.declared.performing.Turns.{Turns}
-use Rattle.source_tree.specs.declared.performing.Turns.TheVariants.{Once}
+use Rattle.source_tree.specs.declared.performing.Turns.TheVariants.{Once, Times}
 use Rattle.source_tree.specs.declared.statement.Verb.{Verb}
 use Rattle.source_tree.specs.declared.statement.Verb.TheVariants as verb
 use Rattle.source_tree.specs.declared.statement.Statement.{Statement, out-Statement, roll-Statement}
 use Rattle.source_tree.specs.declared.statement.Statement.TheOpen.{Statement-F}
 use Rattle.source_tree.specs.declared.statement.Statement.TheFolds.{map-Statement, fold_out-Statement, fold-roll-Statement}
 use Rattle.code_image.specs.declared.code.Code.{Code}
-use Rattle.codegen.specs.Layout.{Piece, joined, in_order, tick_piece, verb_piece, statement_layer, statement_piece}
+use Rattle.source_tree.specs.Performing.{turns_of}
+use Rattle.codegen.specs.Layout.{Piece, joined, in_order, tick_piece, loop_begin, loop_end, times_piece, turns_piece, verb_piece, statement_layer, statement_piece}
+
+-- turns of pieces that are the same
+module _ (line : ℕ) (body other : Piece) (same : (before : Code) → body before ≡ other before) where
+  times_map : (count : ℕ) (before : Code) → times_piece line count body before ≡ times_piece line count other before
+  times_map zero before = refl
+  times_map (suc more) before =
+      let begin = loop_begin line more before in
+      ap (λ (part : Code). joined begin (joined part (loop_end (length before.instructions)))) (same (joined before begin))
+
+  turns_map : (often : Turns) (before : Code) → turns_piece line often body before ≡ turns_piece line often other before
+  turns_map Once before = same before
+  turns_map (Times count) before = times_map (turns_of count) before
 
 module _ {A B : Type 0} (f : A → B) (g : B → Piece) where
   in_order_map : (all : List A) (before : Code) → in_order g (map f all) before ≡ in_order (λ a. g (f a)) all before
@@ -22,7 +35,9 @@ module _ {A B : Type 0} (f : A → B) (g : B → Piece) where
   performing_map : (place : Place) (often : Turns) (what : Performed A) (before : Code)
       → verb_piece g place.line (map-Statement A B f (record { place = place; verb = verb.Performing (record { performed = what; turns = often }) })).verb before
       ≡ verb_piece (λ a. g (f a)) place.line (verb.Performing (record { performed = what; turns = often })) before
-  performing_map place Once (Statements inside) before = ap (joined (tick_piece place.line before)) (in_order_map inside (joined before (tick_piece place.line before)))
+  performing_map place often (Statements inside) before =
+      ap (joined (tick_piece place.line before))
+      (turns_map place.line (in_order g (map f inside)) (in_order (λ a. g (f a)) inside) (in_order_map inside) often (joined before (tick_piece place.line before)))
 
   pub verb_map : (place : Place) (one : Verb A) (before : Code)
       → verb_piece g place.line (map-Statement A B f (record { place = place; verb = one })).verb before ≡ verb_piece (λ a. g (f a)) place.line one before

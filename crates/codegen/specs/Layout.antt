@@ -1,5 +1,5 @@
 -- The layout of a program's code (own choice).
-use Rattle.std.specs.Prelude.{ℕ, List, [], ◌∷◌, ◌++◌, length}
+use Rattle.std.specs.Prelude.{ℕ, zero, suc, ◌+◌, List, [], ◌∷◌, ◌++◌, length}
 use Rattle.source_tree.specs.declared.text.Text.{Text}
 use Rattle.source_tree.specs.declared.text.Text.TheVariants as text
 use Rattle.source_tree.specs.declared.ending.Ending.{Ending}
@@ -7,7 +7,7 @@ use Rattle.source_tree.specs.declared.ending.Ending.TheVariants as ending
 use Rattle.source_tree.specs.declared.performing.Performed.{Performed}
 use Rattle.source_tree.specs.declared.performing.Performed.TheVariants.{Statements}
 use Rattle.source_tree.specs.declared.performing.Turns.{Turns}
-use Rattle.source_tree.specs.declared.performing.Turns.TheVariants.{Once}
+use Rattle.source_tree.specs.declared.performing.Turns.TheVariants.{Once, Times}
 use Rattle.source_tree.specs.declared.performing.Performing.{Performing}
 use Rattle.source_tree.specs.declared.statement.Verb.{Verb}
 use Rattle.source_tree.specs.declared.statement.Verb.TheVariants as verb
@@ -19,8 +19,9 @@ use Rattle.source_tree.specs.declared.program.Paragraph.{Paragraph}
 use Rattle.source_tree.specs.declared.program.Section.{Section}
 use Rattle.source_tree.specs.declared.program.Program.{Program}
 use Rattle.source_tree.specs.Display.{shown_display}
+use Rattle.source_tree.specs.Performing.{turns_of}
 use Rattle.code_image.specs.declared.code.Code.{Code}
-use Rattle.code_image.specs.declared.instruction.Instruction.TheVariants.{Tick, Show, Stop}
+use Rattle.code_image.specs.declared.instruction.Instruction.TheVariants.{Tick, Show, Stop, Count, Turn}
 
 -- What a part of a program adds to the code that stands before it.
 abbrev pub Piece : Type 0
@@ -59,17 +60,37 @@ abbrev pub ending_piece : ℕ → Ending → Piece
 ending_piece line ending.StopRun = stop_run_piece line
 ending_piece line ending.Continue = tick_piece line
 
+-- A loop begins: it counts, at its own address, the turns after the first, and each turn uses one of the budget.
+abbrev pub loop_begin : ℕ → ℕ → Piece
+loop_begin line more before = record {
+  literals = [];
+  starts = [];
+  instructions = Count (record { number = length before.instructions }) more ∷ Tick line ∷ [];
+}
+
+-- the end of a turn of the loop that begins at this address
+abbrev pub loop_end : ℕ → Code
+loop_end begin = record { literals = []; starts = []; instructions = Turn (record { number = begin }) (begin + 1) ∷ [] }
+
+-- so many turns
+abbrev pub times_piece : ℕ → ℕ → Piece → Piece
+times_piece line zero body before = nothing
+times_piece line (suc more) body before =
+    let begin = loop_begin line more before in joined begin (joined (body (joined before begin)) (loop_end (length before.instructions)))
+
+-- how often, as the phrase of a PERFORM at this line says
+abbrev pub turns_piece : ℕ → Turns → Piece → Piece
+turns_piece line Once body = body
+turns_piece line (Times count) body = times_piece line (turns_of count) body
+
 -- Statements that hold statements; `inside` is the code of those.
 module _ {S : Type 0} (inside : S → Piece) where
   abbrev pub performed_piece : Performed S → Piece
   performed_piece (Statements statements) = in_order inside statements
 
-  abbrev pub turns_piece : Turns → Piece → Piece
-  turns_piece Once body = body
-
   abbrev pub performing_piece : ℕ → Performing S → Piece
   performing_piece line one before =
-      joined (tick_piece line before) (turns_piece one.turns (performed_piece one.performed) (joined before (tick_piece line before)))
+      joined (tick_piece line before) (turns_piece line one.turns (performed_piece one.performed) (joined before (tick_piece line before)))
 
   -- a statement at this line, by its family
   abbrev pub verb_piece : ℕ → Verb S → Piece

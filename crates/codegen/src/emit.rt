@@ -1,14 +1,15 @@
 //! The code of each part of a program, added to the code that stands before it.
 
-ghost use Rattle.std.specs.Prelude.{◌≡◌, OnOk};
+ghost use Rattle.std.specs.Prelude.{◌≡◌, ◌+◌, length, OnOk, IfOk};
 ghost use Rattle.source_tree.specs.Display.{shown_display};
-ghost use Rattle.codegen.specs.Layout.{joined, display_piece, text_piece, stop_run_piece, tick_piece, performing_piece, statement_piece, sentence_piece, start_piece, paragraph_piece, section_piece, in_order, end_piece};
+ghost use Rattle.source_tree.specs.Performing.{turns_of};
+ghost use Rattle.codegen.specs.Layout.{joined, display_piece, text_piece, stop_run_piece, tick_piece, loop_begin, loop_end, times_piece, turns_piece, performing_piece, statement_piece, sentence_piece, start_piece, paragraph_piece, section_piece, in_order, end_piece};
 
 use crate::display::display_bytes;
-use code_image::{Code, Instruction, LiteralIndex};
+use code_image::{Code, CounterIndex, Instruction, LiteralIndex};
 use source_tree::{
-    Ending, Literal, Paragraph, Performed, Performing, Section, Sentence, Statement, Text, Turns,
-    Verb,
+    Ending, Integer, Literal, Paragraph, Performed, Performing, Section, Sentence, Statement, Text,
+    Turns, Verb,
 };
 use std::alloc::{AllocError, Global};
 
@@ -56,6 +57,45 @@ fn emit_tick(code: &mut Code, line: u32) -> Result<(), AllocError>
     Ok(())
 }
 
+/// How many turns an integer before TIMES says.
+fn count_of(integer: &Integer) -> u64
+    ensures { result ≡ turns_of integer.now }
+{
+    let mut count = 0u64;
+    for digit in integer.digits.as_slice() {
+        count = count
+            .saturating_mul(10)
+            .saturating_add(u64::from(digit.saturating_sub(b'0')));
+    }
+    count
+}
+
+/// Answers the address at which each turn begins.
+fn emit_loop_begin(code: &mut Code, line: u32, more: u64) -> Result<usize, AllocError>
+    ensures code { OnOk result (code.new ≡ joined code.old (loop_begin line more code.old)) }
+    ensures turn { IfOk result (λ turn. turn ≡ length code.old.instructions + 1) }
+{
+    let number = code.instructions.len();
+    code.instructions.push(Instruction::Count {
+        counter: CounterIndex { number },
+        turns: more,
+    })?;
+    let turn = code.instructions.len();
+    code.instructions.push(Instruction::Tick { line })?;
+    Ok(turn)
+}
+
+fn emit_loop_end(code: &mut Code, begin: usize, turn: usize) -> Result<(), AllocError>
+    requires { turn ≡ begin + 1 }
+    ensures { OnOk result (code.new ≡ joined code.old (loop_end begin)) }
+{
+    code.instructions.push(Instruction::Turn {
+        counter: CounterIndex { number: begin },
+        to: turn,
+    })?;
+    Ok(())
+}
+
 #[cycle(statement)]
 #[tactic(auto, using(crate::proofs::Layers::statement_is))]
 fn emit_statement(alloc: Global, code: &mut Code, statement: &Statement) -> Result<(), AllocError>
@@ -88,7 +128,27 @@ fn emit_performing(
     emit_tick(code, line)?;
     match turns {
         Turns::Once => emit_statements(alloc, code, inside),
+        Turns::Times(count) => emit_times(alloc, code, line, count_of(count), inside),
     }
+}
+
+#[cycle(statement)]
+fn emit_times(
+    alloc: Global,
+    code: &mut Code,
+    line: u32,
+    count: u64,
+    inside: &[Statement],
+) -> Result<(), AllocError>
+    ensures { OnOk result (code.new ≡ joined code.old (times_piece line count (in_order statement_piece inside.now) code.old)) }
+{
+    if count == 0 {
+        return Ok(());
+    }
+    let begin = code.instructions.len();
+    let turn = emit_loop_begin(code, line, count - 1)?;
+    emit_statements(alloc, code, inside)?;
+    emit_loop_end(code, begin, turn)
 }
 
 #[cycle(statement)]

@@ -19,12 +19,13 @@ const HIGH_UNIT: i128 = 0x1_0000_0000_0000_0000;
 const HALF_UNIT: i128 = 0x8000_0000_0000_0000;
 
 /// An exact decimal number, `coefficient / 10^scale`: a coefficient below 10^38 in absolute value, and a scale from 0
-/// to 18. Those limits are this project's own choice.
+/// to 18. Those limits are this project's own choice. The scale takes 64 bits, so that no byte is padding: copies of padding
+/// cost more than what they stand beside.
 #[derive(Clone, Copy, Debug)]
 pub struct Dec {
     low: i64,
     high: i64,
-    scale: u8,
+    scale: u64,
 }
 
 impl Model for Dec {
@@ -72,7 +73,7 @@ impl Dec {
         Dec {
             low: low as i64,
             high,
-            scale,
+            scale: scale as u64,
         }
     }
 
@@ -86,7 +87,7 @@ impl Dec {
         Dec {
             low: coefficient,
             high: 0,
-            scale,
+            scale: scale as u64,
         }
     }
 
@@ -129,7 +130,7 @@ impl Dec {
         ensures value { result ≡ self.scale }
         ensures bound { result ≤ 18 }
     {
-        self.scale
+        self.scale as u8
     }
 
     /// The coefficient without its sign.

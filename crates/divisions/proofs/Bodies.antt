@@ -1,6 +1,6 @@
 -- Sentences, paragraphs and bodies: what is read is spelled, and what is spelled is read.
 use Rattle.std.proofs.Common.{◌≡◌, ◌<◌, ℕ, Bool, true, false, List, [], ◌∷◌, Option, None, Some, length, refl, ap, ◌∙◌, subst, arith}
-use Rattle.std.specs.Prelude.{if◌then◌else◌, ◌&&◌, is_some, Ok}
+use Rattle.std.specs.Prelude.{if◌then◌else◌, ◌&&◌, ◌||◌, is_some, Ok}
 use Rattle.tokens.specs.declared.token.Kind.{Kind}
 use Rattle.tokens.specs.declared.token.Kind.TheVariants as k
 use Rattle.tokens.specs.declared.token.Token.{Token}
@@ -17,6 +17,7 @@ use Rattle.grammar.proofs.Outcomes.{Answers, Reached, Deeper, step, unstep, valu
 use Rattle.grammar.proofs.Lists
 use Rattle.grammar.proofs.Lists.{Sound, Complete, Shrinks, Starts}
 use Rattle.grammar.proofs.Parts.{name_sound, name_complete, name_shrinks, period_sound, period_complete, period_shrinks}
+use Rattle.expressions.proofs.Exact.Marks.{either}
 use Rattle.statements.specs.Verbs.{verb_in, begins_statement}
 use Rattle.statements.specs.Spelling.{sentence}
 use Rattle.statements.specs.Reading as statements
@@ -67,7 +68,7 @@ paragraph_complete depth depth' x i rest s = go x.name x.sentences s
         (step (read.period i1) _ (period_complete tt i1 i2 period)
         (step (r.any_sentences depth i2) _ (any_sentences_complete depth depth' found i2 rest body) (Reached refl)))
 
-named_shrinks : (given : Option Name) (i rest : List Token) → g.named given i rest → length rest < length i
+pub named_shrinks : (given : Option Name) (i rest : List Token) → g.named given i rest → length rest < length i
 named_shrinks None i rest s = absurd s
 named_shrinks (Some given) i rest s = name_shrinks given i rest s
 
@@ -150,7 +151,7 @@ no_verb k.LeftParenthesis place given e = cc
 no_verb k.RightParenthesis place given e = cc
 no_verb (k.Operator operator) place given e = cc
 
-name_begins_none : (given : Name) (i rest : List Token) → parts.name given i rest → begins_statement i ≡ false
+pub name_begins_none : (given : Name) (i rest : List Token) → parts.name given i rest → begins_statement i ≡ false
 name_begins_none given i rest (first, is, tell) = ap begins_statement is ∙ ap is_some (no_verb first.kind first.place given tell)
 
 pub body_complete : (depth depth' : ℕ) → Complete (Deeper depth depth') (g.body depth') (r.body depth)
@@ -168,3 +169,26 @@ body_complete depth depth' (first ∷ more) i rest s = go first.name first.sente
         rw (name_begins_none given i s.1.0 s.1.1)
         (rw (paragraph_starts depth' (record { name = Some given; sentences = found }) i s.0 s.1)
         (paragraphs_complete depth depth' (record { name = Some given; sentences = found } ∷ more) i rest s))
+
+-- ---- where a body begins, and that it goes on
+
+pub body_starts : (depth : ℕ) → Starts g.begins_body (g.body depth)
+body_starts depth [] i rest s = absurd s
+body_starts depth (first ∷ more) i rest s = go first.name first.sentences s
+  where
+    go : (given : Option Name) (found : List Sentence) → g.body depth (record { name = given; sentences = found } ∷ more) i rest → g.begins_body i ≡ true
+    go None found (i1, all, others) =
+        ap (λ b. b || g.begins_paragraph i) (Lists.several_starts (sentence depth) (tested begins_statement) begins_statement (sentence_starts depth) found i i1 all)
+    go (Some given) found s =
+        either (begins_statement i) (g.begins_paragraph i) (paragraph_starts depth (record { name = Some given; sentences = found }) i s.0 s.1)
+
+pub body_shrinks : (depth : ℕ) → Shrinks (g.body depth)
+body_shrinks depth [] i rest s = absurd s
+body_shrinks depth (first ∷ more) i rest s = go first.name first.sentences s
+  where
+    go : (given : Option Name) (found : List Sentence) → g.body depth (record { name = given; sentences = found } ∷ more) i rest → length rest < length i
+    go None found (i1, all, others) =
+        let a = Lists.several_shrinks (sentence depth) (tested begins_statement) (sentence_shrinks depth) found i i1 all in
+        let b = Lists.any_shrinks (g.paragraph depth) (tested g.begins_paragraph) (paragraph_shrinks depth) more i1 rest others in omega arith
+    go (Some given) found s =
+        Lists.several_shrinks (g.paragraph depth) (tested g.begins_paragraph) (paragraph_shrinks depth) (record { name = Some given; sentences = found } ∷ more) i rest s

@@ -19,6 +19,9 @@ use Rattle.expressions.specs.Literals as literals
 use Rattle.statements.specs.Display as display_rule
 use Rattle.statements.specs.StopRun as stop_run_rule
 use Rattle.statements.specs.Reading as statements
+use Rattle.data_division.specs.Division as division
+use Rattle.data_division.specs.Forms as forms
+use Rattle.divisions.specs.Environment as environment
 use Rattle.divisions.specs.Reading as r
 use Rattle.divisions.specs.Faults.{parse_of}
 use Rattle.divisions.specs.declared.fault.FaultKind.TheVariants.{UnexpectedToken}
@@ -57,7 +60,7 @@ show_tokens line =
 
 -- every step of reading, so that a program's tree is computed
 unfoldable computing : Unit {0}
-unfolding r.program r.identification r.procedure r.body r.opening r.sentences r.any_sentences r.paragraph r.paragraphs r.any_paragraphs r.ending r.end_program same_word read.after_word read.past_word read.expect read.skip read.left_out read.period read.heading read.nothing read.here read.one_token read.name literals.literal_reader literals.all_literal_reader read.several_from read.several read.any display_rule.after_no_advancing display_rule.display_reader stop_run_rule.stop_run_reader statements.statements statements.verb statements.line statements.statement statements.sentence
+unfolding r.program r.identification r.procedure r.all_sections r.outer_body r.after_body r.following r.sections r.section r.section_paragraphs environment.environment_reader environment.configuration_reader environment.computer_reader environment.description_reader environment.some_description environment.past_description division.data_division_reader division.division_reader division.working_storage_reader division.section_reader division.entries_reader forms.first_formless r.body r.opening r.sentences r.any_sentences r.paragraph r.paragraphs r.any_paragraphs r.ending r.end_program same_word read.after_word read.past_word read.expect read.skip read.left_out read.period read.heading read.nothing read.here read.one_token read.name literals.literal_reader literals.all_literal_reader read.several_from read.several read.any display_rule.after_no_advancing display_rule.display_reader stop_run_rule.stop_run_reader statements.statements statements.verb statements.line statements.statement statements.sentence
 computing = tt
 
 -- the six lines of HELLO
@@ -82,7 +85,7 @@ end_program name = word 7 8 w.End ∷ word 7 12 w.Program ∷ at 7 20 (k.Word na
 
 -- a program of HELLO's name with these paragraphs
 abbrev of : List Paragraph → Program
-of paragraphs = record { name = hello.name; sections = record { name = None; paragraphs = paragraphs } ∷ [] }
+of paragraphs = record { name = hello.name; storage = []; sections = record { name = None; paragraphs = paragraphs } ∷ [] }
 
 -- STOP RUN. at column 12 of a line
 abbrev stop_tokens : ℕ → List Token
@@ -132,3 +135,42 @@ sentence_first = refl
 with_no_advancing : parse_of (identified (word 4 12 w.Display ∷ three_tokens ++ word 4 38 w.With ∷ word 4 43 w.No ∷ word 4 46 w.Advancing ∷ period 4 55 ∷ [])) ≡ Ok (displays false)
 unfolding computing
 with_no_advancing = refl
+
+-- ---- other divisions and sections
+
+-- the name and SECTION in a line
+abbrev section_tokens : ℕ → List ℕ → List Token
+section_tokens line name = at line 8 (k.Word name) ∷ word line 10 w.Section ∷ period line 17 ∷ []
+
+-- a section without paragraphs, after sentences that belong to none
+section_after_sentences :
+    parse_of (identified (stop_tokens 4 ++ section_tokens 5 (80 ∷ [])))
+    ≡ Ok (record hello {
+      sections =
+          record { name = None; paragraphs = unnamed (stop_sentence 4 ∷ []) ∷ [] }
+          ∷ record { name = Some (record { characters = 80 ∷ []; place = record { line = 5; column = 8 } }); paragraphs = [] } ∷ [];
+    })
+unfolding computing
+section_after_sentences = refl
+
+-- a section after a paragraph that belongs to none: at its name
+section_after_a_paragraph : parse_of (identified (p_tokens 4 ++ section_tokens 5 (81 ∷ []))) ≡ Err (record { kind = UnexpectedToken; place = record { line = 5; column = 8 } })
+unfolding computing
+section_after_a_paragraph = refl
+
+-- IDENTIFICATION DIVISION. PROGRAM-ID. HELLO. and these tokens, and then PROCEDURE DIVISION. STOP RUN.
+abbrev with_divisions : List Token → List Token
+with_divisions divisions =
+    word 1 8 w.Identification ∷ word 1 23 w.Division ∷ period 1 31
+    ∷ word 2 8 w.ProgramId ∷ period 2 18 ∷ at 2 20 (k.Word hello_bytes) ∷ period 2 25
+    ∷ (divisions ++ word 6 8 w.Procedure ∷ word 6 18 w.Division ∷ period 6 26 ∷ stop_tokens 7)
+
+-- ENVIRONMENT DIVISION. CONFIGURATION SECTION. OBJECT-COMPUTER. HELLO. DATA DIVISION.: nothing is kept of them
+without_effect :
+    parse_of (with_divisions (word 3 8 w.Environment ∷ word 3 20 w.Division ∷ period 3 28
+    ∷ word 4 8 w.Configuration ∷ word 4 22 w.Section ∷ period 4 29
+    ∷ word 4 30 w.ObjectComputer ∷ period 4 45 ∷ at 4 47 (k.Word hello_bytes) ∷ period 4 52
+    ∷ word 5 8 w.Data ∷ word 5 13 w.Division ∷ period 5 21 ∷ []))
+    ≡ Ok (of (unnamed (stop_sentence 7 ∷ []) ∷ []))
+unfolding computing
+without_effect = refl

@@ -1,3 +1,5 @@
 pub mod Bodies
+pub mod Environments
+pub mod SectionLists
 pub mod Programs
 pub mod Examples

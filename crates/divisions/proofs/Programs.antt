@@ -1,19 +1,17 @@
 -- Programs: what is read is spelled, and what is spelled is read.
-use Rattle.std.proofs.Common.{◌≡◌, ◌<◌, ◌+◌, ℕ, Bool, true, false, List, [], ◌∷◌, None, inl, inr, refl, sym, ap, ◌∙◌, subst, arith}
+use Rattle.std.proofs.Common.{◌≡◌, ◌+◌, ℕ, Bool, true, false, List, [], ◌∷◌, Option, None, Some, inl, inr, refl, sym, ap, ◌∙◌, subst, arith}
 use Rattle.std.specs.Prelude.{if◌then◌else◌, Result, Ok, Err, IfOk}
 use Rattle.tokens.specs.declared.reserved.Reserved.{Reserved}
 use Rattle.tokens.specs.declared.reserved.Reserved.TheVariants as w
 use Rattle.tokens.specs.declared.token.Token.{Token}
-use Rattle.source_tree.specs.declared.program.Paragraph.{Paragraph}
+use Rattle.lexical.specs.declared.place.Place.{Place}
 use Rattle.source_tree.specs.declared.program.Program.{Program}
 use Rattle.grammar.specs.declared.fault.Halt.{Halt}
 use Rattle.grammar.specs.declared.fault.Halt.TheVariants.{Unexpected, TooDeep}
-use Rattle.grammar.specs.declared.fault.ReadFault.{ReadFault}
-use Rattle.grammar.specs.declared.fault.ReadFault.TheVariants as faults
-use Rattle.grammar.specs.Parts as parts
-use Rattle.grammar.specs.Parts.{◌then◌, optional, without}
+use Rattle.answers.specs.Answer.{Gives}
+use Rattle.grammar.specs.Parts.{◌then◌, optional}
 use Rattle.grammar.specs.Reading as read
-use Rattle.grammar.specs.Reading.{Outcome, Parser, Reads, begins_word}
+use Rattle.grammar.specs.Reading.{Outcome, Parser, begins_word}
 use Rattle.grammar.proofs.Outcomes.{Answers, Reached, Halts, Deeper, step, unstep, value, after, last}
 use Rattle.grammar.proofs.Looking.{word_begins}
 use Rattle.grammar.proofs.Lists.{Sound, Complete}
@@ -22,9 +20,17 @@ use Rattle.statements.specs.Spelling.{max_nesting}
 use Rattle.divisions.specs.Spelling as g
 use Rattle.divisions.specs.Spelling.{Spells}
 use Rattle.divisions.specs.Reading as r
-use Rattle.divisions.specs.Faults.{fault_at}
-use Rattle.divisions.specs.declared.fault.FaultKind.TheVariants.{NestedTooDeep}
-use Rattle.divisions.proofs.Bodies.{body_sound, body_complete}
+use Rattle.data_division.specs.Forms.{first_formless}
+use Rattle.data_division.specs.Division.{data_division_reader}
+use Rattle.data_division.proofs.Exact.Division.{data_division_sound, data_division_complete}
+use Rattle.divisions.specs.Environment.{environment_reader}
+use Rattle.divisions.specs.Faults.{fault_at, fault_of, formed_by, formed, IsAnswer, IsRefusal, FormlessInTree}
+use Rattle.divisions.specs.declared.fault.FaultKind.TheVariants.{PictureWithoutForm}
+use Rattle.divisions.specs.declared.fault.ParseFault.{ParseFault}
+use Rattle.divisions.specs.declared.fault.ParseError.{ParseError}
+use Rattle.divisions.specs.declared.fault.ParseError.TheVariants.{Memory, Refused}
+use Rattle.divisions.proofs.Environments.{environment_sound, environment_complete}
+use Rattle.divisions.proofs.SectionLists.{all_sections_sound, all_sections_complete}
 
 -- ---- the identification division
 
@@ -54,18 +60,17 @@ identification_complete x i rest (i1, first, (i2, second, (i3, given, end))) =
 abbrev procedure_words : List Reserved
 procedure_words = w.Procedure ∷ w.Division ∷ []
 
-procedure_sound : (depth : ℕ) (x : List Paragraph) (i rest : List Token) → r.procedure depth i ≡ Ok (x, rest)
-    → g.procedure depth (record { name = None; paragraphs = x } ∷ []) i rest
+procedure_sound : (depth : ℕ) → Sound (g.procedure depth) (r.procedure depth)
 unfolding r.procedure
 procedure_sound depth x i rest e =
     unstep (read.heading procedure_words i) _ e (λ u1 i1 is1 e1.
-    (i1, heading_sound procedure_words u1 i i1 is1, (x, refl, body_sound depth x i1 rest e1)))
+    (i1, heading_sound procedure_words u1 i i1 is1, all_sections_sound depth x i1 rest e1))
 
-procedure_complete : (depth depth' : ℕ) → Complete (Deeper depth depth') (λ x. parts.heading procedure_words then g.body depth' x) (r.procedure depth)
+procedure_complete : (depth depth' : ℕ) → Complete (Deeper depth depth') (g.procedure depth') (r.procedure depth)
 unfolding r.procedure
 procedure_complete depth depth' x i rest (i1, first, all) =
     step (read.heading procedure_words i) _ (heading_complete procedure_words tt i i1 first)
-    (body_complete depth depth' x i1 rest all)
+    (all_sections_complete depth depth' x i1 rest all)
 
 -- ---- END PROGRAM, and the end
 
@@ -109,49 +114,96 @@ pub program_sound : (depth : ℕ) (tree : Program) (i : List Token) → r.progra
 unfolding r.program
 program_sound depth tree i e =
     unstep (r.identification i) _ e (λ given i1 is1 e1.
-    unstep (r.procedure depth i1) _ e1 (λ found i2 is2 e2.
-    unstep (r.ending i2) _ e2 (λ u i3 is3 e3.
-    unstep (read.nothing i3) _ e3 (λ v i4 is4 e4.
-    subst (λ y. Spells depth y i) (value e4) (
+    unstep (environment_reader i1) _ e1 (λ t i2 is2 e2.
+    unstep (data_division_reader i2) _ e2 (λ storage i3 is3 e3.
+    unstep (r.procedure depth i3) _ e3 (λ found i4 is4 e4.
+    unstep (r.ending i4) _ e4 (λ u i5 is5 e5.
+    unstep (read.nothing i5) _ e5 (λ v i6 is6 e6.
+    subst (λ y. Spells depth y i) (value e6) (
       i1,
       identification_sound given i i1 is1,
-      (i2, procedure_sound depth found i1 i2 is2, (i3, ending_sound u i2 i3 is3, (nothing_sound v i3 i4 is4, refl))),
-    )))))
+      (
+        i2,
+        environment_sound t i1 i2 is2,
+        (
+          i3,
+          data_division_sound storage i2 i3 is3,
+          (i4, procedure_sound depth found i3 i4 is4, (i5, ending_sound u i4 i5 is5, (nothing_sound v i5 i6 is6, refl))),
+        ),
+      ),
+    )))))))
 
 pub program_complete : (depth depth' : ℕ) (tree : Program) (i : List Token) → Spells depth' tree i → Answers (Deeper depth depth') (r.program depth i) tree []
 unfolding r.program read.nothing
-program_complete depth depth' tree i (i1, given, (i2, (i3, first, (found, all, body)), (i6, end, over))) =
+program_complete depth depth' tree i (i1, given, (i2, around, (i3, storage, (i4, procedure, (i5, end, over))))) =
     step (r.identification i) _ (identification_complete tree.name i i1 given)
-    (step (r.procedure depth i1) _ (procedure_complete depth depth' found i1 i2 (i3, first, body))
-    (step (r.ending i2) _ (ending_complete i2 i6 end over.0)
-    (rw over.0 (Reached (ap (λ s. Ok (record { name = tree.name; sections = s }, [])) (sym all))))))
+    (step (environment_reader i1) _ (environment_complete tt i1 i2 around)
+    (step (data_division_reader i2) _ (data_division_complete tree.storage i2 i3 storage)
+    (step (r.procedure depth i3) _ (procedure_complete depth depth' tree.sections i3 i4 procedure)
+    (step (r.ending i4) _ (ending_complete i4 i5 end over.0)
+    (rw over.0 (Reached refl))))))
 
 -- ---- what may be answered
 
-pub answer_spelled : (i : List Token) (result : Result Program ReadFault) → Reads (r.program max_nesting i) result [] → IfOk result (λ tree. Spells max_nesting tree i)
-answer_spelled i (Ok tree) e = program_sound max_nesting tree i e
-answer_spelled i (Err error) e = tt
+refused : ParseFault → Result Program ParseFault
+refused fault = Err fault
 
--- what reading may answer where a tree of that depth spells the tokens
-abbrev pub Only : List Token → ℕ → Program → Result Program ReadFault → Type 0
-Only i depth tree (Ok answer) = answer ≡ tree
-Only i depth tree (Err faults.Memory) = Unit {0}
-Only i depth tree (Err (faults.Halted halt)) = ((fault_at i halt).kind ≡ NestedTooDeep) × (max_nesting < depth)
+halted : Halt → Outcome Program
+halted halt = Err halt
 
-pub answer_only : (i : List Token) (result : Result Program ReadFault) → Reads (r.program max_nesting i) result []
-    → (depth : ℕ) (tree : Program) → Spells depth tree i → Only i depth tree result
-answer_only i result e depth tree spelled = go (program_complete max_nesting depth tree i spelled) result e
+same_fault : {fault fault' : ParseFault} → refused fault ≡ refused fault' → fault ≡ fault'
+unfolding refused
+same_fault e = cc
+
+same_halt : {halt halt' : Halt} → halted halt ≡ halted halt' → halt ≡ halt'
+unfolding halted
+same_halt e = cc
+
+kept : (tree : Program) (o : Option Place) (answer : Program) → formed_by tree o ≡ Ok answer → answer ≡ tree
+kept tree None answer e = cc
+kept tree (Some place) answer e = cc
+
+told : (tree : Program) (o : Option Place) (fault : ParseFault) → formed_by tree o ≡ Err fault → (fault.kind ≡ PictureWithoutForm) × (o ≡ Some fault.place)
+unfolding refused
+told tree None fault e = cc
+told tree (Some place) fault e = let same = same_fault e in (sym (ap (λ f. f.kind) same), ap (λ f. Some f.place) same)
+
+-- the tree that was read is the one that spells the tokens
+one_read : (depth : ℕ) (tree tree' : Program) (i : List Token) → r.program max_nesting i ≡ Ok (tree, []) → Spells depth tree' i → tree ≡ tree'
+one_read depth tree tree' i e spelled = go (program_complete max_nesting depth tree' i spelled)
   where
-    go : Answers (Deeper max_nesting depth) (r.program max_nesting i) tree [] → (result : Result Program ReadFault)
-        → Reads (r.program max_nesting i) result [] → Only i depth tree result
-    go (Reached is) (Ok answer) e = value (sym e ∙ is)
-    go (Halts (Unexpected left) none is) answer e = absurd none
-    go (Halts (TooDeep left) deep is) (Ok answer) e = cc
-    go answers (Err faults.Memory) e = tt
-    go (Reached is) (Err (faults.Halted (TooDeep at))) e = cc
-    go (Halts (TooDeep left) deep is) (Err (faults.Halted (TooDeep at))) e = (refl, deep)
-    go (Reached is) (Err (faults.Halted (Unexpected at))) e = cc
-    go (Halts (TooDeep left) deep is) (Err (faults.Halted (Unexpected at))) e = cc
+    go : Answers (Deeper max_nesting depth) (r.program max_nesting i) tree' [] → tree ≡ tree'
+    go (Reached is) = value (sym e ∙ is)
+    go (Halts halt deep is) = cc
+
+-- what is answered where a tree was read
+module _ (i : List Token) (tree : Program) (e : r.program max_nesting i ≡ Ok (tree, [])) where
+  pub formed_spelled : (result : Result Program ParseError) → Gives (λ (t : Program). t) fault_of result (formed tree) → IfOk result (λ t. Spells max_nesting t i)
+  formed_spelled (Ok answer) g = subst (λ t. Spells max_nesting t i) (sym (kept tree (first_formless tree.storage) answer g)) (program_sound max_nesting tree i e)
+  formed_spelled (Err error) g = tt
+
+  pub formed_only : (result : Result Program ParseError) → Gives (λ (t : Program). t) fault_of result (formed tree)
+      → (depth : ℕ) (tree' : Program) → Spells depth tree' i → IsAnswer depth tree' result
+  formed_only (Ok answer) g depth tree' spelled = kept tree (first_formless tree.storage) answer g ∙ one_read depth tree tree' i e spelled
+  formed_only (Err Memory) g depth tree' spelled = tt
+  formed_only (Err (Refused fault)) g depth tree' spelled =
+      let t = told tree (first_formless tree.storage) fault g in
+      inr (t.0, ap (λ x. first_formless x.storage) (sym (one_read depth tree tree' i e spelled)) ∙ t.1)
+
+  pub formed_formless : (result : Result Program ParseError) → Gives (λ (t : Program). t) fault_of result (formed tree) → FormlessInTree i result
+  formed_formless result g fault is kind =
+      let t = told tree (first_formless tree.storage) fault (subst (λ x. Gives (λ (t : Program). t) fault_of x (formed tree)) is g) in
+      (tree, program_sound max_nesting tree i e, t.1)
+
+-- what is answered where reading halted
+pub halted_only : (i : List Token) (halt : Halt) → r.program max_nesting i ≡ Err halt → (depth : ℕ) (tree : Program) → Spells depth tree i → IsRefusal depth tree (fault_at i halt)
+unfolding halted
+halted_only i halt e depth tree spelled = go (program_complete max_nesting depth tree i spelled)
+  where
+    go : Answers (Deeper max_nesting depth) (r.program max_nesting i) tree [] → IsRefusal depth tree (fault_at i halt)
+    go (Reached is) = cc
+    go (Halts (Unexpected left) none is) = absurd none
+    go (Halts (TooDeep left) deep is) = inl (ap (λ h. (fault_at i h).kind) (same_halt (sym e ∙ is)), deep)
 
 -- ---- one tree
 

@@ -1,5 +1,5 @@
 -- The faults of tokens that make no program.
-use Rattle.std.specs.Prelude.{◌≡◌, ◌<◌, ◌-◌, ℕ, List, length, Option, None, Some, Result, Ok, Err, slice_get}
+use Rattle.std.specs.Prelude.{◌≡◌, ◌<◌, ◌⊎◌, ◌-◌, ℕ, List, length, Option, None, Some, Result, Ok, Err, slice_get}
 use Rattle.tokens.specs.declared.token.Token.{Token}
 use Rattle.lexical.specs.declared.place.Place.{Place}
 use Rattle.source_tree.specs.declared.program.Program.{Program}
@@ -7,14 +7,17 @@ use Rattle.grammar.specs.declared.fault.Halt.{Halt}
 use Rattle.grammar.specs.declared.fault.Halt.TheVariants.{Unexpected, TooDeep}
 use Rattle.grammar.specs.Reading.{Outcome}
 use Rattle.statements.specs.Spelling.{max_nesting}
+use Rattle.data_division.specs.Forms.{first_formless}
+use Rattle.divisions.specs.Spelling.{Spells}
 use Rattle.divisions.specs.Reading.{program}
 use Rattle.divisions.specs.declared.fault.FaultKind.{FaultKind}
-use Rattle.divisions.specs.declared.fault.FaultKind.TheVariants.{UnexpectedToken, NestedTooDeep}
+use Rattle.divisions.specs.declared.fault.FaultKind.TheVariants.{PictureWithoutForm, UnexpectedToken, NestedTooDeep}
 use Rattle.divisions.specs.declared.fault.ParseFault.{ParseFault}
 use Rattle.divisions.specs.declared.fault.ParseError.{ParseError}
 use Rattle.divisions.specs.declared.fault.ParseError.TheVariants.{Memory, Refused}
 
 abbrev pub number_of : FaultKind → ℕ
+number_of PictureWithoutForm = 20
 number_of UnexpectedToken = 30
 number_of NestedTooDeep = 31
 
@@ -39,16 +42,34 @@ abbrev pub fault_of : ParseError → Option ParseFault
 fault_of Memory = None
 fault_of (Refused fault) = Some fault
 
+-- the tree, unless a picture without a form stands at this place
+abbrev pub formed_by : Program → Option Place → Result Program ParseFault
+formed_by tree None = Ok tree
+formed_by tree (Some place) = Err (record { kind = PictureWithoutForm; place = place })
+
+abbrev pub formed : Program → Result Program ParseFault
+formed tree = formed_by tree (first_formless tree.storage)
+
 abbrev pub placed : List Token → Outcome Program → Result Program ParseFault
-placed tokens (Ok read) = Ok read.0
+placed tokens (Ok read) = formed read.0
 placed tokens (Err halt) = Err (fault_at tokens halt)
 
--- the tree of the tokens, or the fault at the token where reading stops
+-- the tree of the tokens, or the fault at the token where reading stops, or at the first picture of the tree without a form
 abbrev pub parse_of : List Token → Result Program ParseFault
 parse_of tokens = placed tokens (program max_nesting tokens)
 
--- What may be answered where a tree of that depth spells the tokens: it, or that it nests too deep.
+-- The tree nests too deep, or its first picture without a form stands here.
+abbrev pub IsRefusal : ℕ → Program → ParseFault → Type 0
+IsRefusal depth tree fault =
+    ((fault.kind ≡ NestedTooDeep) × (max_nesting < depth)) ⊎ ((fault.kind ≡ PictureWithoutForm) × (first_formless tree.storage ≡ Some fault.place))
+
+-- What may be answered where a tree of that depth spells the tokens: it, or such a refusal.
 abbrev pub IsAnswer : ℕ → Program → Result Program ParseError → Type 0
 IsAnswer depth tree (Ok answer) = answer ≡ tree
 IsAnswer depth tree (Err Memory) = Unit {0}
-IsAnswer depth tree (Err (Refused fault)) = (fault.kind ≡ NestedTooDeep) × (max_nesting < depth)
+IsAnswer depth tree (Err (Refused fault)) = IsRefusal depth tree fault
+
+-- Where a picture without a form is told, a tree spells the tokens, and it is the first such picture of the tree.
+abbrev pub FormlessInTree : List Token → Result Program ParseError → Type 0
+FormlessInTree tokens result = (fault : ParseFault) → result ≡ Err (Refused fault) → fault.kind ≡ PictureWithoutForm
+    → (tree : Program) × Spells max_nesting tree tokens × (first_formless tree.storage ≡ Some fault.place)

@@ -4,11 +4,14 @@ use Rattle.tokens.specs.declared.reserved.Reserved.TheVariants as w
 use Rattle.source_tree.specs.declared.name.Name.{Name}
 use Rattle.source_tree.specs.declared.program.Sentence.{Sentence}
 use Rattle.source_tree.specs.declared.program.Paragraph.{Paragraph}
+use Rattle.source_tree.specs.declared.program.Section.{Section}
 use Rattle.source_tree.specs.declared.program.Program.{Program}
 use Rattle.grammar.specs.Reading.{Parser, ◌>>=◌, ◌>>◌, pure, refuse, begins_word, expect, period, heading, nothing, name, several, any}
 use Rattle.statements.specs.Verbs.{begins_statement}
 use Rattle.statements.specs.Reading.{sentence}
-use Rattle.divisions.specs.Spelling.{begins_paragraph}
+use Rattle.data_division.specs.Division.{data_division_reader}
+use Rattle.divisions.specs.Environment.{environment_reader}
+use Rattle.divisions.specs.Spelling.{begins_paragraph, begins_section, begins_body, is_alone}
 
 unfoldable pub identification : Parser Name
 identification = do
@@ -58,15 +61,54 @@ opening depth = do
 unfoldable pub body : ℕ → Parser (List Paragraph)
 body depth i = if begins_statement i then opening depth i else if begins_paragraph i then paragraphs depth i else refuse i
 
-unfoldable pub procedure : ℕ → Parser (List Paragraph)
+-- ---- sections
+
+unfoldable pub section_paragraphs : ℕ → Parser (List Paragraph)
+section_paragraphs depth i = if begins_body i then body depth i else Ok ([], i)
+
+unfoldable pub section : ℕ → Parser Section
+section depth = do
+  given ← name
+  expect w.Section
+  period
+  found ← section_paragraphs depth
+  pure (record { name = Some given; paragraphs = found })
+
+unfoldable pub sections : ℕ → Parser (List Section)
+sections depth = several (section depth) begins_section
+
+-- paragraphs that belong to no section
+abbrev pub outside : List Paragraph → Section
+outside found = record { name = None; paragraphs = found }
+
+unfoldable pub following : ℕ → List Paragraph → Parser (List Section)
+following depth found = do
+  more ← sections depth
+  pure (outside found ∷ more)
+
+-- a section after paragraphs that belong to none is refused where it stands
+unfoldable pub after_body : ℕ → List Paragraph → Parser (List Section)
+after_body depth found i = if begins_section i then (if is_alone found then following depth found i else refuse i) else Ok (outside found ∷ [], i)
+
+unfoldable pub outer_body : ℕ → Parser (List Section)
+outer_body depth = do
+  found ← body depth
+  after_body depth found
+
+unfoldable pub all_sections : ℕ → Parser (List Section)
+all_sections depth i = if begins_section i then sections depth i else outer_body depth i
+
+unfoldable pub procedure : ℕ → Parser (List Section)
 procedure depth = do
   heading (w.Procedure ∷ w.Division ∷ [])
-  body depth
+  all_sections depth
 
 unfoldable pub program : ℕ → Parser Program
 program depth = do
   given ← identification
+  environment_reader
+  storage ← data_division_reader
   found ← procedure depth
   ending
   nothing
-  pure (record { name = given; sections = record { name = None; paragraphs = found } ∷ [] })
+  pure (record { name = given; storage = storage; sections = found })

@@ -1,15 +1,17 @@
 -- Which tokens spell which program.
-use Rattle.std.specs.Prelude.{◌≡◌, ◌&&◌, ℕ, Bool, false, List, [], ◌∷◌, drop, Option, None, Some}
+use Rattle.std.specs.Prelude.{◌≡◌, ◌&&◌, ◌||◌, ℕ, Bool, true, false, List, [], ◌∷◌, drop, Option, None, Some}
 use Rattle.tokens.specs.declared.reserved.Reserved.TheVariants as w
 use Rattle.tokens.specs.declared.token.Token.{Token}
 use Rattle.source_tree.specs.declared.name.Name.{Name}
 use Rattle.source_tree.specs.declared.program.Paragraph.{Paragraph}
 use Rattle.source_tree.specs.declared.program.Section.{Section}
 use Rattle.source_tree.specs.declared.program.Program.{Program}
-use Rattle.grammar.specs.Parts.{Part, ◌then◌, nowhere, optional, any, several, tested, word, period, heading, name, begins_name}
-use Rattle.grammar.specs.Reading.{is_period}
+use Rattle.grammar.specs.Parts.{Part, ◌then◌, nowhere, without, optional, any, several, tested, word, period, heading, name, begins_name}
+use Rattle.grammar.specs.Reading.{is_period, begins_word}
 use Rattle.statements.specs.Verbs.{begins_statement}
 use Rattle.statements.specs.Spelling.{sentence}
+use Rattle.data_division.specs.Division.{data_division}
+use Rattle.divisions.specs.Environment.{environment}
 
 -- no token is left
 abbrev pub nothing : Part
@@ -49,21 +51,63 @@ abbrev pub body_by : ℕ → Option Name → Paragraph → List Paragraph → Pa
 body_by depth None first more = several (sentence depth) (tested begins_statement) first.sentences then any (paragraph depth) (tested begins_paragraph) more
 body_by depth (Some n) first more = several (paragraph depth) (tested begins_paragraph) (first ∷ more)
 
--- [sentence...] [para...], not both left out (COBOL-85, Nucleus, "Procedure division")
+-- [sentence...] [para...], not both left out (COBOL-85, Nucleus, "Paragraphs")
 abbrev pub body : ℕ → List Paragraph → Part
 body depth [] = nowhere
 body depth (first ∷ more) = body_by depth first.name first more
 
--- Without sections all paragraphs are in one without a name.
+-- ---- sections
+
+-- A user-defined word begins a section where SECTION comes directly after it.
+abbrev pub begins_section : List Token → Bool
+begins_section from = begins_name from && begins_word w.Section (drop 1 from)
+
+abbrev pub begins_body : List Token → Bool
+begins_body from = begins_statement from || begins_paragraph from
+
+-- [sentence...] [para...]: both are left out only where neither begins.
+abbrev pub section_paragraphs : ℕ → List Paragraph → Part
+section_paragraphs depth [] = without (tested begins_body)
+section_paragraphs depth (first ∷ more) = body depth (first ∷ more)
+
+-- n SECTION . [sentence...] [para...] (COBOL-85, Nucleus, "Sections")
+abbrev pub section : ℕ → Section → Part
+section depth one = named one.name then word w.Section then period then section_paragraphs depth one.paragraphs
+
+-- sentences that belong to no paragraph, and nothing else
+abbrev pub has_no_name : Option Name → Bool
+has_no_name None = true
+has_no_name (Some n) = false
+
+abbrev pub is_alone : List Paragraph → Bool
+is_alone [] = false
+is_alone (one ∷ []) = has_no_name one.name
+is_alone (one ∷ next ∷ more) = false
+
+-- Sections follow what belongs to none only where that is sentences alone.
+abbrev pub more_sections : ℕ → Bool → List Section → Part
+more_sections depth alone [] = without (tested begins_section)
+more_sections depth true (one ∷ more) = several (section depth) (tested begins_section) (one ∷ more)
+more_sections depth false (one ∷ more) = nowhere
+
+-- The paragraphs that belong to no section are one without a name.
+abbrev pub sections_by : ℕ → Option Name → Section → List Section → Part
+sections_by depth None first more = body depth first.paragraphs then more_sections depth (is_alone first.paragraphs) more
+sections_by depth (Some n) first more = several (section depth) (tested begins_section) (first ∷ more)
+
+-- [sentence...] {para...|section...}, not all left out (COBOL-85, Nucleus, "Procedure division")
 abbrev pub sections : ℕ → List Section → Part
-sections depth all = λ from rest. (paragraphs : List Paragraph) × (all ≡ record { name = None; paragraphs = paragraphs } ∷ []) × body depth paragraphs from rest
+sections depth [] = nowhere
+sections depth (first ∷ more) = sections_by depth first.name first more
 
 -- PROCEDURE DIVISION . body
 abbrev pub procedure : ℕ → List Section → Part
 procedure depth all = heading (w.Procedure ∷ w.Division ∷ []) then sections depth all
 
 abbrev pub program : ℕ → Program → Part
-program depth tree = identification tree.name then procedure depth tree.sections then optional end_program then nothing
+program depth tree =
+    identification tree.name then environment then data_division tree.storage then procedure depth tree.sections
+    then optional end_program then nothing
 
 -- The tree, whose statements nest no deeper than that, is spelled by these tokens.
 abbrev pub Spells : ℕ → Program → List Token → Type 0

@@ -1,4 +1,4 @@
-//! The body of the procedure division.
+//! Sentences and paragraphs that belong to one section, or to none.
 
 ghost use Rattle.std.specs.Prelude.{◌≡◌};
 ghost use Rattle.grammar.specs.Reading.{Reads};
@@ -11,7 +11,6 @@ use source_tree::Paragraph;
 use sqlite_items::Items;
 use statements::begins_statement;
 use std::alloc::Global;
-use tokens::Reserved;
 
 /// Sentences that belong to no paragraph, and the paragraphs after them.
 #[tactic(auto, unfolding(crate::specs::Reading::opening, crate::specs::Reading::sentences, crate::specs::Reading::any_paragraphs))]
@@ -29,9 +28,9 @@ fn opening(alloc: Global, tokens: &mut Tokens<'_>) -> Result<Items<Paragraph>, R
     Ok(found)
 }
 
-/// The paragraphs of a body without sections, one at least.
+/// Sentences and paragraphs, not both left out.
 #[tactic(auto, unfolding(crate::specs::Reading::body, crate::specs::Reading::paragraphs))]
-fn body(alloc: Global, tokens: &mut Tokens<'_>) -> Result<Items<Paragraph>, ReadFault>
+pub fn body(alloc: Global, tokens: &mut Tokens<'_>) -> Result<Items<Paragraph>, ReadFault>
     ensures { Reads (spec.body max_nesting tokens.old) result tokens.new }
 {
     if begins_statement(tokens) {
@@ -41,13 +40,4 @@ fn body(alloc: Global, tokens: &mut Tokens<'_>) -> Result<Items<Paragraph>, Read
     } else {
         Err(tokens.refuse())
     }
-}
-
-/// The procedure division.
-#[tactic(auto, unfolding(crate::specs::Reading::procedure))]
-pub fn procedure(alloc: Global, tokens: &mut Tokens<'_>) -> Result<Items<Paragraph>, ReadFault>
-    ensures { Reads (spec.procedure max_nesting tokens.old) result tokens.new }
-{
-    tokens.heading(&[Reserved::Procedure, Reserved::Division])?;
-    body(alloc, tokens)
 }

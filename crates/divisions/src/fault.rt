@@ -13,6 +13,8 @@ use tokens::Token;
 
 #[derive(Clone, Copy, Debug, PartialEq, Eq)]
 pub enum FaultKind {
+    /// A picture has no form.
+    PictureWithoutForm,
     /// No rule of the grammar reads the token.
     UnexpectedToken,
     /// Statements stand in one another more than 64 deep.
@@ -25,14 +27,15 @@ impl FaultKind {
         ensures { result ≡ number_of self }
     {
         match self {
+            FaultKind::PictureWithoutForm => 20,
             FaultKind::UnexpectedToken => 30,
             FaultKind::NestedTooDeep => 31,
         }
     }
 }
 
-/// A fault and where it stands: the token at which reading stopped, the last one where none was left, and line 1,
-/// column 1 where there is none at all.
+/// A fault and where it stands: the picture, or the token at which reading stopped, the last one where none was left, and
+/// line 1, column 1 where there is none at all.
 #[derive(Clone, Copy, Debug, PartialEq, Eq)]
 pub struct ParseFault {
     pub kind: FaultKind,

@@ -2,10 +2,12 @@
 #![tactic(auto)]
 
 mod body;
+mod environment;
 mod fault;
 mod identification;
 mod paragraphs;
 mod program;
+mod sections;
 
 pub use fault::{FaultKind, ParseError, ParseFault};
 pub use program::{one_tree, parse};

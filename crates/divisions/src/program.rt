@@ -8,14 +8,17 @@ ghost use Rattle.tokens.specs.declared.token.Token.{Token};
 ghost use Rattle.source_tree.specs.declared.program.Program.{Program};
 ghost use Rattle.divisions.specs.Spelling.{Spells};
 ghost use Rattle.divisions.specs.Reading as spec;
-ghost use Rattle.divisions.specs.Faults.{fault_of, parse_of, IsAnswer};
+ghost use Rattle.data_division.specs.Forms.{HasForms};
+ghost use Rattle.divisions.specs.Faults as faults;
+ghost use Rattle.divisions.specs.Faults.{fault_of, parse_of, IsAnswer, FormlessInTree};
 
-use crate::body::procedure;
-use crate::fault::{ParseError, refusal};
+use crate::environment::environment;
+use crate::fault::{FaultKind, ParseError, ParseFault, refusal};
 use crate::identification::{ending, identification};
+use crate::sections::procedure;
+use data_division::{data_division, first_formless};
 use grammar::{ReadFault, Tokens};
-use source_tree::{Program, Section};
-use sqlite_items::Items;
+use source_tree::Program;
 use std::alloc::Global;
 use tokens::Token;
 
@@ -26,31 +29,50 @@ fn program(alloc: Global, tokens: &[Token]) -> Result<Program, ReadFault>
 {
     let mut tokens = Tokens::new(tokens);
     let name = identification(alloc, &mut tokens)?;
-    let paragraphs = procedure(alloc, &mut tokens)?;
+    environment(&mut tokens)?;
+    let storage = data_division(alloc, &mut tokens)?;
+    let sections = procedure(alloc, &mut tokens)?;
     ending(alloc, &mut tokens)?;
     tokens.expect_end()?;
-    let mut sections = Items::new(alloc);
-    sections.push(Section {
-        name: None,
-        paragraphs,
-    })?;
-    Ok(Program { name, sections })
+    Ok(Program {
+        name,
+        storage,
+        sections,
+    })
+}
+
+/// The tree, if each of its pictures has a form.
+fn formed(alloc: Global, tree: Program) -> Result<Program, ParseError>
+    ensures { Gives (λ (tree : Program). tree) fault_of result (faults.formed tree) }
+{
+    match first_formless(alloc, tree.storage.as_slice())? {
+        None => Ok(tree),
+        Some(place) => Err(ParseError::Refused(ParseFault {
+            kind: FaultKind::PictureWithoutForm,
+            place,
+        })),
+    }
 }
 
 /// The tree of a source text, by its tokens (COBOL-85, Nucleus, "Structure of a program").
 ///
 /// `Refused` with number 30 where no tree spells the tokens, at the token where reading stopped; with 31 where
-/// statements stand in one another more than 64 deep, at the statement that is one too deep.
+/// statements stand in one another more than 64 deep, at the statement that is one too deep; with 20 where a tree spells
+/// them, at its first picture that has no form.
 pub fn parse(alloc: Global, tokens: &[Token]) -> Result<Program, ParseError>
     // What is answered spells the tokens.
     ensures spelled { IfOk result (λ tree. Spells max_nesting tree tokens.now) }
-    // What spells the tokens is answered, unless it nests too deep or memory runs out.
+    // Its pictures have forms.
+    ensures forms { IfOk result (λ tree. HasForms tree.storage) }
+    // What spells the tokens is answered, unless it nests too deep, has a picture without a form, or memory runs out.
     ensures only { (depth : ℕ) (tree : Program) → Spells depth tree tokens.now → IsAnswer depth tree result }
+    // A picture without a form is one of a tree that spells the tokens.
+    ensures formless { FormlessInTree tokens.now result }
     // The tree or the fault, with its place, is what reading gives.
     ensures reads { Gives (λ (tree : Program). tree) fault_of result (parse_of tokens.now) }
 {
     match program(alloc, tokens) {
-        Ok(tree) => Ok(tree),
+        Ok(tree) => formed(alloc, tree),
         Err(ReadFault::Memory) => Err(ParseError::Memory),
         Err(ReadFault::Halted(halt)) => Err(ParseError::Refused(refusal(tokens, halt))),
     }

@@ -288,7 +288,7 @@ const EDITED: Kind = Kind::NumericEdited {
     blank_when_zero: false,
 };
 
-const EDITED_MOVES: [EditedRow; 15] = [
+const EDITED_MOVES: [EditedRow; 17] = [
     (
         "XXBX/X",
         Kind::AlphanumericEdited,
@@ -383,6 +383,21 @@ const EDITED_MOVES: [EditedRow; 15] = [
         b"u",
         Some(b"  5CR"),
     ),
+    // numeric pictures under BLANK WHEN ZERO
+    (
+        "99",
+        BLANK,
+        Taken::Item(number!(2, 0, UNSIGNED, 2)),
+        b"05",
+        Some(b"05"),
+    ),
+    (
+        "99",
+        BLANK,
+        Taken::Item(number!(2, 0, UNSIGNED, 2)),
+        b"00",
+        Some(b"  "),
+    ),
 ];
 
 /// Asserts that the item is edited by a picture of that category and size.
@@ -394,7 +409,12 @@ fn edited_by(rt: &impl Abort, receiver: Item, picture: &Picture)
             assert!(rt; matches!(picture.category(), Category::AlphanumericEdited));
         }
         Kind::NumericEdited { .. } => {
-            assert!(rt; matches!(picture.category(), Category::NumericEdited));
+            assert!(rt;
+                matches!(
+                    picture.category(),
+                    Category::NumericEdited | Category::Numeric
+                )
+            );
         }
         _ => panic!(rt; "not edited"),
     }

@@ -26,3 +26,8 @@ IsNextItem entries None = nested entries ≡ End
 IsNextItem entries (Some one) =
     (nested entries ≡ Tree one.entry.now (leading one.inner.now) (nested one.inner.now) (nested one.next.now))
     × (length one.inner.now + length one.next.now < length entries)
+
+-- Each level is told as it is.
+abbrev pub AreTold : Forest → Type 0
+AreTold End = Unit {0}
+AreTold (Tree one conditions inner next) = (level_of one < 100000) × AreTold inner × AreTold next

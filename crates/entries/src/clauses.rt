@@ -17,7 +17,8 @@ pub fn inside(around: Around, group: &ItemEntry) -> Around
     }
 }
 
-fn usage_clause(around: Around, entry: &ItemEntry) -> UsageClause
+/// The USAGE of an entry: its own clause, that of the nearest group with one, or DISPLAY.
+pub fn usage(around: Around, entry: &ItemEntry) -> UsageClause
     ensures { result ≡ spec.usage_of around entry.now }
 {
     entry.usage.or(around.usage).unwrap_or(UsageClause::Display)
@@ -59,7 +60,7 @@ fn numeric_usage(usage: UsageClause, signed: bool, sign: SignClause) -> Usage
 fn numeric(around: Around, entry: &ItemEntry, picture: &Picture) -> Numeric
     ensures { result ≡ spec.numeric_by around entry.now picture.now }
 {
-    let usage = usage_clause(around, entry);
+    let usage = usage(around, entry);
     let sign = sign_clause(around, entry);
     Numeric {
         digits: picture.digits(),

@@ -3,10 +3,12 @@
 
 mod clauses;
 mod integers;
+mod laws;
 mod levels;
 mod pictures;
 
-pub use clauses::{inside, kind};
+pub use clauses::{inside, kind, usage};
 pub use integers::{MOST, number, occurrences};
+pub use laws::levels_are_told;
 pub use levels::{Sibling, level, next_item, split_group};
 pub use pictures::{editing, elementary, elementary_length, picture_of};

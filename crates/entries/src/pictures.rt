@@ -4,10 +4,11 @@ ghost use Rattle.std.specs.Prelude.{◌≡◌, ◌≤◌, IfOk};
 ghost use Rattle.picture.specs.declared.category.Category.TheVariants as category;
 ghost use Rattle.source_tree.specs.Clauses as spec;
 ghost use Rattle.source_tree.specs.ClauseRules.{most_item_bytes};
+ghost use Rattle.entries.specs.Forms.{IsKind};
 
 use crate::clauses::kind;
 use items::{Item, Kind};
-use picture::{Picture, PictureFault};
+use picture::{Picture, PictureError};
 use source_tree::{Around, ItemEntry};
 use std::alloc::{AllocError, Global};
 
@@ -20,8 +21,8 @@ pub fn picture_of(alloc: Global, entry: &ItemEntry) -> Result<Option<Picture>, A
     };
     match Picture::read(alloc, text.characters.as_slice()) {
         Ok(picture) => Ok(Some(picture)),
-        Err(PictureFault::NoForm) => Ok(None),
-        Err(PictureFault::Memory) => Err(AllocError),
+        Err(PictureError::Refused(_)) => Ok(None),
+        Err(PictureError::Memory) => Err(AllocError),
     }
 }
 
@@ -33,6 +34,18 @@ fn digits_are_bounded(picture: &Picture)
     ensures decimals { picture.now.scale ≤ picture.now.digits }
 {
     picture.laws();
+}
+
+/// The kind of the elementary item with that picture; a numeric one has 1 to 18 digits.
+fn formed_kind(around: Around, entry: &ItemEntry, picture: &Picture) -> Kind
+    ensures kind { result ≡ spec.kind_of around entry.now picture.now }
+    ensures form { IsKind result }
+{
+    let kind = kind(around, entry, picture);
+    if let Kind::Numeric(_) = kind {
+        digits_are_bounded(picture);
+    }
+    kind
 }
 
 /// The length of the elementary item with that picture, in bytes.
@@ -51,10 +64,11 @@ pub fn elementary_length(around: Around, entry: &ItemEntry, picture: &Picture) -
 /// The elementary item with that picture. Its length is one that items may have.
 pub fn elementary(around: Around, entry: &ItemEntry, picture: &Picture) -> Item
     requires { (spec.elementary around entry.now picture.now).length ≤ most_item_bytes }
-    ensures { result ≡ spec.elementary around entry.now picture.now }
+    ensures item { result ≡ spec.elementary around entry.now picture.now }
+    ensures form { IsKind result.kind }
 {
     Item {
-        kind: kind(around, entry, picture),
+        kind: formed_kind(around, entry, picture),
         length: elementary_length(around, entry, picture) as u32,
     }
 }

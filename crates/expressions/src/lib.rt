@@ -21,3 +21,4 @@ pub use passing::{
     after_reference_before, begins_expression, begins_operator, past_parentheses, past_reference,
 };
 pub use references::{References, reference};
+pub use subscripts::{begins_integer, integer};

@@ -68,6 +68,7 @@ fn is_integer(number: &NumericLiteral) -> bool
     matches!(number.sign, Sign::Unsigned) && number.decimals.is_empty()
 }
 
+/// A numeric literal without a sign and without a point comes next.
 pub fn begins_integer(tokens: &Tokens<'_>) -> bool
     ensures { result ≡ spec.begins_integer tokens.now }
 {
@@ -82,7 +83,7 @@ pub fn begins_integer(tokens: &Tokens<'_>) -> bool
 
 /// A numeric literal without a sign and without a point.
 #[tactic(auto, unfolding(crate::specs::Subscripts::integer_reader, grammar::specs::Reading::one_token, grammar::specs::Reading::here))]
-fn integer(alloc: Global, tokens: &mut Tokens<'_>) -> Result<Integer, ReadFault>
+pub fn integer(alloc: Global, tokens: &mut Tokens<'_>) -> Result<Integer, ReadFault>
     ensures { Reads (spec.integer_reader tokens.old) result tokens.new }
 {
     let place = tokens.here()?;

@@ -4,7 +4,7 @@ use crate::asserted::same_in;
 use crate::read::tokens_of;
 use expressions::{after_reference_before, past_parentheses, past_reference};
 use grammar::{Part, Phrase, ReadFault, Tokens, two_sided};
-use source_tree::Place;
+use source_tree::{Phrases, Place};
 use sqlite_items::Items;
 use std::alloc::Global;
 use std::process::Abort;
@@ -101,7 +101,7 @@ fn phrases(alloc: Global, phrase: Phrase, text: &str) -> Option<Counts> {
     let scanned = tokens_of(alloc, text)?;
     let mut tokens = Tokens::new(scanned.as_slice());
     match two_sided(phrase, &Continues, alloc, &mut tokens) {
-        Ok((arose, did_not)) => Some((count(arose), count(did_not), tokens.len())),
+        Ok(Phrases { arose, did_not }) => Some((count(arose), count(did_not), tokens.len())),
         Err(_) => None,
     }
 }

@@ -52,20 +52,6 @@ name_shrinks = telling_shrinks g.name_in
 pub name_starts : Starts g.begins_name g.name
 name_starts = telling_starts g.name_in
 
-pub literal_sound : Sound g.literal r.literal
-unfolding r.literal
-literal_sound = one_token_sound g.literal_in
-
-pub literal_complete : {Allowed : Halt → Type 0} → Complete Allowed g.literal r.literal
-unfolding r.literal
-literal_complete {Allowed = Allowed} = one_token_complete g.literal_in {Allowed = Allowed}
-
-pub literal_shrinks : Shrinks g.literal
-literal_shrinks = telling_shrinks g.literal_in
-
-pub literal_starts : Starts g.begins_literal g.literal
-literal_starts = telling_starts g.literal_in
-
 -- ---- places
 
 pub here_sound : Sound g.here r.here

@@ -5,6 +5,7 @@ use Rattle.tokens.specs.declared.reserved.Reserved.{Reserved}
 use Rattle.tokens.specs.declared.reserved.Reserved.TheVariants as w
 use Rattle.tokens.specs.declared.token.Token.{Token}
 use Rattle.grammar.specs.declared.fault.Halt.{Halt}
+use Rattle.source_tree.specs.declared.phrases.Phrases.{Phrases}
 use Rattle.grammar.specs.declared.phrase.Phrase.{Phrase}
 use Rattle.grammar.specs.declared.phrase.Phrase.TheVariants.{SizeError, AtEnd, InvalidKey, Overflow}
 use Rattle.grammar.specs.Parts.{Part, ◌then◌, optional, word}
@@ -52,19 +53,19 @@ denied_shrinks one i rest (i1, first, words) = let a = word_shrinks w.Not i i1 f
 -- ---- words and statements
 
 module _ {S : Type 0} (statements : List S → Part) where
-  phrase_shrinks : (p : Part) → ((i rest : List Token) → p i rest → length rest < length i) → Shrinks statements
+  pub phrase_shrinks : (p : Part) → ((i rest : List Token) → p i rest → length rest < length i) → Shrinks statements
       → (x : Option (List S)) (i rest : List Token) → g.phrase statements p x i rest → length rest ≤ length i
   phrase_shrinks p fewer each None i rest s = let e = ap length s.0 in omega arith
   phrase_shrinks p fewer each (Some done) i rest (i1, words, s) = let a = fewer i i1 words in let b = each done i1 rest s in omega arith
 
-  pub two_sided_shrinks : (one : Phrase) → Shrinks statements → (x : Option (List S) × Option (List S)) (i rest : List Token)
+  pub two_sided_shrinks : (one : Phrase) → Shrinks statements → (x : Phrases S) (i rest : List Token)
       → g.two_sided statements one x i rest → length rest ≤ length i
   two_sided_shrinks one each x i rest (i1, arose, did_not) =
-      let a = phrase_shrinks (g.opened one) (opened_shrinks one) each x.0 i i1 arose in
-      let b = phrase_shrinks (g.denied one) (denied_shrinks one) each x.1 i1 rest did_not in omega arith
+      let a = phrase_shrinks (g.opened one) (opened_shrinks one) each x.arose i i1 arose in
+      let b = phrase_shrinks (g.denied one) (denied_shrinks one) each x.did_not i1 rest did_not in omega arith
 
   module _ (reader : Parser (List S)) where
-    phrase_sound : {p : Part} {words : Words} → Finds p words → Sound statements reader → Sound (g.phrase statements p) (g.phrase_reader reader words)
+    pub phrase_sound : {p : Part} {words : Words} → Finds p words → Sound statements reader → Sound (g.phrase statements p) (g.phrase_reader reader words)
     unfolding g.phrase_reader
     phrase_sound {p = p} {words = words} finds each x i rest e = go (words i) refl e
       where
@@ -83,7 +84,7 @@ module _ {S : Type 0} (statements : List S → Part) where
         (i1, phrase_sound (opened_finds one) each arose i i1 is1, phrase_sound (denied_finds one) each did_not i1 rest (last is2 e2))))
 
     module _ (Allowed : Halt → Type 0) (each : Complete Allowed statements reader) where
-      phrase_complete : {p : Part} {words : Words} → Finds p words → Complete Allowed (g.phrase statements p) (g.phrase_reader reader words)
+      pub phrase_complete : {p : Part} {words : Words} → Finds p words → Complete Allowed (g.phrase statements p) (g.phrase_reader reader words)
       unfolding g.phrase_reader
       phrase_complete finds None i rest s = Reached (ap (λ o. g.phrase_at reader o i) (is_missing finds i s.1) ∙ ap (λ j. Ok (None, j)) s.0)
       phrase_complete finds (Some done) i rest (m, words, s) =
@@ -92,5 +93,5 @@ module _ {S : Type 0} (statements : List S → Part) where
       pub two_sided_complete : (one : Phrase) → Complete Allowed (g.two_sided statements one) (g.two_sided_reader reader one)
       unfolding g.two_sided_reader
       two_sided_complete one x i rest (i1, arose, did_not) =
-          step (g.phrase_reader reader (g.after_opened one) i) _ (phrase_complete (opened_finds one) x.0 i i1 arose)
-          (step (g.phrase_reader reader (g.after_denied one) i1) _ (phrase_complete (denied_finds one) x.1 i1 rest did_not) (Reached refl))
+          step (g.phrase_reader reader (g.after_opened one) i) _ (phrase_complete (opened_finds one) x.arose i i1 arose)
+          (step (g.phrase_reader reader (g.after_denied one) i1) _ (phrase_complete (denied_finds one) x.did_not i1 rest did_not) (Reached refl))

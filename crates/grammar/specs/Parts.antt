@@ -6,8 +6,6 @@ use Rattle.tokens.specs.declared.token.Kind.TheVariants as k
 use Rattle.tokens.specs.declared.token.Token.{Token}
 use Rattle.lexical.specs.declared.place.Place.{Place}
 use Rattle.source_tree.specs.declared.name.Name.{Name}
-use Rattle.source_tree.specs.declared.literal.LiteralValue.TheVariants as value
-use Rattle.source_tree.specs.declared.literal.Literal.{Literal}
 
 -- A part of a text, by the tokens from where it begins and the tokens from where it ends.
 abbrev pub Part : Type 1
@@ -123,19 +121,3 @@ name = telling name_in
 
 abbrev pub begins_name : List Token → Bool
 begins_name = begins_telling name_in
-
--- ---- literals
-
-abbrev pub value_in : Kind → Place → Option Literal
-value_in (k.Numeric number) place = Some (record { value = value.Numeric number; place = place })
-value_in (k.Nonnumeric bytes) place = Some (record { value = value.Nonnumeric bytes; place = place })
-value_in _ place = None
-
-abbrev pub literal_in : Token → Option Literal
-literal_in one = value_in one.kind one.place
-
-abbrev pub literal : Literal → Part
-literal = telling literal_in
-
-abbrev pub begins_literal : List Token → Bool
-begins_literal = begins_telling literal_in

@@ -5,6 +5,7 @@ use Rattle.std.specs.Prelude.{List, Option, None, Some, Ok}
 use Rattle.std.specs.Option.{option_map}
 use Rattle.tokens.specs.declared.reserved.Reserved.TheVariants as w
 use Rattle.tokens.specs.declared.token.Token.{Token}
+use Rattle.source_tree.specs.declared.phrases.Phrases.{Phrases}
 use Rattle.grammar.specs.declared.phrase.Phrase.{Phrase}
 use Rattle.grammar.specs.declared.phrase.Phrase.TheVariants.{SizeError, AtEnd, InvalidKey, Overflow}
 use Rattle.grammar.specs.Parts.{Part, ◌then◌, optional, without, word}
@@ -27,8 +28,8 @@ phrase statements words None = without words
 phrase statements words (Some done) = words then statements done
 
 -- the phrase, and then its opposite; either may be left out
-abbrev pub two_sided : {S : Type 0} → (List S → Part) → Phrase → Option (List S) × Option (List S) → Part
-two_sided statements one both = phrase statements (opened one) both.0 then phrase statements (denied one) both.1
+abbrev pub two_sided : {S : Type 0} → (List S → Part) → Phrase → Phrases S → Part
+two_sided statements one both = phrase statements (opened one) both.arose then phrase statements (denied one) both.did_not
 
 -- ---- reading
 
@@ -49,8 +50,8 @@ phrase_at statements (Some after) i = (statements >>= (λ done. pure (Some done)
 unfoldable pub phrase_reader : {S : Type 0} → Parser (List S) → Words → Parser (Option (List S))
 phrase_reader statements words = λ i. phrase_at statements (words i) i
 
-unfoldable pub two_sided_reader : {S : Type 0} → Parser (List S) → Phrase → Parser (Option (List S) × Option (List S))
+unfoldable pub two_sided_reader : {S : Type 0} → Parser (List S) → Phrase → Parser (Phrases S)
 two_sided_reader statements one = do
   arose ← phrase_reader statements (after_opened one)
   did_not ← phrase_reader statements (after_denied one)
-  pure (arose, did_not)
+  pure (record { arose = arose; did_not = did_not })

@@ -7,13 +7,12 @@ use Rattle.tokens.specs.declared.token.Token.{Token}
 use Rattle.tokens.specs.Reserved.{same_word}
 use Rattle.lexical.specs.declared.place.Place.{Place}
 use Rattle.source_tree.specs.declared.name.Name.{Name}
-use Rattle.source_tree.specs.declared.literal.Literal.{Literal}
 use Rattle.grammar.specs.declared.fault.Halt.{Halt}
 use Rattle.grammar.specs.declared.fault.Halt.TheVariants.{Unexpected}
 use Rattle.grammar.specs.declared.fault.ReadFault.{ReadFault}
 use Rattle.grammar.specs.declared.fault.ReadFault.TheVariants as faults
 use Rattle.answers.specs.Answer.{Gives}
-use Rattle.grammar.specs.Parts.{name_in, literal_in}
+use Rattle.grammar.specs.Parts.{name_in}
 
 -- What was read and the tokens after it, or where reading stopped.
 abbrev pub Outcome : Type 0 → Type 0
@@ -137,9 +136,6 @@ one_token tells (first ∷ more) = told (tells first) more (first ∷ more)
 
 unfoldable pub name : Parser Name
 name = one_token name_in
-
-unfoldable pub literal : Parser Literal
-literal = one_token literal_in
 
 -- ---- lists
 

@@ -1,10 +1,9 @@
-//! The cursor over tokens and the parts that every rule of the grammar is built of: words, names, literals, lists. What is
+//! The cursor over tokens and the parts that every rule of the grammar is built of: words, names, lists. What is
 //! read is what the rule spells, and what it spells is read: laws stated once, of whatever rules come.
 #![tactic(auto)]
 
 mod cursor;
 mod fault;
-mod literals;
 mod names;
 mod part;
 mod passing;
@@ -13,9 +12,8 @@ mod words;
 
 pub use cursor::Tokens;
 pub use fault::{Halt, ReadFault};
-pub use literals::{Literals, begins_literal, literal};
 pub use names::{begins_name, name};
 pub use part::{Part, any, several};
 pub use passing::{Passing, past_any, past_several};
-pub use phrase::{Phrase, after_denied, after_opened, two_sided};
+pub use phrase::{Phrase, after_denied, after_opened, phrase_at, two_sided};
 pub use words::{after_word, is_word, past_word};

@@ -10,6 +10,7 @@ use crate::cursor::Tokens;
 use crate::fault::ReadFault;
 use crate::part::{Part, several};
 use crate::words::{after_word, past_word};
+use source_tree::Phrases;
 use sqlite_items::Items;
 use std::alloc::Global;
 use tokens::{Reserved, Token};
@@ -54,7 +55,7 @@ pub fn after_denied(tokens: &[Token], phrase: Phrase) -> Option<&[Token]>
 }
 
 /// The statements of a phrase whose words `after` follows; none where the words aren't there.
-fn phrase_at<'a, T: Drop, P: Part<T>>(
+pub fn phrase_at<'a, T: Drop, P: Part<T>>(
     part: &P,
     alloc: Global,
     tokens: &mut Tokens<'a>,
@@ -77,7 +78,7 @@ pub fn two_sided<T: Drop, P: Part<T>>(
     part: &P,
     alloc: Global,
     tokens: &mut Tokens<'_>,
-) -> Result<(Option<Items<T>>, Option<Items<T>>), ReadFault>
+) -> Result<Phrases<T>, ReadFault>
     requires { P.ready part.now }
     ensures { Reads (spec.two_sided_reader (read.several (P.reading part.now) (P.beginning part.now)) phrase tokens.old) result tokens.new }
 {
@@ -85,5 +86,5 @@ pub fn two_sided<T: Drop, P: Part<T>>(
     let arose = phrase_at(part, alloc, tokens, after)?;
     let after = after_denied(tokens.rest(), phrase);
     let did_not = phrase_at(part, alloc, tokens, after)?;
-    Ok((arose, did_not))
+    Ok(Phrases { arose, did_not })
 }

@@ -14,3 +14,5 @@ mod ReadFile
 mod Checked
 mod Formatted
 mod Opened
+mod PrimeOrder
+mod OneList

@@ -16,6 +16,7 @@ use Rattle.records.specs.Stores.{Has, is_change, files_after}
 use Rattle.records.specs.Rows.{Row, bytes_cmp, same_bytes}
 use Rattle.records.specs.Files.{File, Files, Named, IsRow, AreFiles, names, file_at, with_file}
 use Rattle.records.specs.Changes.{Changed}
+use Rattle.records.specs.Laws.{RowsAscend}
 use Rattle.records.specs.Spec.{Spec}
 use Rattle.records.proofs.Maps.{bytes_same}
 use Rattle.records.proofs.Changed.{there_is_file}
@@ -201,3 +202,7 @@ all_long spec next (row ∷ rows) all = (all.0.long, all_long spec next rows all
 
 pub records_held : (name : List ℕ) (files : Files) (held : File) → AreFiles files → file_at name files ≡ Some held → AreRecords held.spec.record_length held.rows
 records_held name files held are there = all_long held.spec held.next_arrival held.rows (there_is_file name held files are there).rows
+
+-- the rows of a file that is there ascend
+pub rows_ascend : (name : List ℕ) (files : Files) (held : File) → AreFiles files → file_at name files ≡ Some held → RowsAscend held.spec.organization held.rows
+rows_ascend name files held are there = (there_is_file name held files are there).ascend

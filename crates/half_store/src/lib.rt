@@ -13,6 +13,7 @@ mod halves;
 mod heads;
 mod inserting;
 mod keeping;
+mod laws;
 mod opening;
 mod reading;
 mod removing;
@@ -26,6 +27,7 @@ mod store;
 mod stored;
 
 pub use empty::format;
+pub use laws::one_list_of_files;
 pub use opening::recover;
 pub use store::HalfStore;
 pub use stored::{StoredFile, StoredRow};

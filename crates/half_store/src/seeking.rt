@@ -1,11 +1,13 @@
 //! Rows are sought in the order of a key.
-ghost use Rattle.std.specs.Prelude.{◌≡◌, ◌≤◌, ◌<◌, ◌+◌, length, map, get_or, None, Some, Option, IsOk, OnOk, OnErr, IfOk, IfErr, IfSome};
+ghost use Rattle.std.specs.Prelude.{◌≡◌, not, ◌≤◌, ◌<◌, ◌+◌, length, map, get_or, None, Some, Option, IsOk, OnOk, OnErr, IfOk, IfErr, IfSome};
 ghost use Rattle.std.specs.Option.{option_map};
 ghost use Rattle.std.specs.Ordering.{is_gt};
-ghost use Rattle.records.specs.Rows.{Pair, pair_cmp, pair_under};
+ghost use Rattle.records.specs.Rows.{Pair, pair_cmp, pair_under, prime_pair};
+ghost use Rattle.records.specs.Laws.{RowsAscend};
 ghost use Rattle.records.specs.Order.{is_behind, sought, has_value, found};
 ghost use Rattle.records.specs.Stores.{spec_of, IsKey, bound, record_of};
 ghost use Rattle.records.specs.declared.key.Side.TheVariants.{After};
+ghost use Rattle.records.specs.declared.key.KeyOfReference.TheVariants.{Prime};
 ghost use Rattle.half_store.specs.Stored.{row_of};
 ghost use Rattle.half_store.specs.Seeking.{AreRecords};
 ghost use Rattle.half_store.specs.Seeking.{IsBest};
@@ -135,8 +137,8 @@ fn better(
     }
 }
 
-/// The place of the first row behind a place in the order of a key.
-pub(crate) fn seek_row(
+/// The place of the first row behind a place in the order of a key, of which nothing is known: all rows are gone through.
+fn seek_through(
     rows: &[StoredRow],
     spec: &FileSpec,
     key: KeyOfReference,
@@ -156,6 +158,50 @@ pub(crate) fn seek_row(
     best
 }
 
+/// The place of the first row behind a place in the order of the prime key, in which rows ascend.
+fn seek_prime(
+    rows: &[StoredRow],
+    spec: &FileSpec,
+    side: Side,
+    value: &[u8],
+    number: u64,
+) -> Option<usize>
+    ensures bound { IfSome result (λ i. i < length rows.now) }
+    ensures row { RowsAscend spec.now.organization (map row_of rows.now) → (d : StoredRow) →
+        sought (spec_of spec.now) Prime (bound side value.now number) (map row_of rows.now) ≡ option_map (λ i. row_of (get_or rows.now i d)) result }
+{
+    let place = rows.partition_point(
+        |row: &StoredRow| -> bool
+            ensures { result ≡ not (is_behind side (record { value = value.entry.now; number = number }) (prime_pair spec.entry.now.organization (row_of row.now))) }
+        { !stands_behind(spec, KeyOfReference::Prime, row, side, value, number) },
+    );
+    if place < rows.len() {
+        Some(place)
+    } else {
+        None
+    }
+}
+
+/// The place of the first row behind a place in the order of a key, where rows ascend by their prime key.
+fn seek_row(
+    rows: &[StoredRow],
+    spec: &FileSpec,
+    key: KeyOfReference,
+    side: Side,
+    value: &[u8],
+    number: u64,
+) -> Option<usize>
+    requires { IsKey (spec_of spec.now) key }
+    ensures bound { IfSome result (λ i. i < length rows.now) }
+    ensures row { RowsAscend spec.now.organization (map row_of rows.now) → (d : StoredRow) →
+        sought (spec_of spec.now) key (bound side value.now number) (map row_of rows.now) ≡ option_map (λ i. row_of (get_or rows.now i d)) result }
+{
+    match key {
+        KeyOfReference::Prime => seek_prime(rows, spec, side, value, number),
+        KeyOfReference::Alternate(_) => seek_through(rows, spec, key, side, value, number),
+    }
+}
+
 /// Whether the row behind this one has its value.
 fn has_repeat(rows: &[StoredRow], spec: &FileSpec, key: KeyOfReference, row: &StoredRow) -> bool
     requires { IsKey (spec_of spec.now) key }
@@ -164,7 +210,7 @@ fn has_repeat(rows: &[StoredRow], spec: &FileSpec, key: KeyOfReference, row: &St
 {
     let value = value_under(spec, key, row);
     let number = number_under(spec, key, row);
-    match seek_row(rows, spec, key, Side::After, value, number) {
+    match seek_through(rows, spec, key, Side::After, value, number) {
         None => false,
         Some(next) => value_under(spec, key, &rows[next]).cmp(value).is_eq(),
     }
@@ -190,7 +236,8 @@ pub(crate) fn found_of(
     }
 }
 
-/// The first row behind a place in the order of a key, its record put into `bytes`. A record of another length is damage.
+/// The first row behind a place in the order of a key, its record put into `bytes`, where rows ascend by their prime key. A
+/// record of another length is damage.
 pub(crate) fn seek_in(
     rows: &[StoredRow],
     spec: &FileSpec,
@@ -201,8 +248,8 @@ pub(crate) fn seek_in(
     bytes: &mut [u8],
 ) -> Result<Option<Found>, StoreFault>
     requires { IsKey (spec_of spec.now) key }
-    ensures found { IfOk result (λ answer. answer ≡ option_map (found (spec_of spec.now) key (map row_of rows.now)) (sought (spec_of spec.now) key (bound side value.now number) (map row_of rows.now))) }
-    ensures bytes { OnOk result (bytes.new ≡ record_of bytes.old (sought (spec_of spec.now) key (bound side value.now number) (map row_of rows.now))) }
+    ensures found { RowsAscend spec.now.organization (map row_of rows.now) → IfOk result (λ answer. answer ≡ option_map (found (spec_of spec.now) key (map row_of rows.now)) (sought (spec_of spec.now) key (bound side value.now number) (map row_of rows.now))) }
+    ensures bytes { RowsAscend spec.now.organization (map row_of rows.now) → OnOk result (bytes.new ≡ record_of bytes.old (sought (spec_of spec.now) key (bound side value.now number) (map row_of rows.now))) }
     ensures kept { OnErr result (bytes.new ≡ bytes.old) }
     ensures cause { IfErr result (λ fault. fault ≡ StoreFault.Damaged) }
     ensures sound { AreRecords (length bytes.old) (map row_of rows.now) → IsOk result }

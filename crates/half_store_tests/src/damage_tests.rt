@@ -1,6 +1,6 @@
 //! Rows of a volume of which one byte is another.
 use crate::asserted::{same, same_in};
-use crate::volume::{Volume, sequential};
+use crate::volume::{Volume, put_sector, sequential};
 use half_store::{HalfStore, StoredFile, StoredRow, recover};
 use records::{Outcome, StoreFault};
 use station::{Device, MemoryStation};
@@ -43,12 +43,6 @@ fn sector_of(rt: &impl Abort, station: &mut MemoryStation, sector: u32) -> [u8; 
     let mut bytes = [0; 4096];
     assert!(rt; station.read(sector, &mut bytes).is_ok());
     bytes
-}
-
-fn put_sector(rt: &impl Abort, station: &mut MemoryStation, sector: u32, bytes: &[u8; 4096]) {
-    assert!(rt; sector < station.count());
-    assert!(rt; station.write(sector, bytes).is_ok());
-    assert!(rt; station.sync().is_ok());
 }
 
 fn turned(bytes: &[u8; 4096], place: usize, mask: u8) -> [u8; 4096] {

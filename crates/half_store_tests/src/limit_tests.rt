@@ -1,6 +1,6 @@
 //! Rows of volumes that are full.
 use crate::asserted::same;
-use crate::volume::{Volume, files_and_rows, sequential};
+use crate::volume::{Volume, blank_station, files_and_rows, put_sector, sequential};
 use records::{FileSpec, Outcome, StoreFault};
 use std::alloc::Global;
 use std::process::Abort;
@@ -73,4 +73,32 @@ fn a_file_too_many(rt: HostRuntime) {
     same(&rt, again, Err(StoreFault::Spent));
     let left = files_and_rows(alloc, &mut volume.station);
     same(&rt, left, Some((255, 0)));
+}
+
+// A volume without files of the last generation but one, 2^63 - 2: its root is in sector 0, and sector 1 is blank.
+fn late_volume(rt: &impl Abort, alloc: Global) -> Volume {
+    let mut root = [0; 4096];
+    root[..8].copy_from_slice(b"COBHALF1");
+    root[8..16].copy_from_slice(b"\x7f\xff\xff\xff\xff\xff\xff\xfe");
+    root[16..20].copy_from_slice(b"\x00\x00\x04\x00");
+    let mut station = blank_station(rt, alloc);
+    put_sector(rt, &mut station, 0, &root);
+    Volume::on(rt, alloc, station)
+}
+
+// One change more is made; the next would be of generation 2^63.
+#[test]
+fn a_generation_too_many(rt: HostRuntime) {
+    let alloc = rt.alloc();
+    let mut volume = late_volume(&rt, alloc);
+    let log = sequential(&rt, alloc, b"LOG", 4);
+    same(&rt, volume.create(&rt, &log), Ok(()));
+    let writes = volume.station.writes();
+    let refused = volume.insert(&rt, &log, b"ONE ");
+    same(&rt, refused, Err(StoreFault::Full));
+    let again = volume.insert(&rt, &log, b"ONE ");
+    same(&rt, again, Err(StoreFault::Spent));
+    same(&rt, volume.station.writes(), writes);
+    let left = files_and_rows(alloc, &mut volume.station);
+    same(&rt, left, Some((1, 0)));
 }

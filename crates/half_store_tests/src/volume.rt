@@ -21,6 +21,13 @@ pub fn blank_station(rt: &impl Abort, alloc: Global) -> MemoryStation {
     }
 }
 
+/// Puts these bytes into a sector, and syncs.
+pub fn put_sector(rt: &impl Abort, station: &mut MemoryStation, sector: u32, bytes: &[u8; 4096]) {
+    assert!(rt; sector < station.count());
+    assert!(rt; station.write(sector, bytes).is_ok());
+    assert!(rt; station.sync().is_ok());
+}
+
 fn text(alloc: Global, bytes: &[u8]) -> Result<Vec<u8>, AllocError> {
     Vec::from_slice(alloc, bytes)
 }

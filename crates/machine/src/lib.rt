@@ -3,6 +3,7 @@
 #![tactic(auto)]
 
 mod ended;
+mod loaded;
 mod machine;
 mod show;
 

@@ -2,7 +2,7 @@
 ghost use Rattle.std.specs.Prelude.{◌≡◌, ◌⊎◌, ◌<◌, ◌↔◌, ℕ, List, [], Ok, Err, None, slice_index_or, nat_eq, option_copied, Contains, IfOk, IfNone, OnErr, IsSome};
 ghost use Rattle.std.specs.List.{All};
 ghost use Rattle.std.specs.Map.{lookup};
-ghost use Rattle.station.specs.Failures.{Blames};
+ghost use Rattle.station.specs.Calls.{OnlyReads};
 ghost use Rattle.lru.specs.LruCache.{lru_cache, promoted, put_entries, IsValid};
 ghost use Rattle.pages.specs.Image.{pages_in};
 ghost use Rattle.pages.specs.Cache.{IsCacheOf, Recalls, forgotten};
@@ -66,11 +66,7 @@ pub(crate) fn recall_page<D: Device>(
     page: u32,
 ) -> Result<Option<[u8; 4096]>, PagesError>
     requires { All (λ s. s < D.sectors device.old) table.now }
-    ensures honest { D.is_honest device.old ↔ D.is_honest device.new }
-    ensures sectors { D.sectors device.new ≡ D.sectors device.old }
-    ensures failures { Blames (result ≡ Err PagesError.Device) (D.failures device.old) (D.failures device.new) }
-    ensures state { D.is_honest device.old → D.state device.new ≡ D.state device.old }
-    ensures history { D.is_honest device.old → D.history device.new ≡ D.history device.old }
+    ensures only { OnlyReads D.Device (result ≡ Err PagesError.Device) device.old device.new }
     ensures cause { OnErr result (result ≡ Err PagesError.Device) }
 
     // The page is that of the table, where the cache's pages are.

@@ -2,6 +2,7 @@
 ghost use Rattle.std.specs.Prelude.{◌≡◌, ◌⊎◌, ◌≤◌, ◌<◌, ◌↔◌, [], Err, length, IfOk, IfErr, OnOk, OnErr};
 ghost use Rattle.station.specs.State.{synced};
 ghost use Rattle.station.specs.History.{Through};
+ghost use Rattle.station.specs.Calls.{OnlyReads};
 ghost use Rattle.station.specs.Failures.{Blames};
 ghost use Rattle.station.specs.Opening.{Opening};
 ghost use Rattle.pages.specs.Layout.{IsForeign};
@@ -33,11 +34,7 @@ fn fresh_use(alloc: Global, sectors: usize) -> Result<Vec<bool>, AllocError>
 
 /// The volume that a device has. Nothing is written.
 pub(crate) fn read_volume<D: Device>(alloc: Global, device: &mut D) -> Result<VolumeMap, PagesError>
-    ensures honest { D.is_honest device.old ↔ D.is_honest device.new }
-    ensures sectors { D.sectors device.new ≡ D.sectors device.old }
-    ensures failures { Blames (result ≡ Err PagesError.Device) (D.failures device.old) (D.failures device.new) }
-    ensures state { D.is_honest device.old → D.state device.new ≡ D.state device.old }
-    ensures history { D.is_honest device.old → D.history device.new ≡ D.history device.old }
+    ensures only { OnlyReads D.Device (result ≡ Err PagesError.Device) device.old device.new }
     ensures reads { D.is_honest device.old → IfOk result (λ volume. Reads (D.state device.old).disk.present (volume_of volume)) }
     ensures sound { IfOk result (λ volume. IsSound volume) }
     ensures there { IfOk result (λ volume. volume.sectors ≤ D.sectors device.old) }

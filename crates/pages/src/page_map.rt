@@ -3,6 +3,7 @@ ghost use Rattle.std.specs.Prelude.{◌≡◌, ◌⊎◌, ◌+◌, ◌^◌, is_s
 ghost use Rattle.station.specs.Disk.{Sector};
 ghost use Rattle.station.specs.State.{synced, SameConsole};
 ghost use Rattle.station.specs.History.{Through};
+ghost use Rattle.station.specs.Calls.{OnlyReads};
 ghost use Rattle.station.specs.Failures.{Blames};
 ghost use Rattle.station.specs.Opening.{Opening};
 ghost use Rattle.station.specs.Blocks.{CrashLeaves};
@@ -201,11 +202,7 @@ impl PageMap {
     ) -> Result<Option<[u8; 4096]>, PagesError>
         requires open { IsOpen self.old }
         requires sectors { sectors_of self.old ≤ D.sectors device.old }
-        ensures honest { D.is_honest device.old ↔ D.is_honest device.new }
-        ensures sectors { D.sectors device.new ≡ D.sectors device.old }
-        ensures failures { Blames (result ≡ Err PagesError.Device) (D.failures device.old) (D.failures device.new) }
-        ensures state { D.is_honest device.old → D.state device.new ≡ D.state device.old }
-        ensures history { D.is_honest device.old → D.history device.new ≡ D.history device.old }
+        ensures only { OnlyReads D.Device (result ≡ Err PagesError.Device) device.old device.new }
         ensures page { D.is_honest device.old → Agrees self.old (D.state device.old).disk → IfOk result (λ bytes. bytes ≡ page_of (map_now self.old (D.state device.old).disk.present) page) }
 
         // The map stays, and what is known of it. A refusal changes nothing.

@@ -1,7 +1,7 @@
 //! The maps of a volume are read.
 ghost use Rattle.std.specs.Prelude.{◌≡◌, ◌<◌, ◌*◌, ◌↔◌, ℕ, Err, length, slice_index, slice_index_or, Option, None, Ok, IfOk, OnErr};
 ghost use Rattle.std.specs.List.{All};
-ghost use Rattle.station.specs.Failures.{Blames};
+ghost use Rattle.station.specs.Calls.{OnlyReads};
 ghost use Rattle.pages.specs.Image.{map_at, map_part, pages_in};
 ghost use Rattle.pages.specs.Errors.{IsReadError};
 
@@ -13,11 +13,7 @@ use std::alloc::Global;
 /// The entries of one map sector.
 pub(crate) fn read_map<D: Device>(device: &mut D, sector: u32) -> Result<[u32; 1024], PagesError>
     requires { sector < D.sectors device.old }
-    ensures honest { D.is_honest device.old ↔ D.is_honest device.new }
-    ensures sectors { D.sectors device.new ≡ D.sectors device.old }
-    ensures failures { Blames (result ≡ Err PagesError.Device) (D.failures device.old) (D.failures device.new) }
-    ensures state { D.is_honest device.old → D.state device.new ≡ D.state device.old }
-    ensures history { D.is_honest device.old → D.history device.new ≡ D.history device.old }
+    ensures only { OnlyReads D.Device (result ≡ Err PagesError.Device) device.old device.new }
     ensures count { IfOk result (λ entries. length entries ≡ 1024) }
     ensures entries { D.is_honest device.old → IfOk result (λ entries. entries ≡ map_at (D.state device.old).disk.present sector) }
     ensures cause { IsReadError result }
@@ -37,11 +33,7 @@ pub(crate) fn read_table<D: Device>(
     maps: &[u32],
 ) -> Result<Vec<u32>, PagesError>
     requires { All (λ m. m < D.sectors device.old) maps.now }
-    ensures honest { D.is_honest device.old ↔ D.is_honest device.new }
-    ensures sectors { D.sectors device.new ≡ D.sectors device.old }
-    ensures failures { Blames (result ≡ Err PagesError.Device) (D.failures device.old) (D.failures device.new) }
-    ensures state { D.is_honest device.old → D.state device.new ≡ D.state device.old }
-    ensures history { D.is_honest device.old → D.history device.new ≡ D.history device.old }
+    ensures only { OnlyReads D.Device (result ≡ Err PagesError.Device) device.old device.new }
     ensures count { IfOk result (λ table. length table.items ≡ 1024 * length maps.now) }
     ensures entries { D.is_honest device.old → IfOk result (λ table. (i : ℕ) → i < length maps.now → map_at (D.state device.old).disk.present (slice_index maps.now i) ≡ map_part table.items i) }
     ensures cause { IsReadError result }
@@ -61,11 +53,7 @@ pub(crate) fn read_page<D: Device>(
     page: u32,
 ) -> Result<Option<[u8; 4096]>, PagesError>
     requires { All (λ s. s < D.sectors device.old) table.now }
-    ensures honest { D.is_honest device.old ↔ D.is_honest device.new }
-    ensures sectors { D.sectors device.new ≡ D.sectors device.old }
-    ensures failures { Blames (result ≡ Err PagesError.Device) (D.failures device.old) (D.failures device.new) }
-    ensures state { D.is_honest device.old → D.state device.new ≡ D.state device.old }
-    ensures history { D.is_honest device.old → D.history device.new ≡ D.history device.old }
+    ensures only { OnlyReads D.Device (result ≡ Err PagesError.Device) device.old device.new }
     ensures page { D.is_honest device.old → IfOk result (λ bytes. bytes ≡ slice_index_or (pages_in (D.state device.old).disk.present table.now) page None) }
     ensures absent { result ≡ Ok None → device.new ≡ device.old }
     ensures cause { OnErr result (result ≡ Err PagesError.Device) }

@@ -1,7 +1,7 @@
 //! The newest root of a volume of pages.
 ghost use Rattle.std.specs.Prelude.{◌≡◌, ◌≤◌, ◌↔◌, ◌==◌, Err, length, IfOk, IfErr, option_map, IfSome, Option, Some, None, if◌then◌else◌};
 ghost use Rattle.std.specs.List.{list_all};
-ghost use Rattle.station.specs.Failures.{Blames};
+ghost use Rattle.station.specs.Calls.{OnlyReads};
 ghost use Rattle.pages.specs.Layout.{words, map_count, newest, volume_root, beside, VolumeRoot};
 ghost use Rattle.pages.specs.Found.{found_root, IsFoundWithin};
 ghost use Rattle.pages.specs.Errors.{Refuses, IsOpenError};
@@ -81,11 +81,7 @@ fn is_sound_beside(alloc: Global, older: &Option<Root>) -> Result<bool, AllocErr
 
 /// The newest root of a device.
 pub(crate) fn read_root<D: Device>(alloc: Global, device: &mut D) -> Result<FoundRoot, PagesError>
-    ensures honest { D.is_honest device.old ↔ D.is_honest device.new }
-    ensures sectors { D.sectors device.new ≡ D.sectors device.old }
-    ensures failures { Blames (result ≡ Err PagesError.Device) (D.failures device.old) (D.failures device.new) }
-    ensures state { D.is_honest device.old → D.state device.new ≡ D.state device.old }
-    ensures history { D.is_honest device.old → D.history device.new ≡ D.history device.old }
+    ensures only { OnlyReads D.Device (result ≡ Err PagesError.Device) device.old device.new }
     ensures root { D.is_honest device.old → IfOk result (λ root. newest (D.state device.old).disk.present ≡ Some (found_root root)) }
     ensures within { IfOk result (λ root. IsFoundWithin (D.sectors device.old) root) }
     ensures refused { D.is_honest device.old → IfErr result (λ error. Refuses (D.state device.old).disk.present error) }

@@ -12,8 +12,8 @@ use Rattle.picture.specs.declared.symbol.Symbol.{Symbol}
 use Rattle.picture.specs.declared.symbol.Symbol.TheVariants as s
 use Rattle.picture.specs.declared.symbol.Suppression.{Suppression}
 use Rattle.picture.specs.declared.symbol.Suppression.TheVariants as z
-use Rattle.picture.specs.declared.fault.PictureFault.{PictureFault}
-use Rattle.picture.specs.declared.fault.PictureFault.TheVariants as faults
+use Rattle.picture.specs.declared.fault.PictureError.{PictureError}
+use Rattle.picture.specs.declared.fault.PictureError.TheVariants as errors
 use Rattle.picture.specs.Faults.{fault_of, or_no_form}
 use Rattle.picture.specs.Symbols.{has, width, is_nine, is_by, is_floating, least}
 use Rattle.picture.specs.Runs.{from_first, occurrences, size_of, total}
@@ -72,15 +72,15 @@ found_is : (o : Option Description) (picture : Description) → or_no_form o ≡
 found_is None picture e = cc
 found_is (Some p) picture e = cc
 
-pub answer_form : (text : List ℕ) (result : Result Description PictureFault) → Gives (λ p. p) fault_of result (or_no_form (picture_of text)) → IfOk result (λ picture. IsPicture text picture)
+pub answer_form : (text : List ℕ) (result : Result Description PictureError) → Gives (λ p. p) fault_of result (or_no_form (picture_of text)) → IfOk result (λ picture. IsPicture text picture)
 answer_form text (Ok picture) g = picture_found text picture (found_is (picture_of text) picture g)
 answer_form text (Err e) g = tt
 
-pub answer_only : (text : List ℕ) (result : Result Description PictureFault) → Gives (λ p. p) fault_of result (or_no_form (picture_of text))
+pub answer_only : (text : List ℕ) (result : Result Description PictureError) → Gives (λ p. p) fault_of result (or_no_form (picture_of text))
     → (picture : Description) → IsPicture text picture → IsAnswer picture result
 answer_only text (Ok answer) g picture h = let e = picture_answered text picture h in let f = found_is (picture_of text) answer g in some_is (sym f ∙ e)
-answer_only text (Err faults.Memory) g picture h = tt
-answer_only text (Err faults.NoForm) g picture h = let e = ap or_no_form (picture_answered text picture h) in cc
+answer_only text (Err errors.Memory) g picture h = tt
+answer_only text (Err (errors.Refused fault)) g picture h = let e = ap or_no_form (picture_answered text picture h) in cc
 
 -- ---- bounds
 
@@ -237,17 +237,17 @@ from_answered runs picture h same =
     let is : of_form picture.runs ≡ Some picture = sym (ap of_runs read) ∙ picture_answered h.0 picture h.1 in
     rw fits (ap of_form (sym same) ∙ is)
 
-pub from_form : (runs : List Run) (result : Result Description PictureFault) → Gives (λ p. p) fault_of result (or_no_form (picture_from runs))
+pub from_form : (runs : List Run) (result : Result Description PictureError) → Gives (λ p. p) fault_of result (or_no_form (picture_from runs))
     → IfOk result (IsOfRuns runs)
 from_form runs (Ok picture) g = from_found runs picture (found_is (picture_from runs) picture g)
 from_form runs (Err e) g = tt
 
-pub from_only : (runs : List Run) (result : Result Description PictureFault) → Gives (λ p. p) fault_of result (or_no_form (picture_from runs))
+pub from_only : (runs : List Run) (result : Result Description PictureError) → Gives (λ p. p) fault_of result (or_no_form (picture_from runs))
     → (picture : Description) → IsOfRuns runs picture → IsAnswer picture result
 from_only runs (Ok answer) g picture h =
     let e = from_answered runs picture h.read h.same in let f = found_is (picture_from runs) answer g in some_is (sym f ∙ e)
-from_only runs (Err faults.Memory) g picture h = tt
-from_only runs (Err faults.NoForm) g picture h = let e = ap or_no_form (from_answered runs picture h.read h.same) in cc
+from_only runs (Err errors.Memory) g picture h = tt
+from_only runs (Err (errors.Refused fault)) g picture h = let e = ap or_no_form (from_answered runs picture h.read h.same) in cc
 
 pub any_bounded : (picture : Description) → IsAnyPicture picture → IsBounded picture
 any_bounded picture h = bounds h.0 picture h.1

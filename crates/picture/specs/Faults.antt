@@ -1,16 +1,19 @@
--- The fault that an error of this crate stands for.
+-- The faults of pictures.
 use Rattle.std.specs.Prelude.{ℕ, Option, Some, None, Result, Ok, Err}
 use Rattle.picture.specs.declared.fault.PictureFault.{PictureFault}
-use Rattle.picture.specs.declared.fault.PictureFault.TheVariants.{Memory, NoForm}
+use Rattle.picture.specs.declared.fault.PictureFault.TheVariants.{NoForm}
+use Rattle.picture.specs.declared.fault.PictureError.{PictureError}
+use Rattle.picture.specs.declared.fault.PictureError.TheVariants.{Memory, Refused}
 
-abbrev pub no_form : ℕ
-no_form = 20
+abbrev pub number_of : PictureFault → ℕ
+number_of NoForm = 20
 
-abbrev pub fault_of : PictureFault → Option ℕ
+-- the fault of an error, or none where memory ran out
+abbrev pub fault_of : PictureError → Option PictureFault
 fault_of Memory = None
-fault_of NoForm = Some no_form
+fault_of (Refused fault) = Some fault
 
 -- What has been found, or the fault of a picture without a form.
-abbrev pub or_no_form : {A : Type 0} → Option A → Result A ℕ
-or_no_form None = Err no_form
+abbrev pub or_no_form : {A : Type 0} → Option A → Result A PictureFault
+or_no_form None = Err NoForm
 or_no_form (Some a) = Ok a

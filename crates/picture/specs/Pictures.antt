@@ -7,8 +7,8 @@ use Rattle.picture.specs.declared.class.Class.TheVariants as c
 use Rattle.picture.specs.declared.symbol.Suppression.{Suppression}
 use Rattle.picture.specs.declared.symbol.Suppression.TheVariants as z
 use Rattle.picture.specs.declared.description.Description.{Description}
-use Rattle.picture.specs.declared.fault.PictureFault.{PictureFault}
-use Rattle.picture.specs.declared.fault.PictureFault.TheVariants as faults
+use Rattle.picture.specs.declared.fault.PictureError.{PictureError}
+use Rattle.picture.specs.declared.fault.PictureError.TheVariants as errors
 use Rattle.picture.specs.Runs.{from_first, occurrences, size_of, total}
 use Rattle.picture.specs.Forms.{digit_places, most_digits, most_places, suppression_of}
 use Rattle.picture.specs.Categories.{stands, HasForm}
@@ -104,7 +104,7 @@ unfoldable pub picture_from : List Run → Option Description
 picture_from runs = if are_spelled runs then of_form runs else None
 
 -- What may be answered where that is the picture.
-abbrev pub IsAnswer : {A : Type 0} → A → Result A PictureFault → Type 0
+abbrev pub IsAnswer : {A : Type 0} → A → Result A PictureError → Type 0
 IsAnswer picture (Ok answer) = answer ≡ picture
-IsAnswer picture (Err faults.Memory) = Unit {0}
-IsAnswer picture (Err faults.NoForm) = ⊥
+IsAnswer picture (Err errors.Memory) = Unit {0}
+IsAnswer picture (Err (errors.Refused fault)) = ⊥

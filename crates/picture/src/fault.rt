@@ -4,50 +4,53 @@ ghost use Rattle.std.specs.Prelude.{◌≡◌};
 ghost use Rattle.picture.specs.Faults as spec;
 
 use std::alloc::{AllocError, AllocFailed};
+use thiserror::Error;
 
-/// The number of the fault "this picture has no form".
-pub const NO_FORM: u8 = 20;
-
-/// Why no picture was answered.
-#[derive(Clone, Copy, Debug, PartialEq, Eq, thiserror::Error)]
+/// What is wrong with a picture.
+#[derive(Clone, Copy, Debug, PartialEq, Eq)]
 pub enum PictureFault {
-    #[error("out of memory")]
-    Memory,
-    /// Fault 20: the text has no form.
-    #[error("fault 20: this picture has no form")]
+    /// The text has no form.
     NoForm,
 }
 
 impl PictureFault {
-    /// The number of the fault; none for want of memory.
-    pub fn number(&self) -> Option<u8>
-        ensures { result ≡ spec.fault_of self.now }
+    /// The number that the product prints.
+    pub fn number(self) -> u8
+        ensures { result ≡ spec.number_of self }
     {
         match self {
-            PictureFault::Memory => None,
-            PictureFault::NoForm => Some(NO_FORM),
+            PictureFault::NoForm => 20,
         }
     }
 }
 
-impl From<AllocError> for PictureFault {
+/// Why no picture was answered.
+#[derive(Clone, Copy, Debug, PartialEq, Eq, Error)]
+pub enum PictureError {
+    #[error("out of memory")]
+    Memory,
+    #[error("this is no picture")]
+    Refused(PictureFault),
+}
+
+impl From<AllocError> for PictureError {
     ghost use Rattle.std.specs.Prelude.{◌≡◌};
-    ghost use Rattle.picture.specs.declared.fault.PictureFault.TheVariants.{Memory};
+    ghost use Rattle.picture.specs.declared.fault.PictureError.TheVariants.{Memory};
 
     ghost from_gives = { λ _ e. e ≡ Memory };
 
-    fn from(_: AllocError) -> PictureFault {
-        PictureFault::Memory
+    fn from(_: AllocError) -> PictureError {
+        PictureError::Memory
     }
 }
 
-impl<T: Drop> From<AllocFailed<T>> for PictureFault {
+impl<T: Drop> From<AllocFailed<T>> for PictureError {
     ghost use Rattle.std.specs.Prelude.{◌≡◌};
-    ghost use Rattle.picture.specs.declared.fault.PictureFault.TheVariants.{Memory};
+    ghost use Rattle.picture.specs.declared.fault.PictureError.TheVariants.{Memory};
 
     ghost from_gives = { λ _ e. e ≡ Memory };
 
-    fn from(_: AllocFailed<T>) -> PictureFault {
-        PictureFault::Memory
+    fn from(_: AllocFailed<T>) -> PictureError {
+        PictureError::Memory
     }
 }

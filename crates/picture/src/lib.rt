@@ -17,7 +17,7 @@ mod text;
 mod written;
 
 pub use category::Category;
-pub use fault::PictureFault;
+pub use fault::{PictureError, PictureFault};
 pub use form::{any_division, bounds, one_form, one_spelling};
 pub use picture::Picture;
 pub use place::{Place, Region};

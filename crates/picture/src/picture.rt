@@ -12,7 +12,7 @@ ghost use Rattle.picture.specs.Spelling.{spelling_of};
 
 use crate::category::{Category, category_of};
 use crate::description::{Description, described};
-use crate::fault::PictureFault;
+use crate::fault::{PictureError, PictureFault};
 use crate::place::{Place, Region};
 use crate::run::Run;
 use crate::spelling::are_spelled;
@@ -43,19 +43,19 @@ impl Model for Picture {
 
 /// The picture of these runs.
 #[tactic(auto, unfolding(crate::specs::Pictures::of_form))]
-fn of_form(alloc: Global, runs: Items<Run>) -> Result<Description, PictureFault>
+fn of_form(alloc: Global, runs: Items<Run>) -> Result<Description, PictureError>
     requires { 2 * total runs < 2 ^ 128 }
     ensures { Gives (λ description. description) fault_of result (or_no_form (spec.of_form runs)) }
 {
     match category_of(runs.as_slice()) {
         Some(category) => Ok(described(alloc, category, runs)?),
-        None => Err(PictureFault::NoForm),
+        None => Err(PictureError::Refused(PictureFault::NoForm)),
     }
 }
 
 /// The picture that the text is.
 #[tactic(auto, unfolding(crate::specs::Pictures::picture_of))]
-fn picture_of(alloc: Global, text: &[u8]) -> Result<Description, PictureFault>
+fn picture_of(alloc: Global, text: &[u8]) -> Result<Description, PictureError>
     ensures { Gives (λ description. description) fault_of result (or_no_form (spec.picture_of text.now)) }
 {
     let runs = runs_of(alloc, text)?;
@@ -64,18 +64,18 @@ fn picture_of(alloc: Global, text: &[u8]) -> Result<Description, PictureFault>
 
 /// The picture of the runs.
 #[tactic(auto, unfolding(crate::specs::Pictures::picture_from))]
-fn picture_from(alloc: Global, runs: &[Run]) -> Result<Description, PictureFault>
+fn picture_from(alloc: Global, runs: &[Run]) -> Result<Description, PictureError>
     ensures { Gives (λ description. description) fault_of result (or_no_form (spec.picture_from runs.now)) }
 {
     if !are_spelled(runs) {
-        return Err(PictureFault::NoForm);
+        return Err(PictureError::Refused(PictureFault::NoForm));
     }
     let runs = Items::from_slice(alloc, runs)?;
     of_form(alloc, runs)
 }
 
 /// The picture that the text is, and the only one.
-fn read_text(alloc: Global, text: &[u8]) -> Result<Description, PictureFault>
+fn read_text(alloc: Global, text: &[u8]) -> Result<Description, PictureError>
     ensures form { IfOk result (λ picture. IsPicture text.now picture) }
     ensures only { (picture : Description) → IsPicture text.now picture → IsAnswer picture result }
     ensures exact { Gives (λ description. description) fault_of result (or_no_form (spec.picture_of text.now)) }
@@ -84,7 +84,7 @@ fn read_text(alloc: Global, text: &[u8]) -> Result<Description, PictureFault>
 }
 
 /// The picture with these runs, and the only one.
-fn read_runs(alloc: Global, runs: &[Run]) -> Result<Description, PictureFault>
+fn read_runs(alloc: Global, runs: &[Run]) -> Result<Description, PictureError>
     ensures form { IfOk result (λ picture. IsOfRuns runs.now picture) }
     ensures only { (picture : Description) → IsOfRuns runs.now picture → IsAnswer picture result }
     ensures exact { Gives (λ description. description) fault_of result (or_no_form (spec.picture_from runs.now)) }
@@ -94,7 +94,7 @@ fn read_runs(alloc: Global, runs: &[Run]) -> Result<Description, PictureFault>
 
 impl Picture {
     /// Reads the text of a picture: the characters after PICTURE, in either case. Fault 20 where it has no form.
-    pub fn read(alloc: Global, text: &[u8]) -> Result<Picture, PictureFault>
+    pub fn read(alloc: Global, text: &[u8]) -> Result<Picture, PictureError>
         // What is answered is the picture of the text's form.
         ensures form { IfOk result (λ picture. IsPicture text.now picture) }
         // A text with a form is answered with its picture, unless memory runs out.
@@ -106,7 +106,7 @@ impl Picture {
     }
 
     /// The picture with these runs, as an image holds them. Fault 20 where they are no picture's.
-    pub fn from_runs(alloc: Global, runs: &[Run]) -> Result<Picture, PictureFault>
+    pub fn from_runs(alloc: Global, runs: &[Run]) -> Result<Picture, PictureError>
         // What is answered is a picture, and its runs are these.
         ensures form { IfOk result (λ picture. IsOfRuns runs.now picture) }
         // The runs of a picture are answered with it, unless memory runs out.

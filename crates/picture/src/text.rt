@@ -7,7 +7,7 @@ ghost use Rattle.picture.specs.Faults.{fault_of, or_no_form};
 ghost use Rattle.picture.specs.Runs.{total};
 ghost use Rattle.picture.specs.Text as spec;
 
-use crate::fault::PictureFault;
+use crate::fault::{PictureError, PictureFault};
 use crate::run::Run;
 use crate::symbol::Symbol;
 use sqlite_items::Items;
@@ -130,12 +130,12 @@ fn run_at(text: &[u8]) -> Option<(Run, &[u8])>
 
 /// The runs that the text writes.
 #[tactic(auto, unfolding(crate::specs::Text::runs_of, crate::specs::Text::runs_from))]
-pub fn runs_of(alloc: Global, text: &[u8]) -> Result<Items<Run>, PictureFault>
+pub fn runs_of(alloc: Global, text: &[u8]) -> Result<Items<Run>, PictureError>
     ensures value { Gives (λ runs. runs) fault_of result (or_no_form (spec.runs_of text.now)) }
     ensures bound { IfOk result (λ runs. 2 * total runs < 2 ^ 128) }
 {
     if text.len() > MOST_CHARACTERS {
-        return Err(PictureFault::NoForm);
+        return Err(PictureError::Refused(PictureFault::NoForm));
     }
     let mut runs = Items::new(alloc);
     let mut rest = text;
@@ -144,7 +144,7 @@ pub fn runs_of(alloc: Global, text: &[u8]) -> Result<Items<Run>, PictureFault>
             return Ok(runs);
         }
         let Some((run, more)) = run_at(rest) else {
-            return Err(PictureFault::NoForm);
+            return Err(PictureError::Refused(PictureFault::NoForm));
         };
         runs.push(run)?;
         rest = more;
@@ -152,6 +152,6 @@ pub fn runs_of(alloc: Global, text: &[u8]) -> Result<Items<Run>, PictureFault>
     if rest.is_empty() {
         Ok(runs)
     } else {
-        Err(PictureFault::NoForm)
+        Err(PictureError::Refused(PictureFault::NoForm))
     }
 }

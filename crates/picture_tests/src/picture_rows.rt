@@ -1,6 +1,6 @@
 //! Rows of `Picture::read`: categories, sizes, digit places, scales and signs, and texts without a form.
 use crate::asserted::{same, same_in};
-use picture::{Category, Picture, PictureFault, Place, Suppression};
+use picture::{Category, Picture, PictureError, PictureFault, Place, Suppression};
 use std::alloc::Global;
 use std::process::Abort;
 use std::test::Fail;
@@ -120,14 +120,12 @@ const NO_FORM: [&str; 38] = [
 
 #[test]
 fn texts_without_a_form(rt: HostRuntime) -> Result<(), Fail> {
+    let refused = PictureError::Refused(PictureFault::NoForm);
     for text in NO_FORM.iter() {
-        let number = match Picture::read(rt.alloc(), text.as_bytes()) {
-            Ok(_) => Some(0),
-            Err(fault) => fault.number(),
-        };
-        same_in(&rt, &text, number, Some(20));
+        let error = Picture::read(rt.alloc(), text.as_bytes()).err();
+        same_in(&rt, &text, error, Some(refused));
     }
-    same(&rt, PictureFault::NoForm.number(), Some(20));
+    same(&rt, PictureFault::NoForm.number(), 20);
     Ok(())
 }
 

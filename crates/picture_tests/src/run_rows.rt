@@ -1,6 +1,6 @@
 //! Rows of `Picture::from_runs`: the runs of each text give its picture again, and runs that no text spells are refused.
 use crate::asserted::{same, same_in};
-use picture::{Category, Picture, PictureFault, Run, Symbol};
+use picture::{Category, Picture, PictureError, PictureFault, Run, Symbol};
 use std::alloc::Global;
 use std::process::Abort;
 use std::test::Fail;
@@ -49,22 +49,19 @@ fn a_clone_is_the_picture(rt: HostRuntime) -> Result<(), Fail> {
     Ok(())
 }
 
-// The fault that runs are refused with, or the category of their picture.
-fn answered(alloc: Global, runs: &[Run]) -> Result<Category, Option<u8>> {
-    match Picture::from_runs(alloc, runs) {
-        Ok(picture) => Ok(picture.category()),
-        Err(fault) => Err(fault.number()),
-    }
+// The category of the picture of these runs, or why there is none.
+fn answered(alloc: Global, runs: &[Run]) -> Result<Category, PictureError> {
+    Ok(Picture::from_runs(alloc, runs)?.category())
 }
 
 // The answer for one run, and for that run between two others that alone have a form.
-fn answered_one(alloc: Global, symbol: Symbol, count: u128) -> Result<Category, Option<u8>> {
+fn answered_one(alloc: Global, symbol: Symbol, count: u128) -> Result<Category, PictureError> {
     answered(alloc, &[Run { symbol, count }])
 }
 
 #[test]
 fn runs_that_no_text_spells(rt: HostRuntime) {
-    let refused = Err(Some(20));
+    let refused = Err(PictureError::Refused(PictureFault::NoForm));
     let most = 999_999_999_999_999_999_999_999_999;
     same(&rt, answered(rt.alloc(), &[]), refused);
     same(&rt, answered_one(rt.alloc(), Symbol::X, 0), refused);
@@ -81,7 +78,6 @@ fn runs_that_no_text_spells(rt: HostRuntime) {
     );
     same(&rt, answered_one(rt.alloc(), Symbol::Nine, 19), refused);
     same(&rt, answered_one(rt.alloc(), Symbol::Cr, 1), refused);
-    same(&rt, PictureFault::Memory.number(), None);
 }
 
 // Runs of so many single symbols.
@@ -97,7 +93,11 @@ fn thirty_characters_at_the_most(rt: HostRuntime) {
         answered(rt.alloc(), &[SINGLE; 30]),
         Ok(Category::Alphanumeric),
     );
-    same(&rt, answered(rt.alloc(), &[SINGLE; 31]), Err(Some(20)));
+    same(
+        &rt,
+        answered(rt.alloc(), &[SINGLE; 31]),
+        Err(PictureError::Refused(PictureFault::NoForm)),
+    );
     let nine = Run {
         symbol: Symbol::Nine,
         count: 1,
@@ -115,7 +115,11 @@ fn thirty_characters_at_the_most(rt: HostRuntime) {
         answered(rt.alloc(), &[nine, credit]),
         Ok(Category::NumericEdited),
     );
-    same(&rt, answered(rt.alloc(), &[nine, twice]), Err(Some(20)));
+    same(
+        &rt,
+        answered(rt.alloc(), &[nine, twice]),
+        Err(PictureError::Refused(PictureFault::NoForm)),
+    );
 }
 
 // A text, and how its picture is written.

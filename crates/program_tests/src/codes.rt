@@ -18,17 +18,17 @@ const DAY: [u8; 6] = *b"000000";
 /// No run of these rows needs more.
 const ENOUGH: u64 = 1000;
 
-fn place(line: u32) -> Place {
+pub(crate) fn place(line: u32) -> Place {
     Place { line, column: 12 }
 }
 
-fn list<T: Drop>(alloc: Global, item: T) -> Result<Items<T>, AllocError> {
+pub(crate) fn list<T: Drop>(alloc: Global, item: T) -> Result<Items<T>, AllocError> {
     let mut items = Items::new(alloc);
     items.push(item)?;
     Ok(items)
 }
 
-fn text(alloc: Global, line: u32, bytes: &[u8]) -> Result<Literal, AllocError> {
+pub(crate) fn text(alloc: Global, line: u32, bytes: &[u8]) -> Result<Literal, AllocError> {
     Ok(Literal {
         value: LiteralValue::Nonnumeric(Items::from_slice(alloc, bytes)?),
         place: place(line),
@@ -46,7 +46,7 @@ fn number(alloc: Global, sign: Sign, whole: &[u8], decimals: &[u8]) -> Result<Li
     })
 }
 
-fn display(alloc: Global, line: u32, bytes: &[u8]) -> Result<Statement, AllocError> {
+pub(crate) fn display(alloc: Global, line: u32, bytes: &[u8]) -> Result<Statement, AllocError> {
     Ok(Statement {
         place: place(line),
         verb: Verb::Text(Text::Display {
@@ -57,7 +57,7 @@ fn display(alloc: Global, line: u32, bytes: &[u8]) -> Result<Statement, AllocErr
 }
 
 /// DISPLAY with NO ADVANCING.
-fn unended(operands: Items<Literal>) -> Statement {
+pub(crate) fn unended(operands: Items<Literal>) -> Statement {
     Statement {
         place: place(5),
         verb: Verb::Text(Text::Display {
@@ -75,7 +75,7 @@ fn stop_run(line: u32) -> Statement {
 }
 
 /// One paragraph of one sentence.
-fn program(alloc: Global, statements: Items<Statement>) -> Result<Program, AllocError> {
+pub(crate) fn program(alloc: Global, statements: Items<Statement>) -> Result<Program, AllocError> {
     let paragraph = Paragraph {
         name: None,
         sentences: list(alloc, Sentence { statements })?,
@@ -89,6 +89,7 @@ fn program(alloc: Global, statements: Items<Statement>) -> Result<Program, Alloc
             characters: Items::from_slice(alloc, b"HELLO")?,
             place: place(2),
         },
+        storage: Items::new(alloc),
         sections: list(alloc, section)?,
     })
 }
@@ -109,12 +110,12 @@ fn three_shows(alloc: Global) -> Result<Code, AllocError> {
     generate(alloc, &program(alloc, statements)?)
 }
 
-fn new_station(alloc: Global) -> Result<MemoryStation, AllocError> {
+pub(crate) fn new_station(alloc: Global) -> Result<MemoryStation, AllocError> {
     MemoryStation::new(alloc, Vec::new(alloc), Vec::new(alloc))
 }
 
 /// Runs code on a station, and answers its end and all that the station shows.
-fn run_on(
+pub(crate) fn run_on(
     alloc: Global,
     station: &mut MemoryStation,
     code: Code,
@@ -125,7 +126,7 @@ fn run_on(
     Ok((ended, station.shown()?))
 }
 
-fn run(alloc: Global, code: Code, budget: u64) -> Result<(Ended, Vec<u8>), Fail> {
+pub(crate) fn run(alloc: Global, code: Code, budget: u64) -> Result<(Ended, Vec<u8>), Fail> {
     run_on(alloc, &mut new_station(alloc)?, code, budget)
 }
 
@@ -315,7 +316,11 @@ fn an_image_with_one_byte_changed(rt: HostRuntime) -> Result<(), Fail> {
     Ok(())
 }
 
-fn code(alloc: Global, instructions: &[Instruction], starts: &[usize]) -> Result<Code, AllocError> {
+pub(crate) fn code(
+    alloc: Global,
+    instructions: &[Instruction],
+    starts: &[usize],
+) -> Result<Code, AllocError> {
     Ok(Code {
         literals: list(alloc, Items::from_slice(alloc, b"A")?)?,
         starts: Items::from_slice(alloc, starts)?,
@@ -323,7 +328,7 @@ fn code(alloc: Global, instructions: &[Instruction], starts: &[usize]) -> Result
     })
 }
 
-fn verdict(code: Code) -> u8 {
+pub(crate) fn verdict(code: Code) -> u8 {
     match verify(code) {
         Ok(_) => 0,
         Err(fault) => fault.number(),
@@ -377,7 +382,7 @@ fn bytes_that_are_no_image(rt: HostRuntime) -> Result<(), Fail> {
     // an entry in the table of areas
     same(&rt, fault(alloc, b"COBIMG01\0\0\0\0\0\0\0\x01"), 72);
     // an instruction of an unknown kind
-    for kind in [0, 4, 255] {
+    for kind in [0, 6, 255] {
         let mut image = hello_image(alloc)?;
         image.pop();
         image.push(kind)?;

@@ -8,3 +8,5 @@ mod asserted;
 mod codes;
 #[cfg(test)]
 mod trees;
+#[cfg(test)]
+mod turns;

@@ -3,7 +3,7 @@
 use crate::asserted::{same, same_in};
 use divisions::{ParseError, parse};
 use source_lines::logical;
-use source_tree::{Ending, Performed, Performing, Program, Statement, Text, Turns, Verb};
+use source_tree::{Ending, Name, Performed, Performing, Program, Statement, Text, Turns, Verb};
 use std::alloc::{AllocError, Global};
 use std::test::Fail;
 use tokens::scan;
@@ -12,7 +12,7 @@ const HEADER: &str =
     "       IDENTIFICATION DIVISION.\n       PROGRAM-ID. HELLO.\n       PROCEDURE DIVISION.\n";
 
 /// What comes after the three lines of `HEADER`, and its tree as `shape` writes it.
-const TREES: [(&str, &str); 20] = [
+const TREES: [(&str, &str); 30] = [
     // HELLO in its six lines, with END PROGRAM, and with another name there
     (
         "       MAIN-PARA.\n           DISPLAY \"HELLO\".\n           STOP RUN.\n",
@@ -92,10 +92,50 @@ const TREES: [(&str, &str); 20] = [
         "           PERFORM DISPLAY 1 NO ADVANCING END-PERFORM.\n",
         "HELLO|.P(D1-@4:20)@4:12",
     ),
+    // PERFORM integer TIMES, with 0, with zeros in front, and in one another
+    (
+        "           PERFORM 2 TIMES DISPLAY 1 DISPLAY 2 END-PERFORM STOP RUN.\n",
+        "HELLO|.P2(D1+@4:28D1+@4:38)@4:12S@4:60",
+    ),
+    (
+        "           PERFORM 0 TIMES CONTINUE END-PERFORM.\n",
+        "HELLO|.P0(C@4:28)@4:12",
+    ),
+    (
+        "           perform 007 times continue end-perform.\n",
+        "HELLO|.P007(C@4:30)@4:12",
+    ),
+    (
+        "           PERFORM 2 TIMES PERFORM 3 TIMES CONTINUE END-PERFORM\n           PERFORM CONTINUE END-PERFORM END-PERFORM CONTINUE.\n",
+        "HELLO|.P2(P3(C@4:44)@4:28P(C@5:20)@5:12)@4:12C@5:53",
+    ),
+    // sections, one of them with nothing in it, and sentences before the first
+    ("       A SECTION.\n", "HELLO#A@4:8"),
+    (
+        "       A SECTION.\n           DISPLAY 1.\n       B.\n           STOP RUN.\n",
+        "HELLO#A@4:8|.D1+@5:12|B@6:8.S@7:12",
+    ),
+    (
+        "       A SECTION.\n       B.\n       C SECTION.\n       D.\n           STOP RUN.\n",
+        "HELLO#A@4:8|B@5:8#C@6:8|D@7:8.S@8:12",
+    ),
+    (
+        "           DISPLAY 1.\n       A SECTION.\n           STOP RUN.\n",
+        "HELLO|.D1+@4:12#A@5:8|.S@6:12",
+    ),
+    (
+        "           DISPLAY 1. DISPLAY 2.\n       A SECTION.\n       B SECTION.\n           STOP RUN.\n",
+        "HELLO|.D1+@4:12.D1+@4:23#A@5:8#B@6:8|.S@7:12",
+    ),
+    // END PROGRAM after a section
+    (
+        "       A SECTION.\n           STOP RUN.\n       END PROGRAM HELLO.\n",
+        "HELLO#A@4:8|.S@5:12",
+    ),
 ];
 
 /// What comes after the three lines of `HEADER`, and the fault's number, line and column.
-const FAULTS: [(&str, u8, u32, u8); 26] = [
+const FAULTS: [(&str, u8, u32, u8); 37] = [
     // nothing after PROCEDURE DIVISION. : at the last token
     ("", 30, 3, 26),
     // a missing period at the end
@@ -118,8 +158,16 @@ const FAULTS: [(&str, u8, u32, u8); 26] = [
     // a period that is missing between sentences and a paragraph, and one too many
     ("           DISPLAY 1\n       A.\n", 30, 5, 8),
     ("           DISPLAY 1. .\n", 30, 4, 23),
-    // a section, and a word too many at the end
-    ("       A SECTION.\n", 30, 4, 8),
+    // a section without its period, after a paragraph, and after sentences and one
+    ("       A SECTION\n           STOP RUN.\n", 30, 5, 12),
+    ("       A.\n       B SECTION.\n", 30, 5, 8),
+    (
+        "           STOP RUN.\n       A.\n       B SECTION.\n",
+        30,
+        6,
+        8,
+    ),
+    // a word too many at the end
     (
         "           STOP RUN.\n       END PROGRAM HELLO. STOP\n",
         30,
@@ -145,6 +193,127 @@ const FAULTS: [(&str, u8, u32, u8); 26] = [
     ),
     ("           PERFORM A.\n       A.\n", 30, 4, 20),
     ("           CONTINUE END-PERFORM.\n", 30, 4, 21),
+    // a count without TIMES, TIMES without a count or twice, and no statements
+    ("           PERFORM 2 CONTINUE END-PERFORM.\n", 30, 4, 22),
+    (
+        "           PERFORM TIMES CONTINUE END-PERFORM.\n",
+        30,
+        4,
+        20,
+    ),
+    (
+        "           PERFORM 2 TIMES 3 TIMES CONTINUE END-PERFORM.\n",
+        30,
+        4,
+        28,
+    ),
+    ("           PERFORM 2 TIMES END-PERFORM.\n", 30, 4, 28),
+    ("           PERFORM 2 TIMES CONTINUE.\n", 30, 4, 36),
+    // what is no unsigned integer
+    (
+        "           PERFORM 1.5 TIMES CONTINUE END-PERFORM.\n",
+        30,
+        4,
+        20,
+    ),
+    (
+        "           PERFORM +2 TIMES CONTINUE END-PERFORM.\n",
+        30,
+        4,
+        20,
+    ),
+    (
+        "           PERFORM ZERO TIMES CONTINUE END-PERFORM.\n",
+        30,
+        4,
+        20,
+    ),
+    (
+        "           PERFORM \"2\" TIMES CONTINUE END-PERFORM.\n",
+        30,
+        4,
+        20,
+    ),
+];
+
+/// What stands between PROGRAM-ID and PROCEDURE DIVISION, and the tree of a program with STOP RUN behind it.
+const DIVISIONS: [(&str, &str); 8] = [
+    ("", "HELLO|.S@3:28"),
+    // an environment division, as far as it is read
+    ("       ENVIRONMENT DIVISION.\n", "HELLO|.S@4:28"),
+    (
+        "       ENVIRONMENT DIVISION.\n       CONFIGURATION SECTION.\n",
+        "HELLO|.S@5:28",
+    ),
+    (
+        "       ENVIRONMENT DIVISION.\n       CONFIGURATION SECTION.\n       SOURCE-COMPUTER.\n       OBJECT-COMPUTER. ANY (1) \"A\" WORDS.\n",
+        "HELLO|.S@7:28",
+    ),
+    (
+        "       ENVIRONMENT DIVISION.\n       CONFIGURATION SECTION.\n       SOURCE-COMPUTER. ANY WITH DEBUGGING MODE.\n       DATA DIVISION.\n",
+        "HELLO|.S@7:28",
+    ),
+    // a data division
+    ("       DATA DIVISION.\n", "HELLO|.S@4:28"),
+    (
+        "       DATA DIVISION.\n       WORKING-STORAGE SECTION.\n",
+        "HELLO|.S@5:28",
+    ),
+    (
+        "       DATA DIVISION.\n       WORKING-STORAGE SECTION.\n       01  A.\n           05 B PIC X.\n           88 C VALUE 1.\n",
+        "HELLO^3|.S@8:28",
+    ),
+];
+
+/// The same, and the fault's number, line and column.
+const DIVISION_FAULTS: [(&str, u8, u32, u8); 8] = [
+    // a description without its period, and one before a word that ends it
+    (
+        "       ENVIRONMENT DIVISION.\n       CONFIGURATION SECTION.\n       SOURCE-COMPUTER. ANY\n       OBJECT-COMPUTER. ANY.\n",
+        30,
+        6,
+        8,
+    ),
+    (
+        "       ENVIRONMENT DIVISION.\n       CONFIGURATION SECTION.\n       OBJECT-COMPUTER. ANY.\n       SOURCE-COMPUTER. ANY.\n",
+        30,
+        6,
+        8,
+    ),
+    // divisions in another order
+    (
+        "       DATA DIVISION.\n       ENVIRONMENT DIVISION.\n",
+        30,
+        4,
+        8,
+    ),
+    ("       DATA DIVISION\n", 30, 4, 8),
+    // a clause that stands already, at its first word
+    (
+        "       DATA DIVISION.\n       WORKING-STORAGE SECTION.\n       01  A PIC X PIC X.\n",
+        30,
+        5,
+        20,
+    ),
+    // pictures without a form: the first one, but only where nothing else is wrong
+    (
+        "       DATA DIVISION.\n       WORKING-STORAGE SECTION.\n       01  A PIC X.\n       01  B PIC Q.\n       01  C PIC QQ.\n",
+        20,
+        6,
+        18,
+    ),
+    (
+        "       DATA DIVISION.\n       WORKING-STORAGE SECTION.\n       01  A PIC Q.\n       01  B PIC X PIC X.\n",
+        30,
+        6,
+        20,
+    ),
+    (
+        "       DATA DIVISION.\n       WORKING-STORAGE SECTION.\n       01  A PIC X(3)Z.\n",
+        20,
+        5,
+        18,
+    ),
 ];
 
 /// Whole texts, and the fault's number, line and column.
@@ -157,7 +326,7 @@ const TEXTS: [(&str, u8, u32, u8); 5] = [
         "       IDENTIFICATION DIVISION.\n       PROGRAM-ID. HELLO.\n       DATA DIVISION.\n",
         30,
         3,
-        8,
+        21,
     ),
 ];
 
@@ -168,6 +337,13 @@ fn tree(alloc: Global, source: &str) -> Result<Result<Program, ParseError>, Fail
 
 fn push_text(to: &mut String, bytes: &[u8]) -> Result<(), AllocError> {
     to.push_str(str::from_utf8(bytes).unwrap_or("?"))
+}
+
+fn push_turns(to: &mut String, turns: &Turns) -> Result<(), AllocError> {
+    match turns {
+        Turns::Once => Ok(()),
+        Turns::Times(count) => push_text(to, count.digits.as_slice()),
+    }
 }
 
 fn push_statement(to: &mut String, alloc: Global, statement: &Statement) -> Result<(), AllocError> {
@@ -184,10 +360,12 @@ fn push_statement(to: &mut String, alloc: Global, statement: &Statement) -> Resu
         Verb::Performing(
             Performing {
                 performed: Performed::Statements(inside),
-                turns: Turns::Once,
+                turns,
             },
         ) => {
-            to.push_str("P(")?;
+            to.push_str("P")?;
+            push_turns(to, turns)?;
+            to.push_str("(")?;
             for one in inside.as_slice() {
                 push_statement(to, alloc, one)?;
             }
@@ -200,21 +378,29 @@ fn push_statement(to: &mut String, alloc: Global, statement: &Statement) -> Resu
     to.push_str(format!(in alloc; "@{}:{}", place.line, place.column)?.as_str())
 }
 
-/// The program's name; for each paragraph `|`, its name and place; for each sentence `.` and its statements: `D`, the number
-/// of operands and `+`, or `-` for NO ADVANCING; `S` for STOP RUN, `C` for CONTINUE, `P` for PERFORM with the statements in it;
-/// each with its place.
+fn push_name(to: &mut String, alloc: Global, mark: &str, name: &Name) -> Result<(), AllocError> {
+    to.push_str(mark)?;
+    push_text(to, name.characters.as_slice())?;
+    to.push_str(format!(in alloc; "@{}:{}", name.place.line, name.place.column)?.as_str())
+}
+
+/// The program's name; where it has entries `^` and their number; for each section `#`, its name and place; for each paragraph
+/// `|`, its name and place; for each sentence `.` and its statements: `D`, the number of operands and `+`, or `-` for NO ADVANCING;
+/// `S` for STOP RUN, `C` for CONTINUE, `P` for PERFORM with its integer and the statements in it; each with its place.
 fn shape(alloc: Global, program: &Program) -> Result<String, AllocError> {
     let mut shape = String::new(alloc);
     push_text(&mut shape, program.name.characters.as_slice())?;
+    if !program.storage.is_empty() {
+        shape.push_str(format!(in alloc; "^{}", program.storage.len())?.as_str())?;
+    }
     for section in program.sections.as_slice() {
+        if let Some(name) = &section.name {
+            push_name(&mut shape, alloc, "#", name)?;
+        }
         for paragraph in section.paragraphs.as_slice() {
             shape.push_str("|")?;
             if let Some(name) = &paragraph.name {
-                push_text(&mut shape, name.characters.as_slice())?;
-                shape.push_str(format!(in alloc;
-                    "@{}:{}",
-                    name.place.line, name.place.column
-                )?.as_str())?;
+                push_name(&mut shape, alloc, "", name)?;
             }
             for sentence in paragraph.sentences.as_slice() {
                 shape.push_str(".")?;
@@ -264,6 +450,42 @@ fn texts_without_a_tree(rt: HostRuntime) -> Result<(), Fail> {
             &rt,
             &source,
             fault(rt.alloc(), source)?,
+            (*number, *line, *column),
+        );
+    }
+    Ok(())
+}
+
+/// A program with these divisions.
+fn with_divisions(alloc: Global, divisions: &str) -> Result<String, AllocError> {
+    format!(in alloc;
+        "       IDENTIFICATION DIVISION.\n       PROGRAM-ID. HELLO.\n{divisions}       PROCEDURE DIVISION. STOP RUN.\n"
+    )
+}
+
+#[test]
+fn divisions_before_the_procedure_division(rt: HostRuntime) -> Result<(), Fail> {
+    for (divisions, expected) in DIVISIONS.iter() {
+        let source = with_divisions(rt.alloc(), divisions)?;
+        let program = tree(rt.alloc(), source.as_str())??;
+        same_in(
+            &rt,
+            &divisions,
+            shape(rt.alloc(), &program)?.as_str(),
+            *expected,
+        );
+    }
+    Ok(())
+}
+
+#[test]
+fn divisions_that_are_refused(rt: HostRuntime) -> Result<(), Fail> {
+    for (divisions, number, line, column) in DIVISION_FAULTS.iter() {
+        let source = with_divisions(rt.alloc(), divisions)?;
+        same_in(
+            &rt,
+            &divisions,
+            fault(rt.alloc(), source.as_str())?,
             (*number, *line, *column),
         );
     }

@@ -1,5 +1,5 @@
 -- Images and their one run.
-use Rattle.std.proofs.Common.{◌≡◌, ◌∙◌, ℕ, List, Vec, Result, Ok, Err, subst, ap, inl, inr}
+use Rattle.std.proofs.Common.{◌≡◌, ◌∙◌, ℕ, List, Vec, Result, Ok, Err, sym, subst, ap, inl, inr}
 use Rattle.std.specs.Prelude.{IfOk, OnOk}
 use Rattle.std.specs.declared.alloc.AllocError.{AllocError}
 use Rattle.std.specs.declared.alloc.Global.{Global}
@@ -41,7 +41,7 @@ keeps_demands code in_image.Mark verified refuses = refuses
 keeps_demands code in_image.Length verified refuses = refuses
 keeps_demands code in_image.Value verified refuses = refuses
 keeps_demands code in_image.Index verified refuses = refuses verified.within
-keeps_demands code in_image.Shape verified refuses = refuses.1 verified.stops
+keeps_demands code in_image.Shape verified refuses = refuses.1 verified.shape
 
 err_not_ok : (r : Result Code ImageFault) (fault : ImageFault) (code : Code) → r ≡ Err fault → r ≡ Ok code → ⊥
 err_not_ok r fault code bad good = cc
@@ -82,7 +82,9 @@ made tree code (Err e) ends verified bytes spelt = tt
 -- a machine that was loaded has the run of its code, on its day
 pub runs_as : (budget : ℕ) (run : Run) (state : State) (machine : Machine) (day : List ℕ) (code : Code) → code_of machine ≡ code → day_of machine ≡ day
     → Runs code (given_on state day budget) run → Runs (code_of machine) (given_on state (day_of machine) budget) run
-runs_as budget run state machine day code same_code same_day runs = rw (same_code, same_day) runs
+runs_as budget run state machine day code same_code same_day runs =
+    subst (λ (c : Code). Runs c (given_on state (day_of machine) budget) run) (sym same_code)
+    (subst (λ (d : List ℕ). Runs code (given_on state d budget) run) (sym same_day) runs)
 
 -- what is so after a machine's run
 pub ends_as : (all : Run) (old now : State) (ended : MachineEnded) → run.EndsAs all old ended now → EndsAs all old (ended_of ended) now

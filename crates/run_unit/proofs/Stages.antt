@@ -1,5 +1,5 @@
 -- From a source text to its tree, stage by stage. What the stages promise comes as premises.
-use Rattle.std.proofs.Common.{◌≡◌, ◌∙◌, ℕ, ◌<◌, List, Result, Ok, Err, refl, sym, subst, arith}
+use Rattle.std.proofs.Common.{◌≡◌, ◌∙◌, ℕ, ◌<◌, List, Option, None, Some, Result, Ok, Err, inl, inr, [], ◌∷◌, refl, sym, ap, subst, arith}
 use Rattle.source_lines.specs.declared.lines.Character.{Character}
 use Rattle.source_lines.specs.Format.{HasCharacters}
 use Rattle.source_lines.specs.Reading.{characters_of}
@@ -8,16 +8,23 @@ use Rattle.tokens.specs.Tokens.{TokensOf}
 use Rattle.tokens.specs.Scanning.{tokens}
 use Rattle.source_tree.specs.declared.program.Program.{Program}
 use Rattle.statements.specs.Spelling.{max_nesting}
+use Rattle.data_division.specs.Forms.{HasForms}
 use Rattle.divisions.specs.Spelling.{Spells}
-use Rattle.divisions.specs.Faults.{IsAnswer}
+use Rattle.divisions.specs.Faults.{IsAnswer, parse_of}
 use Rattle.answers.specs.Answer.{Fails}
 use Rattle.tokens.specs.Faults.{fault_of}
 use Rattle.tokens.specs.declared.fault.TokenError.{TokenError}
 use Rattle.tokens.specs.declared.fault.TokenError.TheVariants as in_tokens
 use Rattle.divisions.specs.declared.fault.ParseError.{ParseError}
 use Rattle.divisions.specs.declared.fault.ParseError.TheVariants as in_tree
-use Rattle.run_unit.specs.Faults.{from_tokens, from_tree}
-use Rattle.run_unit.specs.Trees.{IsTreeOf, IsTreeAnswer}
+use Rattle.source_tree.specs.Broken.{Broken}
+use Rattle.entry_rules.specs.Checks as rules
+use Rattle.entry_rules.specs.Checks.{first_or}
+use Rattle.entry_rules.specs.declared.rule.CheckError.{CheckError}
+use Rattle.entry_rules.specs.declared.rule.CheckError.TheVariants as in_entries
+use Rattle.run_unit.specs.Faults as compiling
+use Rattle.run_unit.specs.Faults.{OfLines, OfTokens, OfTree, OfEntries, from_tokens, from_tree, from_entries}
+use Rattle.run_unit.specs.Trees.{IsTreeOf, IsTreeAnswer, broken_rules, then_read, tree_by, tree_with_rules, tree_in_tokens, tree_in_characters, tree_of}
 use Rattle.run_unit.specs.Images.{IsImageAnswer}
 use Rattle.run_unit.specs.declared.fault.CompileError.{CompileError}
 use Rattle.run_unit.specs.declared.fault.CompileError.TheVariants.{Memory, Refused}
@@ -60,10 +67,41 @@ tokens_refusal format scan source tree is characters read (in_tokens.Refused fau
     let same_characters : is.characters ≡ characters = value (format source is.characters is.format) read in
     clash (subst (λ c. tokens c ≡ Ok is.tokens) same_characters (scan is.characters is.tokens is.scanned)) fails
 
--- where a tree of the greatest depth spells the tokens, only memory refuses it
-pub tree_refusal : (tree : Program) (e : ParseError) → IsAnswer max_nesting tree (Err e) → IsTreeAnswer tree (Err (from_tree e))
-tree_refusal tree in_tree.Memory allowed = tt
-tree_refusal tree (in_tree.Refused fault) allowed = absurd (let deep : 64 < 64 = allowed.1 in omega (arith, deep))
+no_place : {A : Type 0} {o : Option A} {a : A} → o ≡ None → o ≡ Some a → ⊥
+no_place none some = cc
+
+-- where a tree of the greatest depth, whose pictures have forms, spells the tokens, only memory refuses it
+pub tree_refusal : (tree : Program) → HasForms tree.storage → (e : ParseError) → IsAnswer max_nesting tree (Err e) → IsTreeAnswer tree (Err (from_tree e))
+tree_refusal tree formed in_tree.Memory allowed = tt
+tree_refusal tree formed (in_tree.Refused fault) (inl deeper) = absurd (let deep : 64 < 64 = deeper.1 in omega (arith, deep))
+tree_refusal tree formed (in_tree.Refused fault) (inr formless) = absurd (no_place formed formless.1)
+
+fails_not : {A F : Type 0} {a : A} {fault : F} {r : Result A F} → r ≡ Ok a → r ≡ Err fault → ⊥
+fails_not is fails = cc
+
+-- what a check of these rules answers
+abbrev pub none_broken : List Broken → Result (Unit {0}) Broken
+none_broken rules = first_or tt rules
+
+-- where the entries keep the rules, only memory refuses them
+pub rules_refusal : (tree : Program) → broken_rules tree ≡ [] → (e : CheckError) → Fails (rules.fault_of e) (none_broken (broken_rules tree)) → IsTreeAnswer tree (Err (from_entries e))
+rules_refusal tree kept in_entries.Memory fails = tt
+rules_refusal tree kept (in_entries.Refused broken) fails = absurd (fails_not (ap none_broken kept) fails)
+
+by_first : (tree : Program) (rules : List Broken) (broken : Broken) → none_broken rules ≡ Err broken → tree_by tree rules ≡ Err (OfEntries broken)
+by_first tree [] broken e = cc
+by_first tree (one ∷ more) broken e = cc
+
+-- the first rule that is broken is the source text's first fault
+pub rules_fault : (source : List ℕ) (characters : List Character) (found : List Token) (tree : Program)
+    → characters_of source ≡ Ok characters → tokens characters ≡ Ok found → parse_of found ≡ Ok tree
+    → (e : CheckError) → Fails (rules.fault_of e) (none_broken (broken_rules tree)) → Fails (compiling.fault_of (from_entries e)) (tree_of source)
+rules_fault source characters found tree read scanned parsed in_entries.Memory fails = tt
+rules_fault source characters found tree read scanned parsed (in_entries.Refused broken) fails =
+    ap (λ r. then_read r OfLines tree_in_characters) read
+    ∙ ap (λ r. then_read r OfTokens tree_in_tokens) scanned
+    ∙ ap (λ r. then_read r OfTree tree_with_rules) parsed
+    ∙ by_first tree (broken_rules tree) (rules.broken_of broken) fails
 
 pub image_refusal : (tree : Program) (e : CompileError) → IsTreeAnswer tree (Err e) → IsImageAnswer tree (Err e)
 image_refusal tree Memory allowed = tt

@@ -10,8 +10,15 @@ use Rattle.divisions.specs.Faults as trees
 use Rattle.divisions.specs.declared.fault.ParseError.{ParseError}
 use Rattle.divisions.specs.declared.fault.ParseError.TheVariants as in_tree
 use Rattle.lexical.specs.declared.place.Place.{Place}
+use Rattle.source_lines.specs.declared.fault.SourceFault.{SourceFault}
+use Rattle.tokens.specs.declared.fault.TokenFault.{TokenFault}
+use Rattle.divisions.specs.declared.fault.ParseFault.{ParseFault}
+use Rattle.source_tree.specs.Broken.{Broken}
+use Rattle.entry_rules.specs.Checks as rules
+use Rattle.entry_rules.specs.declared.rule.CheckError.{CheckError}
+use Rattle.entry_rules.specs.declared.rule.CheckError.TheVariants as in_entries
 use Rattle.run_unit.specs.declared.fault.CompileFault.{CompileFault}
-use Rattle.run_unit.specs.declared.fault.CompileFault.TheVariants.{Lines, Tokens, Tree}
+use Rattle.run_unit.specs.declared.fault.CompileFault.TheVariants.{Lines, Tokens, Tree, Entries}
 use Rattle.run_unit.specs.declared.fault.CompileError.{CompileError}
 use Rattle.run_unit.specs.declared.fault.CompileError.TheVariants.{Memory, Refused}
 
@@ -19,16 +26,31 @@ abbrev pub number_of : CompileFault → ℕ
 number_of (Lines fault) = lines.number_of fault.kind
 number_of (Tokens fault) = tokens.number_of fault.kind
 number_of (Tree fault) = trees.number_of fault.kind
+number_of (Entries broken) = rules.number_of broken.rule
 
 abbrev pub place_of : CompileFault → Place
 place_of (Lines fault) = fault.place
 place_of (Tokens fault) = fault.place
 place_of (Tree fault) = fault.place
+place_of (Entries broken) = broken.place
+
+-- What a stage says of a source text that it refuses.
+pub data StageFault : Type 0 where
+  OfLines : SourceFault → StageFault
+  OfTokens : TokenFault → StageFault
+  OfTree : ParseFault → StageFault
+  OfEntries : Broken → StageFault
+
+abbrev pub stage_fault : CompileFault → StageFault
+stage_fault (Lines fault) = OfLines fault
+stage_fault (Tokens fault) = OfTokens fault
+stage_fault (Tree fault) = OfTree fault
+stage_fault (Entries broken) = OfEntries (rules.broken_of broken)
 
 -- the fault of an error, or none where memory ran out
-abbrev pub fault_of : CompileError → Option CompileFault
+abbrev pub fault_of : CompileError → Option StageFault
 fault_of Memory = None
-fault_of (Refused fault) = Some fault
+fault_of (Refused fault) = Some (stage_fault fault)
 
 -- the error that a stage's error becomes
 abbrev pub from_lines : SourceError → CompileError
@@ -42,3 +64,7 @@ from_tokens (in_tokens.Refused fault) = Refused (Tokens fault)
 abbrev pub from_tree : ParseError → CompileError
 from_tree in_tree.Memory = Memory
 from_tree (in_tree.Refused fault) = Refused (Tree fault)
+
+abbrev pub from_entries : CheckError → CompileError
+from_entries in_entries.Memory = Memory
+from_entries (in_entries.Refused broken) = Refused (Entries broken)

@@ -1,21 +1,32 @@
 //! From a source text to its image.
 
-ghost use Rattle.std.specs.Prelude.{◌≡◌, ℕ, IfOk, IfErr};
-ghost use Rattle.answers.specs.Answer.{Fails};
+ghost use Rattle.std.specs.Prelude.{[], ◌≡◌, ℕ, IfOk, IfErr, OnOk};
+ghost use Rattle.answers.specs.Answer.{Gives, Fails};
 ghost use Rattle.source_tree.specs.declared.program.Program.{Program};
 ghost use Rattle.source_tree.specs.Meaning.{meaning};
+ghost use Rattle.entry_rules.specs.Checks as rules;
 ghost use Rattle.run_unit.specs.Faults.{fault_of};
-ghost use Rattle.run_unit.specs.Trees.{IsTreeOf, IsTreeAnswer, tree_of};
+ghost use Rattle.run_unit.specs.Trees.{IsTreeOf, IsTreeAnswer, broken_rules, tree_of};
 ghost use Rattle.run_unit.specs.Images.{MeansAs, IsImageAnswer};
 
 use crate::fault::CompileError;
 use code_image::to_bytes;
 use codegen::generate;
 use divisions::parse;
+use entry_rules::{CheckError, check_entries};
 use source_lines::{logical, reference_format};
 use source_tree::Program;
 use std::alloc::{AllocError, Global};
 use tokens::{laws, scan};
+
+/// The entries of the tree keep the rules of entries.
+#[tactic(auto, unfolding(crate::specs::Trees::broken_rules))]
+fn check_tree(alloc: Global, tree: &Program) -> Result<(), CheckError>
+    ensures kept { OnOk result (broken_rules tree.now ≡ []) }
+    ensures exact { Gives (λ value. value) rules.fault_of result (rules.first_or tt (broken_rules tree.now)) }
+{
+    check_entries(alloc, tree.storage.as_slice())
+}
 
 /// The tree of a source text, by the stages in order.
 fn read_tree(alloc: Global, source: &[u8]) -> Result<Program, CompileError>
@@ -28,6 +39,7 @@ fn read_tree(alloc: Global, source: &[u8]) -> Result<Program, CompileError>
     let lines = logical(alloc, source)?;
     let tokens = scan(alloc, &lines)?;
     let tree = parse(alloc, tokens.as_slice())?;
+    check_tree(alloc, &tree)?;
     Ok(tree)
 }
 
@@ -41,7 +53,8 @@ fn make_image(alloc: Global, tree: &Program) -> Result<Vec<u8>, AllocError>
 
 /// The image of a source text.
 ///
-/// `Refused` with the first fault that a stage meets: 10 to 14 for its lines, 15 to 18 for its tokens, 30 and 31 for its tree.
+/// `Refused` with the first fault that a stage meets: 10 to 14 for its lines, 15 to 18 for its tokens, 30, 31 and 20
+/// for its tree, 43 to 48, 55 and 69 for the rules of its entries.
 pub fn compile(alloc: Global, source: &[u8]) -> Result<Vec<u8>, CompileError>
     // What is answered is an image of the source text's tree: whatever it is given, its run is what the tree means.
     ensures image { IfOk result (λ image. (tree : Program) × IsTreeOf source.now tree × MeansAs tree image.items) }

@@ -1,9 +1,10 @@
 //! Why a source text isn't compiled.
 
 ghost use Rattle.std.specs.Prelude.{◌≡◌};
-ghost use Rattle.run_unit.specs.Faults.{number_of, place_of, from_lines, from_tokens, from_tree};
+ghost use Rattle.run_unit.specs.Faults.{number_of, place_of, from_lines, from_tokens, from_tree, from_entries};
 
 use divisions::ParseError;
+use entry_rules::CheckError;
 use lexical::Place;
 use source_lines::SourceError;
 use std::alloc::AllocError;
@@ -17,8 +18,10 @@ pub enum CompileFault {
     Lines(source_lines::SourceFault),
     /// 15 to 18.
     Tokens(tokens::TokenFault),
-    /// 30 and 31.
+    /// 20, 30 and 31.
     Tree(divisions::ParseFault),
+    /// 43 to 48, 55 and 69.
+    Entries(entry_rules::BrokenRule),
 }
 
 impl CompileFault {
@@ -30,6 +33,7 @@ impl CompileFault {
             CompileFault::Lines(fault) => fault.kind.number(),
             CompileFault::Tokens(fault) => fault.kind.number(),
             CompileFault::Tree(fault) => fault.kind.number(),
+            CompileFault::Entries(broken) => broken.rule.number(),
         }
     }
 
@@ -41,6 +45,7 @@ impl CompileFault {
             CompileFault::Lines(fault) => fault.place,
             CompileFault::Tokens(fault) => fault.place,
             CompileFault::Tree(fault) => fault.place,
+            CompileFault::Entries(broken) => broken.place,
         }
     }
 }
@@ -92,6 +97,20 @@ impl From<ParseError> for CompileError {
         match fault {
             ParseError::Memory => CompileError::Memory,
             ParseError::Refused(fault) => CompileError::Refused(CompileFault::Tree(fault)),
+        }
+    }
+}
+
+impl From<CheckError> for CompileError {
+    ghost use Rattle.std.specs.Prelude.{◌≡◌};
+    ghost use Rattle.run_unit.specs.Faults.{from_entries};
+
+    ghost from_gives = { λ fault e. e ≡ from_entries fault };
+
+    fn from(fault: CheckError) -> CompileError {
+        match fault {
+            CheckError::Memory => CompileError::Memory,
+            CheckError::Refused(broken) => CompileError::Refused(CompileFault::Entries(broken)),
         }
     }
 }

@@ -143,6 +143,9 @@ values : Break ((entries (valued (number (codes "1")) (item (codes "77") (codes 
     ∷ (entries (valued (number (codes "1")) (item (codes "77") (codes "A") (codes "XX")) ∷ []), 47 ∷ [])
     ∷ (entries (valued (number (codes "1")) (item (codes "77") (codes "A") (codes "Z9")) ∷ []), 47 ∷ [])
     ∷ (entries (valued (all (codes "ABC")) (item (codes "77") (codes "A") (codes "XX")) ∷ []), [])
+    -- no text, and a number of 19 digits: no source text has such a literal
+    ∷ (entries (valued (text []) (item (codes "77") (codes "A") (codes "XX")) ∷ []), 47 ∷ [])
+    ∷ (entries (valued (number (codes "0999999999999999999")) (item (codes "77") (codes "A") (codes "9(18)")) ∷ []), 47 ∷ [])
     -- under REDEFINES, and in a group with VALUE
     ∷ (in_group (item (codes "05") (codes "A") (codes "X") ∷ redefining (codes "A") (valued (text (codes "Q")) (item (codes "05") (codes "B") (codes "X"))) ∷ []), 47 ∷ [])
     ∷ (in_group (item (codes "05") (codes "A") (codes "X") ∷ redefining (codes "A") (group (codes "05") (codes "B")) ∷ valued (text (codes "Q")) (item (codes "10") (codes "C") (codes "X")) ∷ []), 47 ∷ [])
@@ -150,7 +153,7 @@ values : Break ((entries (valued (number (codes "1")) (item (codes "77") (codes 
     ∷ (entries (valued (text (codes "QQ")) (group (codes "01") (codes "G")) ∷ item (codes "05") (codes "A") (codes "X") ∷ []), 47 ∷ [])
     ∷ [])
 unfolding computing
-values = (refl, (refl, (refl, (refl, (refl, (refl, (refl, (refl, (refl, (refl, (refl, (refl, (refl, (refl, (refl, (refl, tt))))))))))))))))
+values = (refl, (refl, (refl, (refl, (refl, (refl, (refl, (refl, (refl, (refl, (refl, (refl, (refl, (refl, (refl, (refl, (refl, (refl, tt))))))))))))))))))
 
 -- ---- condition names: 47 of each value, 55 of ranges
 

@@ -8,17 +8,18 @@ use Rattle.source_tree.specs.declared.literal.Figurative.TheVariants.{Space, Quo
 use Rattle.source_tree.specs.declared.literal.LiteralValue.TheVariants.{Numeric, Nonnumeric, Figurative, All}
 use Rattle.source_tree.specs.declared.literal.Literal.{Literal}
 use Rattle.source_tree.specs.declared.performing.Performed.TheVariants.{Statements}
-use Rattle.source_tree.specs.declared.performing.Turns.TheVariants.{Once}
+use Rattle.source_tree.specs.declared.performing.Turns.TheVariants.{Once, Times}
 use Rattle.source_tree.specs.declared.text.Text.TheVariants as text_as
 use Rattle.source_tree.specs.declared.ending.Ending.TheVariants as ending
 use Rattle.source_tree.specs.declared.statement.Verb.TheVariants as verb
 use Rattle.source_tree.specs.declared.statement.Statement.{Statement, out-Statement, roll-Statement}
 use Rattle.source_tree.specs.declared.program.Paragraph.{Paragraph}
 use Rattle.source_tree.specs.declared.program.Program.{Program}
-use Rattle.source_tree.specs.State.{Stopped, Budget, Done}
+use Rattle.source_tree.specs.State.{Stopped, Budget, Done, Over}
 use Rattle.source_tree.specs.Display.{shown_literal, shown_display, line_feed}
 use Rattle.source_tree.specs.Given.{Given}
 use Rattle.source_tree.specs.State.{State}
+use Rattle.source_tree.specs.Performing.{turns_of}
 use Rattle.source_tree.specs.Meaning as given
 use Rattle.source_tree.specs.Meaning.{Run, exec}
 
@@ -41,6 +42,11 @@ stop_run place = roll-Statement (record { place = place; verb = verb.Ending endi
 -- PERFORM with these statements
 abbrev pub perform : Place → List Statement → Statement
 perform place inside = roll-Statement (record { place = place; verb = verb.Performing (record { performed = Statements inside; turns = Once }) })
+
+-- PERFORM these statements so many TIMES
+abbrev pub perform_times : Place → List ℕ → List Statement → Statement
+perform_times place digits inside =
+    roll-Statement (record { place = place; verb = verb.Performing (record { performed = Statements inside; turns = Times (record { digits = digits; place = place }) }) })
 
 -- with this budget, on 30 July 1926
 abbrev with : ℕ → Given
@@ -66,6 +72,7 @@ stop = stop_run (at 6 12)
 abbrev pub hello : Program
 hello = record {
   name = record { characters = hello_bytes; place = at 2 20 };
+  storage = [];
   sections = record {
     name = None;
     paragraphs = record {
@@ -95,7 +102,7 @@ hello_with_none = refl
 
 -- paragraphs without names and STOP RUN, one statement each
 abbrev pub plain : List (List Statement) → Program
-plain all = record { name = record { characters = 80 ∷ []; place = at 2 20 }; sections = record { name = None; paragraphs = each all } ∷ [] }
+plain all = record { name = record { characters = 80 ∷ []; place = at 2 20 }; storage = []; sections = record { name = None; paragraphs = each all } ∷ [] }
   where
     each : List (List Statement) → List Paragraph
     each [] = []
@@ -129,6 +136,38 @@ nested_with_four = refl
 nested_with_three : meaning nested 3 ≡ record { events = map Shown (65 ∷ []); end = Budget }
 unfolding out-Statement roll-Statement denote.Hole.Carrier.out denote.Hole.Carrier.roll Rattle.source_tree.specs.declared.statement.Statement.TheBlock.shown-the_row-Statement-0 denote.Hole.Carrier.shown denote.Hole.Carrier.hidden
 nested_with_three = refl
+
+-- PERFORM 2 TIMES PERFORM 3 TIMES DISPLAY "A" END-PERFORM END-PERFORM STOP RUN: the outer PERFORM uses one of the budget, each
+-- of its two turns one, the inner PERFORM in each one, its three turns and their DISPLAY two each; and STOP RUN one. That is 18.
+abbrev pub two_by_three : Program
+two_by_three = plain ((perform_times (at 1 12) (50 ∷ []) (perform_times (at 2 12) (51 ∷ []) (display (at 3 12) (text (65 ∷ []) ∷ []) false ∷ []) ∷ []) ∷ stop ∷ []) ∷ [])
+
+two_by_three_with_18 : meaning two_by_three 18 ≡ record { events = map Shown (65 ∷ 65 ∷ 65 ∷ 65 ∷ 65 ∷ 65 ∷ []); end = Stopped }
+unfolding out-Statement roll-Statement denote.Hole.Carrier.out denote.Hole.Carrier.roll Rattle.source_tree.specs.declared.statement.Statement.TheBlock.shown-the_row-Statement-0 denote.Hole.Carrier.shown denote.Hole.Carrier.hidden
+two_by_three_with_18 = refl
+
+-- none is left for STOP RUN
+two_by_three_with_17 : meaning two_by_three 17 ≡ record { events = map Shown (65 ∷ 65 ∷ 65 ∷ 65 ∷ 65 ∷ 65 ∷ []); end = Budget }
+unfolding out-Statement roll-Statement denote.Hole.Carrier.out denote.Hole.Carrier.roll Rattle.source_tree.specs.declared.statement.Statement.TheBlock.shown-the_row-Statement-0 denote.Hole.Carrier.shown denote.Hole.Carrier.hidden
+two_by_three_with_17 = refl
+
+-- the last turn of the inner PERFORM has used the sixteenth, at the line of that PERFORM, and none is left for what stands in it
+last_turn : exec 4 (perform_times (at 2 12) (51 ∷ []) (display (at 3 12) (text (65 ∷ []) ∷ []) false ∷ [])) (start 6)
+    ≡ Over Budget (record (start 0) { line = 2; events = map Shown (65 ∷ 65 ∷ []) })
+unfolding out-Statement roll-Statement denote.Hole.Carrier.out denote.Hole.Carrier.roll Rattle.source_tree.specs.declared.statement.Statement.TheBlock.shown-the_row-Statement-0 denote.Hole.Carrier.shown denote.Hole.Carrier.hidden
+last_turn = refl
+
+-- PERFORM 0 TIMES uses one of the budget, and nothing that stands in it runs
+no_turns : exec 1 (perform_times (at 1 12) (48 ∷ []) (stop ∷ [])) (start 1) ≡ Done (record (start 0) { line = 1 })
+unfolding out-Statement roll-Statement denote.Hole.Carrier.out denote.Hole.Carrier.roll Rattle.source_tree.specs.declared.statement.Statement.TheBlock.shown-the_row-Statement-0 denote.Hole.Carrier.shown denote.Hole.Carrier.hidden
+no_turns = refl
+
+-- 007 says seven turns, and 18 nines as many as they say
+leading_zeros_say_nothing : turns_of (record { digits = 48 ∷ 48 ∷ 55 ∷ []; place = at 1 20 }) ≡ 7
+leading_zeros_say_nothing = refl
+
+eighteen_digits : turns_of (record { digits = 57 ∷ 57 ∷ 57 ∷ 57 ∷ 57 ∷ 57 ∷ 57 ∷ 57 ∷ 57 ∷ 57 ∷ 57 ∷ 57 ∷ 57 ∷ 57 ∷ 57 ∷ 57 ∷ 57 ∷ 57 ∷ []; place = at 1 20 }) ≡ 999999999999999999
+eighteen_digits = refl
 
 -- a program without paragraphs has stopped
 nothing_to_do : meaning (plain []) 0 ≡ record { events = []; end = Stopped }

@@ -2,6 +2,7 @@ pub mod Givens
 pub mod Runs
 pub mod Depth
 pub mod Programs
+pub mod Counts
 pub mod Examples
 pub mod Samples
 pub mod Computing

@@ -18,6 +18,7 @@ use Rattle.source_tree.specs.Evaluated.{Evaluated, ◌>>=◌}
 use Rattle.source_tree.specs.LookUp.{conditions_named}
 use Rattle.source_tree.specs.NameRules.{item_rules, any_item}
 use Rattle.source_tree.specs.MoveRules.{move_rules}
+use Rattle.source_tree.specs.TextRules.{display_rules, accept_line_rules, accept_date_rules}
 use Rattle.source_tree.specs.Moving.{move}
 use Rattle.source_tree.specs.Showing.{displayed}
 use Rattle.source_tree.specs.Accepting.{next_line, accept_line, accept_date}
@@ -256,3 +257,26 @@ low_digits_of_date = refl
 edited_date : dated (codes "99/99/99") ≡ Ok (codes "85/09/17" ∷ [])
 unfolding computing
 edited_date = refl
+
+-- ---- rules of DISPLAY and ACCEPT
+
+abbrev Shown : List (List Operand × List ℕ) → Type 0
+Shown [] = Unit {0}
+Shown (row ∷ more) = (rules (display_rules (items_of some_entries) row.0) ≡ row.1) × Shown more
+
+-- a figurative constant is shown, ALL with a literal isn't; each operand's rules in turn
+shown_operands_rules : Shown ((the_item (codes "M") ∷ the_literal (constant figurative.Space) ∷ [], [])
+    ∷ (the_literal (all (codes "A")) ∷ the_item (codes "Z") ∷ [], 67 ∷ 40 ∷ [])
+    ∷ (the_item (codes "T") ∷ [], 50 ∷ [])
+    ∷ [])
+unfolding computing
+shown_operands_rules = (refl, (refl, (refl, tt)))
+
+-- the date is an integer, which goes to no alphabetic item; a line goes to any
+line_into_any_item : rules (accept_line_rules (items_of (entries (item (codes "77") (codes "A") (codes "A(6)") ∷ []))) (plain (codes "A"))) ≡ []
+unfolding computing
+line_into_any_item = refl
+
+date_into_letters : rules (accept_date_rules (items_of (entries (item (codes "77") (codes "A") (codes "A(6)") ∷ []))) (plain (codes "A"))) ≡ 49 ∷ []
+unfolding computing
+date_into_letters = refl

@@ -11,14 +11,14 @@ use Rattle.source_tree.specs.declared.ending.Ending.TheVariants as ending
 use Rattle.source_tree.specs.declared.performing.Performed.{Performed}
 use Rattle.source_tree.specs.declared.performing.Performed.TheVariants.{Statements}
 use Rattle.source_tree.specs.declared.performing.Turns.{Turns}
-use Rattle.source_tree.specs.declared.performing.Turns.TheVariants.{Once}
+use Rattle.source_tree.specs.declared.performing.Turns.TheVariants.{Once, Times}
 use Rattle.source_tree.specs.declared.performing.Performing.{Performing}
 use Rattle.source_tree.specs.declared.statement.Verb.{Verb}
 use Rattle.source_tree.specs.declared.statement.Verb.TheVariants as verb
 use Rattle.source_tree.specs.declared.statement.Statement.{Statement, out-Statement}
 use Rattle.source_tree.specs.declared.program.Paragraph.{Paragraph}
 use Rattle.source_tree.specs.State.{State, Stopped, Budget, Outcome, Done, Over, showing, then_do, in_turn, spend_from, spend, outcome_events}
-use Rattle.source_tree.specs.Performing.{repeat, body, performing}
+use Rattle.source_tree.specs.Performing.{turns, turns_of, repeat, body, performing}
 use Rattle.source_tree.specs.Meaning.{texts, finish, step, exec, sentence, paragraph, range}
 use Rattle.station.specs.State.{Begins}
 
@@ -115,24 +115,32 @@ finish_runs : (one : Ending) → IsRun (finish one)
 finish_runs ending.StopRun = stop_runs
 finish_runs ending.Continue = done_runs
 
-repeat_runs : (turns : Turns) (go : State → Outcome) → IsRun go → IsRun (repeat turns go)
-repeat_runs Once go r = r
+turns_runs : (line count : ℕ) (go : State → Outcome) → IsRun go → IsRun (turns line count go)
+turns_runs line zero go r = done_runs
+turns_runs line (suc more) go r = spend_runs line (λ s. then_do (go s) (turns line more go)) (then_runs go (turns line more go) r (turns_runs line more go r))
+
+repeat_runs : (line : ℕ) (often : Turns) (go : State → Outcome) → IsRun go → IsRun (repeat line often go)
+repeat_runs line Once go r = r
+repeat_runs line (Times count) go r = turns_runs line (turns_of count) go r
 
 module _ {S : Type 0} (run : S → State → Outcome) (r : (one : S) → IsRun (run one)) where
   pub body_runs : (one : Performed S) → IsRun (body run one)
   body_runs (Statements statements) = in_turn_runs run r statements
 
-  performing_runs : (one : Performing S) → IsRun (performing run one)
-  performing_runs one = repeat_runs one.turns (body run one.performed) (body_runs one.performed)
+  performing_runs : (line : ℕ) (one : Performing S) → IsRun (performing run line one)
+  performing_runs line one = repeat_runs line one.turns (body run one.performed) (body_runs one.performed)
 
-step_runs : {S : Type 0} (run : S → State → Outcome) → ((one : S) → IsRun (run one)) → (one : Verb S) → IsRun (step run one)
-step_runs run r (verb.Performing one) = performing_runs run r one
-step_runs run r (verb.Text one) = texts_runs one
-step_runs run r (verb.Ending one) = finish_runs one
+step_runs : {S : Type 0} (run : S → State → Outcome) → ((one : S) → IsRun (run one)) → (line : ℕ) (one : Verb S) → IsRun (step run line one)
+step_runs run r line (verb.Performing one) = performing_runs run r line one
+step_runs run r line (verb.Text one) = texts_runs one
+step_runs run r line (verb.Ending one) = finish_runs one
 
 pub exec_runs : (depth : ℕ) (one : Statement) → IsRun (exec depth one)
 exec_runs zero one = record { falls = λ s. tt; grows = λ s. itself s.events; alike = λ k s. itself s.events }
-exec_runs (suc depth) one = spend_runs (out-Statement one).place.line (step (exec depth) (out-Statement one).verb) (step_runs (exec depth) (exec_runs depth) (out-Statement one).verb)
+exec_runs (suc depth) one =
+    let line = (out-Statement one).place.line in
+    let verb = (out-Statement one).verb in
+    spend_runs line (step (exec depth) line verb) (step_runs (exec depth) (exec_runs depth) line verb)
 
 pub paragraph_runs : (depth : ℕ) (one : Paragraph) → IsRun (paragraph (exec depth) one)
 paragraph_runs depth one = in_turn_runs (sentence (exec depth)) (λ some. in_turn_runs (exec depth) (exec_runs depth) some.statements) one.sentences

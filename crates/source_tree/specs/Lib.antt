@@ -25,4 +25,5 @@ pub mod ValueRules
 pub mod EntryRules
 pub mod NameRules
 pub mod MoveRules
+pub mod TextRules
 pub use Rattle.station.specs.State as Events

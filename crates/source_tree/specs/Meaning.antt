@@ -25,17 +25,17 @@ abbrev pub finish : Ending → State → Outcome
 finish ending.StopRun s = Over Stopped s
 finish ending.Continue s = Done s
 
--- One statement after it has used one of the budget, by its family. `run` runs the statements that stand in it.
-abbrev pub step : {S : Type 0} → (S → State → Outcome) → Verb S → State → Outcome
-step run (verb.Performing one) s = performing run one s
-step run (verb.Text one) s = texts one s
-step run (verb.Ending one) s = finish one s
+-- One statement at this line after it has used one of the budget, by its family. `run` runs the statements that stand in it.
+abbrev pub step : {S : Type 0} → (S → State → Outcome) → ℕ → Verb S → State → Outcome
+step run line (verb.Performing one) s = performing run line one s
+step run line (verb.Text one) s = texts one s
+step run line (verb.Ending one) s = finish one s
 
 -- A statement, with at most `depth` statements in one another, itself among them. Each of these has used one of the
 -- budget, so that a depth above the budget is never used up.
 abbrev pub exec : ℕ → Statement → State → Outcome
 exec zero one s = Over Budget s
-exec (suc depth) one s = spend (out-Statement one).place.line s (step (exec depth) (out-Statement one).verb)
+exec (suc depth) one s = spend (out-Statement one).place.line s (step (exec depth) (out-Statement one).place.line (out-Statement one).verb)
 
 abbrev pub sentence : (Statement → State → Outcome) → Sentence → State → Outcome
 sentence run one s = in_turn run one.statements s

@@ -1,19 +1,41 @@
 -- PERFORM (COBOL-85, Nucleus, "The PERFORM statement").
+use Rattle.std.specs.Prelude.{ℕ, zero, suc, min, ◌≤◌}
 use Rattle.source_tree.specs.declared.performing.Performed.{Performed}
 use Rattle.source_tree.specs.declared.performing.Performed.TheVariants.{Statements}
 use Rattle.source_tree.specs.declared.performing.Turns.{Turns}
-use Rattle.source_tree.specs.declared.performing.Turns.TheVariants.{Once}
+use Rattle.source_tree.specs.declared.performing.Turns.TheVariants.{Once, Times}
 use Rattle.source_tree.specs.declared.performing.Performing.{Performing}
-use Rattle.source_tree.specs.State.{State, Outcome, in_turn}
+use Rattle.source_tree.specs.declared.literal.Integer.{Integer}
+use Rattle.source_tree.specs.Integers.{number_of}
+use Rattle.source_tree.specs.State.{State, Outcome, Done, then_do, in_turn, spend}
 
--- how often, as the phrase says
-abbrev pub repeat : Turns → (State → Outcome) → State → Outcome
-repeat Once body s = body s
+-- Turns of a loop. Each uses one of the budget, at the line of its PERFORM, before what is performed (own choice).
+abbrev pub turns : ℕ → ℕ → (State → Outcome) → State → Outcome
+turns line zero body s = Done s
+turns line (suc more) body s = spend line s (λ t. then_do (body t) (turns line more body))
+
+-- the most turns of a loop (own choice): what eight bytes hold
+abbrev pub most_turns : ℕ
+most_turns = 18446744073709551615
+
+-- How many turns an integer before TIMES says. None that a text can have is cut: a numeric literal has at most 18 digits
+-- (COBOL-85, Nucleus, "Literals").
+abbrev pub turns_of : Integer → ℕ
+turns_of one = min (number_of one) most_turns
+
+-- an ASCII digit
+abbrev pub IsDigit : ℕ → Type 0
+IsDigit byte = (48 ≤ byte) × (byte ≤ 57)
+
+-- how often, as the phrase of a PERFORM at this line says
+abbrev pub repeat : ℕ → Turns → (State → Outcome) → State → Outcome
+repeat line Once body s = body s
+repeat line (Times count) body s = turns line (turns_of count) body s
 
 module _ {S : Type 0} (run : S → State → Outcome) where
   -- what is performed, one time
   abbrev pub body : Performed S → State → Outcome
   body (Statements statements) s = in_turn run statements s
 
-  abbrev pub performing : Performing S → State → Outcome
-  performing one s = repeat one.turns (body one.performed) s
+  abbrev pub performing : ℕ → Performing S → State → Outcome
+  performing line one s = repeat line one.turns (body one.performed) s

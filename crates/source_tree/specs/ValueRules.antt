@@ -1,6 +1,8 @@
 -- The rules of VALUE: 47 a literal that its item can't hold as it is, 55 a range of values that is backwards (COBOL-85, Nucleus,
 -- "The VALUE clause").
-use Rattle.std.specs.Prelude.{ℕ, nat_lt, Bool, true, false, not, ◌&&◌, ◌||◌, List, [], ◌∷◌, ◌++◌, length, Option, Some, None}
+use Rattle.std.specs.Prelude.{ℕ, nat_lt, nat_le, Bool, true, false, not, ◌&&◌, ◌||◌, List, [], ◌∷◌, ◌++◌, length, Option, Some, None}
+use Rattle.std.specs.Char.{is_ascii_digit}
+use Rattle.std.specs.List.{list_all}
 use Rattle.std.specs.declared.cmp.Ordering.{Ordering}
 use Rattle.std.specs.declared.cmp.Ordering.TheVariants.{Greater}
 use Rattle.decimal18.specs.Fraction.{Fraction, is_negative}
@@ -25,6 +27,27 @@ use Rattle.source_tree.specs.declared.entry.ConditionEntry.{ConditionEntry}
 use Rattle.source_tree.specs.Literals.{Sender, literal_number, literal_sender}
 use Rattle.source_tree.specs.Broken.{Broken, where_so, each}
 
+-- ---- the form of a literal (COBOL-85, Nucleus, "Literals"; the most characters are this project's own choice)
+
+abbrev pub most_literal_digits : ℕ
+most_literal_digits = 18
+
+abbrev pub most_literal_characters : ℕ
+most_literal_characters = 160
+
+abbrev pub are_some : ℕ → ℕ → Bool
+are_some most n = nat_le 1 n && nat_le n most
+
+-- A numeric literal has 1 to 18 digits, and a text 1 to 160 characters. Those of a source text have this form.
+abbrev pub has_form : LiteralValue → Bool
+has_form (literal.Numeric one) =
+    list_all is_ascii_digit one.whole && list_all is_ascii_digit one.decimals && are_some most_literal_digits (length (one.whole ++ one.decimals))
+has_form (literal.Nonnumeric bytes) = are_some most_literal_characters (length bytes)
+has_form (literal.Figurative one) = true
+has_form (literal.All bytes) = are_some most_literal_characters (length bytes)
+
+-- ---- 47
+
 -- Zeros in front of the digits that the item keeps, and behind them, aren't cut.
 abbrev pub is_cut : Numeric → Fraction → Bool
 is_cut numeric x = not (equals (low_digits x numeric.digits numeric.scale Truncated) x)
@@ -41,9 +64,13 @@ wrong_text size (literal.Numeric one) = true
 wrong_text size (literal.Nonnumeric bytes) = nat_lt size (length bytes)
 wrong_text size _ = false
 
+abbrev pub wrong_class : Kind → ℕ → LiteralValue → Bool
+wrong_class (kind.Numeric numeric) size value = wrong_number numeric value
+wrong_class _ size value = wrong_text size value
+
+-- A literal of another form than literals have is no value of any item.
 abbrev pub wrong_value : Kind → ℕ → LiteralValue → Bool
-wrong_value (kind.Numeric numeric) size value = wrong_number numeric value
-wrong_value _ size value = wrong_text size value
+wrong_value kind size value = not (has_form value) || wrong_class kind size value
 
 -- Where a VALUE may not stand: in a file, under REDEFINES, in a group with VALUE.
 abbrev pub value_rules : Bool → Item → Option Literal → List Broken

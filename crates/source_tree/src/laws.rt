@@ -1,10 +1,14 @@
 //! What holds of every program's meaning.
 
-ghost use Rattle.std.specs.Prelude.{◌≡◌, ◌≢◌, ◌≤◌, ◌<◌, ℕ};
+ghost use Rattle.std.specs.Prelude.{◌≡◌, ◌≢◌, ◌≤◌, ◌<◌, ℕ, List, length};
+ghost use Rattle.std.specs.List.{AllByRecursion};
+ghost use Rattle.source_tree.specs.declared.literal.Integer.{Integer};
 ghost use Rattle.source_tree.specs.declared.program.Program.{Program};
 ghost use Rattle.source_tree.specs.declared.statement.Statement.{Statement};
 ghost use Rattle.source_tree.specs.Given.{Given, with_budget};
-ghost use Rattle.source_tree.specs.State.{State, Budget, outcome_events};
+ghost use Rattle.source_tree.specs.Integers.{number_of};
+ghost use Rattle.source_tree.specs.State.{State, Budget, in_turn, outcome_events};
+ghost use Rattle.source_tree.specs.Performing.{turns, most_turns, IsDigit, turns_of};
 ghost use Rattle.source_tree.specs.Meaning.{exec, run_from, start, told, meaning};
 ghost use Rattle.station.specs.State.{Begins};
 
@@ -23,4 +27,12 @@ pub fn budget_law()
 pub fn output_law()
     ensures statement { (one : Statement) (s : State) (depth : ℕ) → Begins s.events (outcome_events (exec depth one s)) }
     ensures program { (program : Program) (given : Given) (more : ℕ) → given.budget ≤ more → Begins (meaning program given).events (meaning program (with_budget more given)).events }
+{}
+
+/// Of an integer of 18 digits no turn is cut. A run with less budget than a loop has turns can't tell whether some were cut: it
+/// ends for want of budget.
+pub fn turns_law()
+    ensures digits { (count : Integer) → AllByRecursion IsDigit count.digits → length count.digits ≤ 18 → turns_of count ≡ number_of count }
+    ensures cut { (count : Integer) (line depth : ℕ) (statements : List Statement) (s : State) → s.budget < most_turns →
+        turns line (turns_of count) (in_turn (exec depth) statements) s ≡ turns line (number_of count) (in_turn (exec depth) statements) s }
 {}

@@ -9,6 +9,7 @@ mod laws;
 mod literal;
 mod name;
 mod performing;
+mod phrases;
 mod program;
 mod reference;
 mod statement;
@@ -22,11 +23,12 @@ pub use entry::{
     ValueRange,
 };
 pub use expression::{Expression, Operand, Operator};
-pub use laws::{budget_law, depth_law, output_law};
+pub use laws::{budget_law, depth_law, output_law, turns_law};
 pub use lexical::{NumericLiteral, Place, Sign};
 pub use literal::{Figurative, Integer, Literal, LiteralValue};
 pub use name::Name;
 pub use performing::{Performed, Performing, Turns};
+pub use phrases::Phrases;
 pub use program::{Paragraph, Program, Section, Sentence};
 pub use reference::{Adjustment, QualifiedName, Reference, Subscript};
 pub use statement::{Statement, Verb};

@@ -1,5 +1,6 @@
 //! PERFORM.
 
+use crate::literal::Integer;
 use sqlite_items::Items;
 
 /// What is performed (COBOL-85, Nucleus, "The PERFORM statement").
@@ -13,6 +14,8 @@ pub enum Performed<S> {
 #[derive(Debug, Drop)]
 pub enum Turns {
     Once,
+    /// TIMES.
+    Times(Integer),
 }
 
 #[derive(Debug, Drop)]

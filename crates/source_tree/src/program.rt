@@ -1,5 +1,6 @@
 //! Programs, sections, paragraphs and sentences.
 
+use crate::entry::Entry;
 use crate::name::Name;
 use crate::statement::Statement;
 use sqlite_items::Items;
@@ -26,9 +27,10 @@ pub struct Section {
     pub paragraphs: Items<Paragraph>,
 }
 
-/// A program by its name in PROGRAM-ID, with the sections of its procedure division.
+/// A program by its name in PROGRAM-ID, with the entries of its working storage and the sections of its procedure division.
 #[derive(Debug, Drop)]
 pub struct Program {
     pub name: Name,
+    pub storage: Items<Entry>,
     pub sections: Items<Section>,
 }

@@ -6,3 +6,4 @@ pub mod Literals
 pub mod Texts
 pub mod Fronts
 pub mod Fixed
+pub mod Refused

@@ -11,4 +11,5 @@ pub mod Scanning
 pub mod Tokens
 pub mod Spelled
 pub mod Kinds
+pub mod Refusals
 pub use Rattle.answers.specs.Answer

@@ -1,11 +1,13 @@
 //! The laws of the definitions.
 
-ghost use Rattle.std.specs.Prelude.{◌≡◌, ◌∷◌, ◌++◌, List, length, Option};
+ghost use Rattle.std.specs.Prelude.{◌≡◌, ◌∷◌, ◌++◌, List, length, Option, Ok, Err};
 ghost use Rattle.source_lines.specs.declared.lines.Character.{Character};
 ghost use Rattle.tokens.specs.declared.context.Context.{Context};
 ghost use Rattle.tokens.specs.declared.token.Kind.{Kind};
+ghost use Rattle.tokens.specs.declared.fault.TokenFault.{TokenFault};
 ghost use Rattle.tokens.specs.declared.token.Token.{Token};
 ghost use Rattle.tokens.specs.Kinds.{IsFront};
+ghost use Rattle.tokens.specs.Refusals.{Refuses};
 ghost use Rattle.tokens.specs.Scanning as spec;
 ghost use Rattle.tokens.specs.Tokens.{TokensOf, NoLonger, InOrder, Placed};
 ghost use Rattle.tokens.specs.Spelled.{Spelled, Separated};
@@ -26,4 +28,8 @@ pub fn laws()
     ensures texts { (characters : List Character) (found : List Token) → spec.tokens characters ≡ Ok found → Spelled characters found }
     // What lies before, between and after the spans is separators.
     ensures separators { (characters : List Character) (found : List Token) → spec.tokens characters ≡ Ok found → Separated 0 characters found }
+    // The fault that the function answers stands where no token and no separator begins, the first such place.
+    ensures refused { (characters : List Character) (fault : TokenFault) → spec.tokens characters ≡ Err fault → Refuses characters fault }
+    // Where there is such a place, the function answers that fault.
+    ensures refused_only { (characters : List Character) (fault : TokenFault) → Refuses characters fault → spec.tokens characters ≡ Err fault }
 {}

@@ -84,13 +84,19 @@ qualified_starts x i rest (i1, given, groups) = name_starts x.name i i1 given
 
 -- ---- integers
 
-integer_sound : Sound s.integer s.integer_reader
+pub integer_sound : Sound s.integer s.integer_reader
 unfolding s.integer_reader
 integer_sound = one_token_sound s.integer_in
 
-integer_complete : {Allowed : Halt → Type 0} → Complete Allowed s.integer s.integer_reader
+pub integer_complete : {Allowed : Halt → Type 0} → Complete Allowed s.integer s.integer_reader
 unfolding s.integer_reader
 integer_complete {Allowed = Allowed} = one_token_complete s.integer_in {Allowed = Allowed}
+
+pub integer_shrinks : Shrinks s.integer
+integer_shrinks = telling_shrinks s.integer_in
+
+pub integer_starts : Starts s.begins_integer s.integer
+integer_starts = telling_starts s.integer_in
 
 -- ---- what is added
 

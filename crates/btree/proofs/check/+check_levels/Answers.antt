@@ -26,7 +26,7 @@ pub returns-in-Some-clause-finds : goal.returns-in-Some-clause-finds
 returns-in-Some-clause-finds g t c = λ honest agrees.
     let level = c.check_level.ensures in
     let pages : List (Option Sector) = (map_now c.args.pages.now (g.D.Device.state c.args.device.now).disk.present).pages in
-    let same = same_pages c.args.pages.now c.check_level.new.pages (g.D.Device.state c.args.device.now) (g.D.Device.state c.check_level.new.device) level.untouched (level.state honest) in
+    let same = same_pages c.args.pages.now c.check_level.new.pages (g.D.Device.state c.args.device.now) (g.D.Device.state c.check_level.new.device) level.untouched (level.only.state honest) in
     let told = rw c.in-Some.is at (c.in_ok-lower.ensures.level honest agrees) in
     let lower : List Name = c.in-Some.lower.items in
     let names : List Name = c.as_slice.result.now in
@@ -34,20 +34,20 @@ returns-in-Some-clause-finds g t c = λ honest agrees.
     (λ finds. subst (λ (n : List Name). Finds c.args.form pages n c.args.seen.now c.check_levels.new.seen) c.as_slice.ensures.value
     (finds_inner c.args.form pages names lower c.args.seen.now c.check_level.new.seen c.check_levels.new.seen told.0 told.1 told.2 c.in_ok-lower.ensures.marks
     (subst (λ (p : List (Option Sector)). Finds c.args.form p lower c.check_level.new.seen c.check_levels.new.seen) same finds)))
-    (c.check_levels.ensures.finds (level.honest.0 honest) (level.agrees honest agrees))
+    (c.check_levels.ensures.finds (level.only.honest.0 honest) (level.agrees honest agrees))
 
 pub returns-in-Some-clause-damaged : goal.returns-in-Some-clause-damaged
 returns-in-Some-clause-damaged g t c = λ honest agrees is levels under can small few.
     let level = c.check_level.ensures in
     let pages : List (Option Sector) = (map_now c.args.pages.now (g.D.Device.state c.args.device.now).disk.present).pages in
-    let same = same_pages c.args.pages.now c.check_level.new.pages (g.D.Device.state c.args.device.now) (g.D.Device.state c.check_level.new.device) level.untouched (level.state honest) in
+    let same = same_pages c.args.pages.now c.check_level.new.pages (g.D.Device.state c.args.device.now) (g.D.Device.state c.check_level.new.device) level.untouched (level.only.state honest) in
     let told = rw c.in-Some.is at (c.in_ok-lower.ensures.level honest agrees) in
     let lower : List Name = c.in-Some.lower.items in
     let names : List Name = c.as_slice.result.now in
     let others = other_levels c.args.form pages names lower c.args.seen.now c.check_level.new.seen told.0 levels (subst (λ (n : List Name). 0 < length n) (sym c.as_slice.ensures.value) c.requires.some) told.1 told.2
     c.in_ok-lower.ensures.marks (subst (λ (n : List Name). IsUnder c.args.form pages n levels) (sym c.as_slice.ensures.value) under) can small in
     let fewer = others.fewer in
-    c.check_levels.ensures.damaged (level.honest.0 honest) (level.agrees honest agrees) is others.levels
+    c.check_levels.ensures.damaged (level.only.honest.0 honest) (level.agrees honest agrees) is others.levels
     (subst (λ (p : List (Option Sector)). IsUnder c.args.form p lower others.levels) (sym same) others.under) others.can others.small (omega arith)
 
 pub returns-clause-finds : goal.returns-clause-finds

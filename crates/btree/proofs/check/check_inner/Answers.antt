@@ -3,8 +3,9 @@ use Rattle.std.specs.Prelude.{Option}
 use Rattle.std.proofs.lemmas.List.{length-map}
 use Rattle.std.proofs.lemmas.Result.{err_from_is_err_and}
 use Rattle.station.specs.Disk.{Sector}
+use Rattle.station.proofs.Calls.{reads_then}
 use Rattle.pages.specs.Pages.{map_now}
-use Rattle.pages.specs.declared.error.PagesError.TheVariants.{Damaged}
+use Rattle.pages.specs.declared.error.PagesError.TheVariants.{Device, Damaged}
 use Rattle.tree_pages.specs.declared.form.Kind.TheVariants.{Inner}
 use Rattle.btree.specs.Tree.{Stands, rows_of}
 use Rattle.btree.specs.Rises.{part_of}
@@ -23,11 +24,11 @@ returns-in_err-part-clause-damaged g c = λ honest agrees is can level are few.
     let from = err_from_is_err_and c.from_residual.result c.from_residual.ensures.1 in
     let damaged : c.check_part.result ≡ Err Damaged = cc in
     let pages : List (Option Sector) = (map_now c.args.pages.now (g.D.Device.state c.args.device.now).disk.present).pages in
-    let same = same_pages c.args.pages.now loop.pages (g.D.Device.state c.args.device.now) (g.D.Device.state loop.device) loop.invariant.untouched (loop.invariant.state honest) in
+    let same = same_pages c.args.pages.now loop.pages (g.D.Device.state c.args.device.now) (g.D.Device.state loop.device) loop.invariant.untouched (loop.invariant.only.state honest) in
     let name = c.index-names-place.result in
     let low : loop.place < length c.args.names.now = c.loop-place-test.true in
     let here = part_at c.args.form pages Inner c.args.names.now loop.place name level low c.index-names-place.is are in
-    c.check_part.ensures.damaged (loop.invariant.honest.0 honest) (loop.invariant.agrees honest agrees) damaged
+    c.check_part.ensures.damaged (loop.invariant.only.honest.0 honest) (loop.invariant.agrees honest agrees) damaged
     (can_next c.args.names.now loop.place name c.args.seen.now loop.seen low c.index-names-place.is loop.invariant.marks can)
     here.part here.named (subst (λ (p : List (Option Sector)). Stands c.args.form p Inner here.part) (sym same) here.stands)
 
@@ -43,12 +44,12 @@ returns-then-seen-len-clause-damaged g c = λ honest agrees is can level are few
     let part = c.in_ok-part.part in
     let shape = c.in_ok-part.ensures.shape in
     let pages : List (Option Sector) = (map_now c.args.pages.now (g.D.Device.state c.args.device.now).disk.present).pages in
-    let same = same_pages c.args.pages.now loop.pages (g.D.Device.state c.args.device.now) (g.D.Device.state loop.device) loop.invariant.untouched (loop.invariant.state honest) in
+    let same = same_pages c.args.pages.now loop.pages (g.D.Device.state c.args.device.now) (g.D.Device.state loop.device) loop.invariant.untouched (loop.invariant.only.state honest) in
     let was = loop.invariant.level honest agrees in
     let name = c.index-names-place.result in
     let low : loop.place < length c.args.names.now = c.loop-place-test.true in
     let named : IsNamed c.args.form pages Inner name part.rows =
-    subst (λ (p : List (Option Sector)). IsNamed c.args.form p Inner name part.rows) same (c.in_ok-part.ensures.part (loop.invariant.honest.0 honest) (loop.invariant.agrees honest agrees)) in
+    subst (λ (p : List (Option Sector)). IsNamed c.args.form p Inner name part.rows) same (c.in_ok-part.ensures.part (loop.invariant.only.honest.0 honest) (loop.invariant.agrees honest agrees)) in
     let count : length c.push_names.new.names.items ≡ length loop.lower.items + length part.rows =
     ap length c.in_ok-push_names.ensures.names ∙ length-append loop.lower.items _ ∙ ap (λ n. length loop.lower.items + n) (length-map part.rows (name_in part.form)) in
     let within : length c.push_names.new.names.items ≤ length (rows_of level) =
@@ -70,13 +71,9 @@ loop-place-preserved g c =
     let count : length c.push_names.new.names.items ≡ length loop.lower.items + length part.rows =
     ap length added ∙ length-append loop.lower.items _ ∙ ap (λ n. length loop.lower.items + n) (length-map part.rows (name_in part.form)) in
     record {
-      honest = (λ h. read.honest.0 (loop.invariant.honest.0 h), λ h. loop.invariant.honest.1 (read.honest.1 h));
-      sectors = read.sectors ∙ loop.invariant.sectors;
-      failures = omega (arith, read.failures.no_fewer, loop.invariant.failures);
-      state = λ h. read.state (loop.invariant.honest.0 h) ∙ loop.invariant.state h;
-      history = λ h. read.history (loop.invariant.honest.0 h) ∙ loop.invariant.history h;
+      only = reads_then g.D.Device ⊥ _ ⊥ c.args.device.now loop.device c.check_part.new.device (λ e. absurd e) loop.invariant.only read.only;
       untouched = untouched_on c.args.pages.now loop.pages c.check_part.new.pages loop.invariant.untouched read.untouched;
-      agrees = λ h a. read.agrees (loop.invariant.honest.0 h) (loop.invariant.agrees h a);
+      agrees = λ h a. read.agrees (loop.invariant.only.honest.0 h) (loop.invariant.agrees h a);
       is_open = read.open;
       marks = marks_next names loop.place name c.args.seen.now loop.seen c.check_part.new.seen low c.index-names-place.is loop.invariant.marks c.in_ok-part.ensures.marks;
       more = let some = shape.2 in let before = loop.invariant.more in omega arith;
@@ -86,10 +83,10 @@ loop-place-preserved g c =
           omega (arith, within, marks);
       level = λ h a.
           let pages : List (Option Sector) = (map_now c.args.pages.now (g.D.Device.state c.args.device.now).disk.present).pages in
-          let same = same_pages c.args.pages.now loop.pages (g.D.Device.state c.args.device.now) (g.D.Device.state loop.device) loop.invariant.untouched (loop.invariant.state h) in
+          let same = same_pages c.args.pages.now loop.pages (g.D.Device.state c.args.device.now) (g.D.Device.state loop.device) loop.invariant.untouched (loop.invariant.only.state h) in
           let was = loop.invariant.level h a in
           let named : IsNamed c.args.form pages Inner name part.rows =
-          subst (λ (p : List (Option Sector)). IsNamed c.args.form p Inner name part.rows) same (c.in_ok-part.ensures.part (loop.invariant.honest.0 h) (loop.invariant.agrees h a)) in
+          subst (λ (p : List (Option Sector)). IsNamed c.args.form p Inner name part.rows) same (c.in_ok-part.ensures.part (loop.invariant.only.honest.0 h) (loop.invariant.agrees h a)) in
           let lists : Lists part.form (rows_of was.0) loop.lower.items = subst (λ f. Lists f (rows_of was.0) loop.lower.items) (sym shape.0) was.2 in
           let more = lists_more part.form (rows_of was.0) part.rows loop.lower.items c.push_names.new.names.items lists added c.in_ok-push_names.ensures.rows in (
             was.0 ++ part_of name.page part.rows ∷ [],

@@ -1,5 +1,5 @@
 use Rattle.std.proofs.Common.{◌≡◌, ◌≤◌, List, length, take}
-use Rattle.std.specs.Prelude.{◌↔◌}
+use Rattle.station.specs.Calls.{OnlyReads}
 use Rattle.pages.specs.Pages.{map_now, Agrees, IsOpen}
 use Rattle.tree_pages.specs.declared.form.Kind.TheVariants.{Inner}
 use Rattle.btree.specs.Tree.{Part, rows_of}
@@ -9,11 +9,7 @@ use Rattle.btree.proofs.check.check_inner.Given as goal
 
 abbrev pub invariant-loop-place : goal.invariant-loop-place
 invariant-loop-place g l = record {
-  honest : g.D.Device.is_honest l.fn.device ↔ g.D.Device.is_honest l.device;
-  sectors : g.D.Device.sectors l.device ≡ g.D.Device.sectors l.fn.device;
-  failures : g.D.Device.failures l.fn.device ≤ g.D.Device.failures l.device;
-  state : g.D.Device.is_honest l.fn.device → g.D.Device.state l.device ≡ g.D.Device.state l.fn.device;
-  history : g.D.Device.is_honest l.fn.device → g.D.Device.history l.device ≡ g.D.Device.history l.fn.device;
+  only : OnlyReads g.D.Device ⊥ l.fn.device l.device;
   untouched : Untouched l.fn.pages l.pages;
   agrees : g.D.Device.is_honest l.fn.device → Agrees l.fn.pages (g.D.Device.state l.fn.device).disk → Agrees l.pages (g.D.Device.state l.device).disk;
   is_open : IsOpen l.pages;

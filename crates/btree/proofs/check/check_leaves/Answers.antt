@@ -3,8 +3,9 @@ use Rattle.std.specs.Prelude.{Option}
 use Rattle.std.proofs.lemmas.List.{take_all}
 use Rattle.std.proofs.lemmas.Result.{err_from_is_err_and}
 use Rattle.station.specs.Disk.{Sector}
+use Rattle.station.proofs.Calls.{reads_nothing, reads_then}
 use Rattle.pages.specs.Pages.{map_now}
-use Rattle.pages.specs.declared.error.PagesError.TheVariants.{Damaged}
+use Rattle.pages.specs.declared.error.PagesError.TheVariants.{Device, Damaged}
 use Rattle.tree_pages.specs.declared.form.TreeForm.{TreeForm}
 use Rattle.tree_pages.specs.declared.form.Kind.TheVariants.{Leaf}
 use Rattle.btree.specs.Tree.{Stands, rows_of}
@@ -18,11 +19,7 @@ use Rattle.btree.proofs.check.check_leaves.Goals as goal
 
 pub loop-place-init : goal.loop-place-init
 loop-place-init g c = record {
-  honest = (λ h. h, λ h. h);
-  sectors = refl;
-  failures = omega arith;
-  state = λ h. refl;
-  history = λ h. refl;
+  only = reads_nothing g.D.Device c.args.device.now;
   untouched = untouched_still c.args.pages.now;
   agrees = λ h a. a;
   is_open = c.requires.open;
@@ -39,11 +36,11 @@ returns-in_err-leaf-clause-damaged g c = λ honest agrees is can level are up.
     let from = err_from_is_err_and c.from_residual.result c.from_residual.ensures.1 in
     let damaged : c.check_part.result ≡ Err Damaged = cc in
     let pages : List (Option Sector) = (map_now c.args.pages.now (g.D.Device.state c.args.device.now).disk.present).pages in
-    let same = same_pages c.args.pages.now loop.pages (g.D.Device.state c.args.device.now) (g.D.Device.state loop.device) loop.invariant.untouched (loop.invariant.state honest) in
+    let same = same_pages c.args.pages.now loop.pages (g.D.Device.state c.args.device.now) (g.D.Device.state loop.device) loop.invariant.untouched (loop.invariant.only.state honest) in
     let name = c.index-names-place.result in
     let low : loop.place < length c.args.names.now = c.loop-place-test.true in
     let here = part_at c.args.form pages Leaf c.args.names.now loop.place name level low c.index-names-place.is are in
-    c.check_part.ensures.damaged (loop.invariant.honest.0 honest) (loop.invariant.agrees honest agrees) damaged
+    c.check_part.ensures.damaged (loop.invariant.only.honest.0 honest) (loop.invariant.agrees honest agrees) damaged
     (can_next c.args.names.now loop.place name c.args.seen.now loop.seen low c.index-names-place.is loop.invariant.marks can)
     here.part here.named (subst (λ (p : List (Option Sector)). Stands c.args.form p Leaf here.part) (sym same) here.stands)
 
@@ -55,11 +52,11 @@ returns-then-not-is_in_order-clause-damaged g c = λ honest agrees is can level 
     let loop = c.loop-place in
     let leaf = c.in_ok-leaf.leaf in
     let pages : List (Option Sector) = (map_now c.args.pages.now (g.D.Device.state c.args.device.now).disk.present).pages in
-    let same = same_pages c.args.pages.now loop.pages (g.D.Device.state c.args.device.now) (g.D.Device.state loop.device) loop.invariant.untouched (loop.invariant.state honest) in
+    let same = same_pages c.args.pages.now loop.pages (g.D.Device.state c.args.device.now) (g.D.Device.state loop.device) loop.invariant.untouched (loop.invariant.only.state honest) in
     let name = c.index-names-place.result in
     let low : loop.place < length c.args.names.now = c.loop-place-test.true in
     let named : IsNamed c.args.form pages Leaf name leaf.rows =
-    subst (λ (p : List (Option Sector)). IsNamed c.args.form p Leaf name leaf.rows) same (c.in_ok-leaf.ensures.part (loop.invariant.honest.0 honest) (loop.invariant.agrees honest agrees)) in
+    subst (λ (p : List (Option Sector)). IsNamed c.args.form p Leaf name leaf.rows) same (c.in_ok-leaf.ensures.part (loop.invariant.only.honest.0 honest) (loop.invariant.agrees honest agrees)) in
     let form = sym c.in_ok-leaf.ensures.shape.0 in
     let order = read_in_order c.args.form pages c.args.names.now loop.place name leaf.rows level low c.index-names-place.is are up named in
     let no : c.is_in_order.result ≡ false = search rules in
@@ -75,21 +72,17 @@ loop-place-preserved g c =
     let names = c.args.names.now in
     let low : loop.place < length names = c.loop-place-test.true in
     record {
-      honest = (λ h. read.honest.0 (loop.invariant.honest.0 h), λ h. loop.invariant.honest.1 (read.honest.1 h));
-      sectors = read.sectors ∙ loop.invariant.sectors;
-      failures = omega (arith, read.failures.no_fewer, loop.invariant.failures);
-      state = λ h. read.state (loop.invariant.honest.0 h) ∙ loop.invariant.state h;
-      history = λ h. read.history (loop.invariant.honest.0 h) ∙ loop.invariant.history h;
+      only = reads_then g.D.Device ⊥ _ ⊥ c.args.device.now loop.device c.check_part.new.device (λ e. absurd e) loop.invariant.only read.only;
       untouched = untouched_on c.args.pages.now loop.pages c.check_part.new.pages loop.invariant.untouched read.untouched;
-      agrees = λ h a. read.agrees (loop.invariant.honest.0 h) (loop.invariant.agrees h a);
+      agrees = λ h a. read.agrees (loop.invariant.only.honest.0 h) (loop.invariant.agrees h a);
       is_open = read.open;
       marks = marks_next names loop.place name c.args.seen.now loop.seen c.check_part.new.seen low c.index-names-place.is loop.invariant.marks c.in_ok-leaf.ensures.marks;
       level = λ h a.
           let pages : List (Option Sector) = (map_now c.args.pages.now (g.D.Device.state c.args.device.now).disk.present).pages in
-          let same = same_pages c.args.pages.now loop.pages (g.D.Device.state c.args.device.now) (g.D.Device.state loop.device) loop.invariant.untouched (loop.invariant.state h) in
+          let same = same_pages c.args.pages.now loop.pages (g.D.Device.state c.args.device.now) (g.D.Device.state loop.device) loop.invariant.untouched (loop.invariant.only.state h) in
           let was = loop.invariant.level h a in
           let named : IsNamed c.args.form pages Leaf name leaf.rows =
-          subst (λ (p : List (Option Sector)). IsNamed c.args.form p Leaf name leaf.rows) same (c.in_ok-leaf.ensures.part (loop.invariant.honest.0 h) (loop.invariant.agrees h a)) in
+          subst (λ (p : List (Option Sector)). IsNamed c.args.form p Leaf name leaf.rows) same (c.in_ok-leaf.ensures.part (loop.invariant.only.honest.0 h) (loop.invariant.agrees h a)) in
           let yes : c.is_in_order.result ≡ true = search rules in
           let up = subst (λ (f : TreeForm). Up f leaf.rows) shape.0 (c.is_in_order.ensures.ascends yes) in
           let below = subst (λ (f : TreeForm). BelowName f names (loop.place + 1) leaf.rows) shape.0 (c.is_in_order.ensures.below yes) in

@@ -30,13 +30,13 @@ returns-in_err-check_leaves-in-Leaf-clause-damaged g c = λ honest agrees is can
     let damaged : c.check_leaves.result ≡ Err Damaged = cc in
     let pages : List (Option Sector) = (map_now c.args.pages.now (g.D.Device.state c.args.device.now).disk.present).pages in
     let first = c.in_ok-first.first in
-    let same = same_pages c.args.pages.now c.read_part.new.pages (g.D.Device.state c.args.device.now) (g.D.Device.state c.read_part.new.device) c.read_part.ensures.untouched (c.read_part.ensures.state honest) in
+    let same = same_pages c.args.pages.now c.read_part.new.pages (g.D.Device.state c.args.device.now) (g.D.Device.state c.read_part.new.device) c.read_part.ensures.untouched (c.read_part.ensures.only.state honest) in
     let leaf : first.kind ≡ Leaf = search rules in
     let name = slice_index_or c.args.names.now 0 c.index-names-0.result in
     let kind_is : kind ≡ Leaf =
     level_kind c.args.form pages kind c.args.names.now name level first c.requires.some (ap (λ (n : Name). slice_index_or c.args.names.now 0 n) c.index-names-0.is) are (c.in_ok-first.ensures.part honest agrees) ∙ leaf in
     let level_is : IsLevel c.args.form pages Leaf c.args.names.now level = subst (λ (k : Kind). IsLevel c.args.form pages k c.args.names.now level) kind_is are in
-    c.check_leaves.ensures.damaged (c.read_part.ensures.honest.0 honest) (c.read_part.ensures.agrees honest agrees) damaged can level
+    c.check_leaves.ensures.damaged (c.read_part.ensures.only.honest.0 honest) (c.read_part.ensures.agrees honest agrees) damaged can level
     (subst (λ (p : List (Option Sector)). IsLevel c.args.form p Leaf c.args.names.now level) (sym same) level_is) (up kind_is)
 
 pub returns-in_err-lower-in-Inner-clause-untouched : goal.returns-in_err-lower-in-Inner-clause-untouched
@@ -48,13 +48,13 @@ returns-in_err-lower-in-Inner-clause-damaged g c = λ honest agrees is can kind 
     let damaged : c.check_inner.result ≡ Err Damaged = cc in
     let pages : List (Option Sector) = (map_now c.args.pages.now (g.D.Device.state c.args.device.now).disk.present).pages in
     let first = c.in_ok-first.first in
-    let same = same_pages c.args.pages.now c.read_part.new.pages (g.D.Device.state c.args.device.now) (g.D.Device.state c.read_part.new.device) c.read_part.ensures.untouched (c.read_part.ensures.state honest) in
+    let same = same_pages c.args.pages.now c.read_part.new.pages (g.D.Device.state c.args.device.now) (g.D.Device.state c.read_part.new.device) c.read_part.ensures.untouched (c.read_part.ensures.only.state honest) in
     let inner : first.kind ≡ Inner = search rules in
     let name = slice_index_or c.args.names.now 0 c.index-names-0.result in
     let kind_is : kind ≡ Inner =
     level_kind c.args.form pages kind c.args.names.now name level first c.requires.some (ap (λ (n : Name). slice_index_or c.args.names.now 0 n) c.index-names-0.is) are (c.in_ok-first.ensures.part honest agrees) ∙ inner in
     let level_is : IsLevel c.args.form pages Inner c.args.names.now level = subst (λ (k : Kind). IsLevel c.args.form pages k c.args.names.now level) kind_is are in
-    c.check_inner.ensures.damaged (c.read_part.ensures.honest.0 honest) (c.read_part.ensures.agrees honest agrees) damaged can level
+    c.check_inner.ensures.damaged (c.read_part.ensures.only.honest.0 honest) (c.read_part.ensures.agrees honest agrees) damaged can level
     (subst (λ (p : List (Option Sector)). IsLevel c.args.form p Inner c.args.names.now level) (sym same) level_is) (few kind_is)
 
 pub returns-in_ok-check_leaves-in-Leaf-clause-untouched : goal.returns-in_ok-check_leaves-in-Leaf-clause-untouched
@@ -62,8 +62,8 @@ returns-in_ok-check_leaves-in-Leaf-clause-untouched g c = untouched_on c.args.pa
 
 pub returns-in_ok-check_leaves-in-Leaf-clause-level : goal.returns-in_ok-check_leaves-in-Leaf-clause-level
 returns-in_ok-check_leaves-in-Leaf-clause-level g c = λ honest agrees.
-    let same = same_pages c.args.pages.now c.read_part.new.pages (g.D.Device.state c.args.device.now) (g.D.Device.state c.read_part.new.device) c.read_part.ensures.untouched (c.read_part.ensures.state honest) in
-    let found = c.in_ok-check_leaves-in-Leaf.ensures.level (c.read_part.ensures.honest.0 honest) (c.read_part.ensures.agrees honest agrees) in
+    let same = same_pages c.args.pages.now c.read_part.new.pages (g.D.Device.state c.args.device.now) (g.D.Device.state c.read_part.new.device) c.read_part.ensures.untouched (c.read_part.ensures.only.state honest) in
+    let found = c.in_ok-check_leaves-in-Leaf.ensures.level (c.read_part.ensures.only.honest.0 honest) (c.read_part.ensures.agrees honest agrees) in
     (found.0, subst (λ (p : List (Option Sector)). IsLevel c.args.form p Leaf c.args.names.now found.0) same found.1, found.2)
 
 pub returns-in_ok-lower-in-Inner-clause-untouched : goal.returns-in_ok-lower-in-Inner-clause-untouched
@@ -71,6 +71,6 @@ returns-in_ok-lower-in-Inner-clause-untouched g c = untouched_on c.args.pages.no
 
 pub returns-in_ok-lower-in-Inner-clause-level : goal.returns-in_ok-lower-in-Inner-clause-level
 returns-in_ok-lower-in-Inner-clause-level g c = λ honest agrees.
-    let same = same_pages c.args.pages.now c.read_part.new.pages (g.D.Device.state c.args.device.now) (g.D.Device.state c.read_part.new.device) c.read_part.ensures.untouched (c.read_part.ensures.state honest) in
-    let found = c.in_ok-lower-in-Inner.ensures.level (c.read_part.ensures.honest.0 honest) (c.read_part.ensures.agrees honest agrees) in
+    let same = same_pages c.args.pages.now c.read_part.new.pages (g.D.Device.state c.args.device.now) (g.D.Device.state c.read_part.new.device) c.read_part.ensures.untouched (c.read_part.ensures.only.state honest) in
+    let found = c.in_ok-lower-in-Inner.ensures.level (c.read_part.ensures.only.honest.0 honest) (c.read_part.ensures.agrees honest agrees) in
     (found.0, subst (λ (p : List (Option Sector)). IsLevel c.args.form p Inner c.args.names.now found.0) same found.1, found.2)

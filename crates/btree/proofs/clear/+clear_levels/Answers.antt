@@ -55,8 +55,8 @@ returns-clause-cleared g t c = λ honest agrees levels few down.
     let Rest : State → Type 0 = λ s. IsSmall (pages_of_map c.release_pages.new.pages s.disk.present) → IsDown c.args.form (pages_of_map c.release_pages.new.pages s.disk.present) children (levels_below levels) →
     OnOk c.clear_levels.result (Moves (pages_of_map c.release_pages.new.pages s.disk.present) (pages_of (levels_below levels)) (pages_of_map c.clear_levels.new.pages s.disk.present) []) in
     let rest : Rest (g.D.Device.state c.args.device.now) =
-    subst Rest (below.state honest)
-    (c.clear_levels.ensures.cleared (below.honest.0 honest) (c.release_pages.ensures.keeps.agrees (g.D.Device.state c.below.new.device).disk (below.agrees honest agrees)) (levels_below levels)) in
+    subst Rest (below.only.state honest)
+    (c.clear_levels.ensures.cleared (below.only.honest.0 honest) (c.release_pages.ensures.keeps.agrees (g.D.Device.state c.below.new.device).disk (below.agrees honest agrees)) (levels_below levels)) in
     let small : IsSmall two = subst (λ (n : ℕ). n ≤ 2 ^ 20) (sym first.count) few in
     on_ok_weaker c.clear_levels.result (λ second. cleared_after c.args.form one two three numbers levels down first second) (rest small after)
 
@@ -77,8 +77,8 @@ returns-clause-damaged g t c = λ honest agrees is levels few down deep.
     let Rest : State → Type 0 = λ s. IsSmall (pages_of_map c.release_pages.new.pages s.disk.present) → IsDown c.args.form (pages_of_map c.release_pages.new.pages s.disk.present) children (levels_below levels) →
     length (levels_below levels) ≤ c.args.depth - 1 → ⊥ in
     let rest : Rest (g.D.Device.state c.args.device.now) =
-    subst Rest (below.state honest)
-    (c.clear_levels.ensures.damaged (below.honest.0 honest) (c.release_pages.ensures.keeps.agrees (g.D.Device.state c.below.new.device).disk (below.agrees honest agrees)) is (levels_below levels)) in
+    subst Rest (below.only.state honest)
+    (c.clear_levels.ensures.damaged (below.only.honest.0 honest) (c.release_pages.ensures.keeps.agrees (g.D.Device.state c.below.new.device).disk (below.agrees honest agrees)) is (levels_below levels)) in
     let small : IsSmall two = subst (λ (n : ℕ). n ≤ 2 ^ 20) (sym first.count) few in
     let some : 0 < length c.as_slice.result.now = search rules in
     let count = fewer_levels c.args.form one c.as_slice.result.now levels some here in

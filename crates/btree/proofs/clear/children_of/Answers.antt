@@ -2,7 +2,8 @@ use Rattle.std.proofs.Common.{◌≡◌, ◌<◌, ◌+◌, ℕ, List, [], ◌++�
 use Rattle.std.specs.Prelude.{Option, Some, slice_index_or}
 use Rattle.std.proofs.lemmas.Result.{err_from_is_err_and}
 use Rattle.station.specs.Disk.{Sector}
-use Rattle.pages.specs.declared.error.PagesError.TheVariants.{Damaged}
+use Rattle.station.proofs.Calls.{reads_then}
+use Rattle.pages.specs.declared.error.PagesError.TheVariants.{Device, Damaged}
 use Rattle.tree_pages.specs.declared.form.TreeForm.{TreeForm}
 use Rattle.tree_pages.specs.declared.form.Kind.TheVariants.{Leaf, Inner}
 use Rattle.tree_pages.specs.Keys.{child_of}
@@ -22,13 +23,13 @@ returns-in_err-part-clause-damaged g c = λ honest agrees is level stand numbers
     let loop = c.loop-place in
     let from = err_from_is_err_and c.from_residual.result c.from_residual.ensures.1 in
     let damaged : c.read_part.result ≡ Err Damaged = cc in
-    let same = same_pages c.args.pages.now loop.pages (g.D.Device.state c.args.device.now) (g.D.Device.state loop.device) loop.invariant.untouched (loop.invariant.state honest) in
+    let same = same_pages c.args.pages.now loop.pages (g.D.Device.state c.args.device.now) (g.D.Device.state loop.device) loop.invariant.untouched (loop.invariant.only.state honest) in
     let none : Part = part_of 0 [] in
     let here : Part = slice_index_or level loop.place none in
     let count = as_many level c.args.numbers.now numbers in
     let test = c.loop-place-test.true in
     let low : loop.place < length level = omega arith in
-    c.read_part.ensures.damaged (loop.invariant.honest.0 honest) (loop.invariant.agrees honest agrees) damaged Inner here (page_at level c.args.numbers.now loop.place none numbers low)
+    c.read_part.ensures.damaged (loop.invariant.only.honest.0 honest) (loop.invariant.agrees honest agrees) damaged Inner here (page_at level c.args.numbers.now loop.place none numbers low)
     (subst (λ (p : List (Option Sector)). Stands c.args.form p Inner here) (sym same) (stand loop.place none low))
 
 pub returns-then-ne-clause-untouched : goal.returns-then-ne-clause-untouched
@@ -39,7 +40,7 @@ returns-then-ne-clause-damaged g c = λ honest agrees is level stand numbers bel
     let loop = c.loop-place in
     let part = c.in_ok-part.part in
     let pages = pages_of_map c.args.pages.now (g.D.Device.state c.args.device.now).disk.present in
-    let same = same_pages c.args.pages.now loop.pages (g.D.Device.state c.args.device.now) (g.D.Device.state loop.device) loop.invariant.untouched (loop.invariant.state honest) in
+    let same = same_pages c.args.pages.now loop.pages (g.D.Device.state c.args.device.now) (g.D.Device.state loop.device) loop.invariant.untouched (loop.invariant.only.state honest) in
     let none : Part = part_of 0 [] in
     let here : Part = slice_index_or level loop.place none in
     let count = as_many level c.args.numbers.now numbers in
@@ -47,7 +48,7 @@ returns-then-ne-clause-damaged g c = λ honest agrees is level stand numbers bel
     let low : loop.place < length level = omega arith in
     let number : ℕ = slice_index_or c.args.numbers.now loop.place 0 in
     let read : node_at c.args.form pages number ≡ Some part =
-    subst (λ (p : List (Option Sector)). node_at c.args.form p number ≡ Some part) same (c.in_ok-part.ensures.part (loop.invariant.honest.0 honest) (loop.invariant.agrees honest agrees)) in
+    subst (λ (p : List (Option Sector)). node_at c.args.form p number ≡ Some part) same (c.in_ok-part.ensures.part (loop.invariant.only.honest.0 honest) (loop.invariant.agrees honest agrees)) in
     let inner : Inner ≡ part.kind = kind_read c.args.form pages Inner here number part (page_at level c.args.numbers.now loop.place none numbers low) (stand loop.place none low) read in
     let other : part.kind ≡ Leaf = search rules in
     let clash : Inner ≡ Leaf = inner ∙ other in
@@ -65,7 +66,7 @@ returns-then-room-len-clause-damaged g c = λ honest agrees is level stand numbe
     let part = c.in_ok-part.part in
     let image = (g.D.Device.state c.args.device.now).disk.present in
     let pages = pages_of_map c.args.pages.now image in
-    let same = same_pages c.args.pages.now loop.pages (g.D.Device.state c.args.device.now) (g.D.Device.state loop.device) loop.invariant.untouched (loop.invariant.state honest) in
+    let same = same_pages c.args.pages.now loop.pages (g.D.Device.state c.args.device.now) (g.D.Device.state loop.device) loop.invariant.untouched (loop.invariant.only.state honest) in
     let none : Part = part_of 0 [] in
     let here : Part = slice_index_or level loop.place none in
     let count = as_many level c.args.numbers.now numbers in
@@ -73,7 +74,7 @@ returns-then-room-len-clause-damaged g c = λ honest agrees is level stand numbe
     let low : loop.place < length level = omega arith in
     let number : ℕ = slice_index_or c.args.numbers.now loop.place 0 in
     let at : node_at c.args.form pages number ≡ Some part =
-    subst (λ (p : List (Option Sector)). node_at c.args.form p number ≡ Some part) same (c.in_ok-part.ensures.part (loop.invariant.honest.0 honest) (loop.invariant.agrees honest agrees)) in
+    subst (λ (p : List (Option Sector)). node_at c.args.form p number ≡ Some part) same (c.in_ok-part.ensures.part (loop.invariant.only.honest.0 honest) (loop.invariant.agrees honest agrees)) in
     let rows : here.rows ≡ part.rows = rows_read c.args.form pages Inner here number part (page_at level c.args.numbers.now loop.place none numbers low) (stand loop.place none low) at in
     let pushed : c.push_children.new.numbers.items ≡ loop.children.items ++ map (child_of c.args.form) part.rows =
     c.in_ok-push_children.ensures.numbers ∙ ap (λ (f : TreeForm). loop.children.items ++ map (child_of f) part.rows) c.in_ok-part.ensures.shape.0 in
@@ -90,17 +91,13 @@ loop-place-preserved g c =
     let read = c.read_part.ensures in
     let part = c.in_ok-part.part in
     record {
-      honest = (λ h. read.honest.0 (loop.invariant.honest.0 h), λ h. loop.invariant.honest.1 (read.honest.1 h));
-      sectors = read.sectors ∙ loop.invariant.sectors;
-      failures = omega (arith, read.failures.no_fewer, loop.invariant.failures);
-      state = λ h. read.state (loop.invariant.honest.0 h) ∙ loop.invariant.state h;
-      history = λ h. read.history (loop.invariant.honest.0 h) ∙ loop.invariant.history h;
+      only = reads_then g.D.Device ⊥ _ ⊥ c.args.device.now loop.device c.read_part.new.device (λ e. absurd e) loop.invariant.only read.only;
       untouched = untouched_on c.args.pages.now loop.pages c.read_part.new.pages loop.invariant.untouched read.untouched;
-      agrees = λ h a. read.agrees (loop.invariant.honest.0 h) (loop.invariant.agrees h a);
+      agrees = λ h a. read.agrees (loop.invariant.only.honest.0 h) (loop.invariant.agrees h a);
       is_open = read.open;
       children = λ h a level stand numbers.
           let pages = pages_of_map c.args.pages.now (g.D.Device.state c.args.device.now).disk.present in
-          let same = same_pages c.args.pages.now loop.pages (g.D.Device.state c.args.device.now) (g.D.Device.state loop.device) loop.invariant.untouched (loop.invariant.state h) in
+          let same = same_pages c.args.pages.now loop.pages (g.D.Device.state c.args.device.now) (g.D.Device.state loop.device) loop.invariant.untouched (loop.invariant.only.state h) in
           let none : Part = part_of 0 [] in
           let here : Part = slice_index_or level loop.place none in
           let count = as_many level c.args.numbers.now numbers in
@@ -108,7 +105,7 @@ loop-place-preserved g c =
           let low : loop.place < length level = omega arith in
           let number : ℕ = slice_index_or c.args.numbers.now loop.place 0 in
           let at : node_at c.args.form pages number ≡ Some part =
-          subst (λ (p : List (Option Sector)). node_at c.args.form p number ≡ Some part) same (c.in_ok-part.ensures.part (loop.invariant.honest.0 h) (loop.invariant.agrees h a)) in
+          subst (λ (p : List (Option Sector)). node_at c.args.form p number ≡ Some part) same (c.in_ok-part.ensures.part (loop.invariant.only.honest.0 h) (loop.invariant.agrees h a)) in
           let rows : here.rows ≡ part.rows = rows_read c.args.form pages Inner here number part (page_at level c.args.numbers.now loop.place none numbers low) (stand loop.place none low) at in
           let pushed : c.push_children.new.numbers.items ≡ loop.children.items ++ map (child_of c.args.form) part.rows =
           c.in_ok-push_children.ensures.numbers ∙ ap (λ (f : TreeForm). loop.children.items ++ map (child_of f) part.rows) c.in_ok-part.ensures.shape.0 in

@@ -3,8 +3,9 @@ use Rattle.std.specs.Prelude.{Option, None}
 use Rattle.std.proofs.lemmas.List.{length-append}
 use Rattle.std.proofs.lemmas.Result.{err_from_is_err_and}
 use Rattle.station.specs.Disk.{Sector}
+use Rattle.station.proofs.Calls.{reads_nothing, reads_then}
 use Rattle.pages.specs.Pages.{map_now, is_spent, page_count}
-use Rattle.pages.specs.declared.error.PagesError.TheVariants.{Damaged, Spent}
+use Rattle.pages.specs.declared.error.PagesError.TheVariants.{Device, Damaged, Spent}
 use Rattle.btree.specs.Tree.{Stands}
 use Rattle.btree.specs.Path.{Turn}
 use Rattle.btree.proofs.Descents.{Along, start, too_deep, along_stands}
@@ -17,11 +18,7 @@ use Rattle.btree.proofs.descend.follow.Goals as goal
 
 pub loop-depth-init : goal.loop-depth-init
 loop-depth-init g c = record {
-  honest = (λ h. h, λ h. h);
-  sectors = refl;
-  failures = omega arith;
-  state = λ h. refl;
-  history = λ h. refl;
+  only = reads_nothing g.D.Device c.args.device.now;
   untouched = untouched_still c.args.pages.now;
   agrees = λ h a. a;
   is_open = c.requires.open;
@@ -46,8 +43,8 @@ returns-in_err-child-clause-damaged g c = λ h a is levels tree.
     let unspent : is_spent c.args.pages.now ≡ false = sym c.loop-depth.invariant.untouched.committed.spent ∙ here in
     let stands = along_stands c.args.form (map_now c.args.pages.now (g.D.Device.state c.args.device.now).disk.present).pages levels c.args.key.now c.loop-depth.path.items c.loop-depth.page c.loop-depth.right
     (c.loop-depth.invariant.way unspent h a levels tree) in
-    let same = same_pages c.args.pages.now c.loop-depth.pages (g.D.Device.state c.args.device.now) (g.D.Device.state c.loop-depth.device) c.loop-depth.invariant.untouched (c.loop-depth.invariant.state h) in
-    c.step_at.ensures.damaged (c.loop-depth.invariant.honest.0 h) (c.loop-depth.invariant.agrees h a) damaged stands.kind stands.part stands.same
+    let same = same_pages c.args.pages.now c.loop-depth.pages (g.D.Device.state c.args.device.now) (g.D.Device.state c.loop-depth.device) c.loop-depth.invariant.untouched (c.loop-depth.invariant.only.state h) in
+    c.step_at.ensures.damaged (c.loop-depth.invariant.only.honest.0 h) (c.loop-depth.invariant.agrees h a) damaged stands.kind stands.part stands.same
     (subst (λ (pages : List (Option Sector)). Stands c.args.form pages stands.kind stands.part) (sym same) stands.stands)
 
 pub returns-in-None-clause-untouched : goal.returns-in-None-clause-untouched
@@ -58,31 +55,27 @@ returns-in-None-clause-way g c = λ h a levels tree.
     let here : is_spent c.loop-depth.pages ≡ false = false_unless (is_spent c.loop-depth.pages) (λ spent. ok_or_err c.in_ok-child.field-0 Spent (sym c.in_ok-child.was ∙ c.step_at.ensures.spent.1 spent)) in
     let unspent : is_spent c.args.pages.now ≡ false = sym c.loop-depth.invariant.untouched.committed.spent ∙ here in
     let pages : List (Option Sector) = (map_now c.args.pages.now (g.D.Device.state c.args.device.now).disk.present).pages in
-    let same = same_pages c.args.pages.now c.loop-depth.pages (g.D.Device.state c.args.device.now) (g.D.Device.state c.loop-depth.device) c.loop-depth.invariant.untouched (c.loop-depth.invariant.state h) in
+    let same = same_pages c.args.pages.now c.loop-depth.pages (g.D.Device.state c.args.device.now) (g.D.Device.state c.loop-depth.device) c.loop-depth.invariant.untouched (c.loop-depth.invariant.only.state h) in
     let P : List (Option Sector) → Option Child → Type 0 = λ p child. StepsAt c.args.form p c.loop-depth.page c.args.key.now c.loop-depth.right c.step_at.new.right child in
-    let first : P pages c.in_ok-child.field-0 = subst (λ (p : List (Option Sector)). P p c.in_ok-child.field-0) same (c.in_ok-child.ensures.step (c.loop-depth.invariant.honest.0 h) (c.loop-depth.invariant.agrees h a)) in
+    let first : P pages c.in_ok-child.field-0 = subst (λ (p : List (Option Sector)). P p c.in_ok-child.field-0) same (c.in_ok-child.ensures.step (c.loop-depth.invariant.only.honest.0 h) (c.loop-depth.invariant.agrees h a)) in
     step_ends c.args.form pages c.args.root levels c.args.key.now c.loop-depth.path.items c.loop-depth.page c.loop-depth.right c.step_at.new.right tree (c.loop-depth.invariant.way unspent h a levels tree) (subst (P pages) c.in-None.is first)
 
 pub loop-depth-preserved : goal.loop-depth-preserved
 loop-depth-preserved g c =
     let here : is_spent c.loop-depth.pages ≡ false = false_unless (is_spent c.loop-depth.pages) (λ spent. ok_or_err c.in_ok-child.field-0 Spent (sym c.in_ok-child.was ∙ c.step_at.ensures.spent.1 spent)) in
     record {
-      honest = (λ h. c.step_at.ensures.honest.0 (c.loop-depth.invariant.honest.0 h), λ h. c.loop-depth.invariant.honest.1 (c.step_at.ensures.honest.1 h));
-      sectors = c.step_at.ensures.sectors ∙ c.loop-depth.invariant.sectors;
-      failures = omega (arith, c.step_at.ensures.failures.no_fewer, c.loop-depth.invariant.failures);
-      state = λ h. c.step_at.ensures.state (c.loop-depth.invariant.honest.0 h) ∙ c.loop-depth.invariant.state h;
-      history = λ h. c.step_at.ensures.history (c.loop-depth.invariant.honest.0 h) ∙ c.loop-depth.invariant.history h;
+      only = reads_then g.D.Device ⊥ _ ⊥ c.args.device.now c.loop-depth.device c.step_at.new.device (λ e. absurd e) c.loop-depth.invariant.only c.step_at.ensures.only;
       untouched = untouched_on c.args.pages.now c.loop-depth.pages c.step_at.new.pages c.loop-depth.invariant.untouched c.step_at.ensures.untouched;
-      agrees = λ h a. c.step_at.ensures.agrees (c.loop-depth.invariant.honest.0 h) (c.loop-depth.invariant.agrees h a);
+      agrees = λ h a. c.step_at.ensures.agrees (c.loop-depth.invariant.only.honest.0 h) (c.loop-depth.invariant.agrees h a);
       is_open = c.step_at.ensures.open;
       spent = λ low. sym c.loop-depth.invariant.untouched.committed.spent ∙ here;
       room = c.push_reserved.ensures.capacity ∙ c.loop-depth.invariant.room;
       turns = ap length c.push_reserved.ensures.items ∙ length-append c.loop-depth.path.items _ ∙ ap (λ (n : ℕ). n + 1) c.loop-depth.invariant.turns;
       way = λ unspent h a levels tree.
           let pages : List (Option Sector) = (map_now c.args.pages.now (g.D.Device.state c.args.device.now).disk.present).pages in
-          let same = same_pages c.args.pages.now c.loop-depth.pages (g.D.Device.state c.args.device.now) (g.D.Device.state c.loop-depth.device) c.loop-depth.invariant.untouched (c.loop-depth.invariant.state h) in
+          let same = same_pages c.args.pages.now c.loop-depth.pages (g.D.Device.state c.args.device.now) (g.D.Device.state c.loop-depth.device) c.loop-depth.invariant.untouched (c.loop-depth.invariant.only.state h) in
           let P : List (Option Sector) → Option Child → Type 0 = λ p child. StepsAt c.args.form p c.loop-depth.page c.args.key.now c.loop-depth.right c.step_at.new.right child in
-          let first : P pages c.in_ok-child.field-0 = subst (λ (p : List (Option Sector)). P p c.in_ok-child.field-0) same (c.in_ok-child.ensures.step (c.loop-depth.invariant.honest.0 h) (c.loop-depth.invariant.agrees h a)) in
+          let first : P pages c.in_ok-child.field-0 = subst (λ (p : List (Option Sector)). P p c.in_ok-child.field-0) same (c.in_ok-child.ensures.step (c.loop-depth.invariant.only.honest.0 h) (c.loop-depth.invariant.agrees h a)) in
           subst (λ (turns : List Turn). Along c.args.form pages levels c.args.key.now turns c.in-Some.child.page c.step_at.new.right) (sym c.push_reserved.ensures.items)
           (step_on c.args.form pages levels c.args.key.now c.loop-depth.path.items c.loop-depth.page c.loop-depth.right c.step_at.new.right c.in-Some.child (c.loop-depth.invariant.way unspent h a levels tree) (subst (P pages) c.in-Some.is first));
     }

@@ -1,5 +1,5 @@
 use Rattle.std.proofs.Common.{◌≡◌, ◌≤◌, ◌<◌, List, length, false}
-use Rattle.std.specs.Prelude.{◌↔◌}
+use Rattle.station.specs.Calls.{OnlyReads}
 use Rattle.pages.specs.Pages.{map_now, is_spent, Agrees, IsOpen}
 use Rattle.btree.specs.Tree.{Part, IsTree}
 use Rattle.btree.specs.Reading.{Untouched}
@@ -8,11 +8,7 @@ use Rattle.btree.proofs.descend.follow.Given as goal
 
 abbrev pub invariant-loop-depth : goal.invariant-loop-depth
 invariant-loop-depth g l = record {
-  honest : g.D.Device.is_honest l.fn.device ↔ g.D.Device.is_honest l.device;
-  sectors : g.D.Device.sectors l.device ≡ g.D.Device.sectors l.fn.device;
-  failures : g.D.Device.failures l.fn.device ≤ g.D.Device.failures l.device;
-  state : g.D.Device.is_honest l.fn.device → g.D.Device.state l.device ≡ g.D.Device.state l.fn.device;
-  history : g.D.Device.is_honest l.fn.device → g.D.Device.history l.device ≡ g.D.Device.history l.fn.device;
+  only : OnlyReads g.D.Device ⊥ l.fn.device l.device;
   untouched : Untouched l.fn.pages l.pages;
   agrees : g.D.Device.is_honest l.fn.device → Agrees l.fn.pages (g.D.Device.state l.fn.device).disk → Agrees l.pages (g.D.Device.state l.device).disk;
   is_open : IsOpen l.pages;

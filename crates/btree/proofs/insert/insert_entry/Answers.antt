@@ -52,8 +52,8 @@ returns-in_err-entered-clause-damaged g c = λ honest agrees is levels holds.
     let before = pages_of_map c.args.pages.now image in
     let told = rw is at c.from_residual-in_err-entered.ensures.1 in
     let tree = holds_tree c.args.form before c.args.root levels holds c.if-root-eq0.false in
-    let same = ap (λ (s : State). pages_of_map c.descend.new.pages s.disk.present) (c.descend.ensures.state honest) ∙ ap (λ (m : Map). m.pages) (c.descend.ensures.untouched.map image) in
-    c.in_err-entered.ensures.damaged (c.descend.ensures.honest.0 honest) (c.descend.ensures.agrees honest agrees) (cc told) levels
+    let same = ap (λ (s : State). pages_of_map c.descend.new.pages s.disk.present) (c.descend.ensures.only.state honest) ∙ ap (λ (m : Map). m.pages) (c.descend.ensures.untouched.map image) in
+    c.in_err-entered.ensures.damaged (c.descend.ensures.only.honest.0 honest) (c.descend.ensures.agrees honest agrees) (cc told) levels
     (subst (λ (pages : List (Option Sector)). IsTree c.args.form pages c.args.root levels) (sym same) tree) (c.in_ok-descent.ensures.way honest agrees levels tree)
 
 pub returns-clause-inserted : goal.returns-clause-inserted
@@ -66,9 +66,9 @@ returns-clause-inserted g c = λ honest agrees levels holds.
     let new = c.in_ok-entered.entered in
     let tree = holds_tree c.args.form before c.args.root levels holds c.if-root-eq0.false in
     let form_is = c.in_ok-descent.ensures.leaf.0 in
-    let raw = c.in_ok-entered.ensures.entered (c.descend.ensures.honest.0 honest) (c.descend.ensures.agrees honest agrees) in
+    let raw = c.in_ok-entered.ensures.entered (c.descend.ensures.only.honest.0 honest) (c.descend.ensures.agrees honest agrees) in
     let at_state = subst (λ (s : State). Enters c.args.form c.args.root (pages_of_map c.descend.new.pages s.disk.present) (pages_of_map c.enter.new.pages s.disk.present) d.path.items d.page d.leaf.rows d.right place c.args.key.now c.args.value.now new)
-    (c.descend.ensures.state honest) raw in
+    (c.descend.ensures.only.state honest) raw in
     let enters = subst (λ (pages : List (Option Sector)). Enters c.args.form c.args.root pages after d.path.items d.page d.leaf.rows d.right place c.args.key.now c.args.value.now new) (ap (λ (m : Map). m.pages) (c.descend.ensures.untouched.map image)) at_state in
     came c.args.form before after c.args.root levels d.path.items d.page d.leaf.rows d.right place c.args.key.now c.args.value.now new tree (c.in_ok-descent.ensures.way honest agrees levels tree)
     c.in-Err.ensures.missing (subst (λ (f : TreeForm). FindsGap f c.args.key.now d.leaf.rows place) form_is c.in-Err.ensures.around) enters

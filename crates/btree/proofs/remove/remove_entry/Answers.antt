@@ -80,9 +80,9 @@ returns-in_err-fate-clause-damaged g c = λ honest agrees is levels holds.
     } in
     let told = rw is at c.from_residual-in_err-fate.ensures.1 in
     let disk = (g.D.Device.state c.descend.new.device).disk in
-    let raw = c.in_err-fate.ensures.damaged (c.descend.ensures.honest.0 honest) (c.take_out.ensures.keeps.agrees disk (c.descend.ensures.agrees honest agrees)) (cc told) in
+    let raw = c.in_err-fate.ensures.damaged (c.descend.ensures.only.honest.0 honest) (c.take_out.ensures.keeps.agrees disk (c.descend.ensures.agrees honest agrees)) (cc told) in
     let never = subst (λ (path : List Turn). NeverShrinks c.args.form path one out) c.as_slice.ensures
-    (subst (λ (s : State). NeverShrinks c.args.form c.as_slice.result.now (pages_of_map c.take_out.new.pages s.disk.present) out) (c.descend.ensures.state honest) raw) in
+    (subst (λ (s : State). NeverShrinks c.args.form c.as_slice.result.now (pages_of_map c.take_out.new.pages s.disk.present) out) (c.descend.ensures.only.state honest) raw) in
     never_went c.args.form before one c.args.root levels d.path.items d.page d.leaf d.right place c.args.key.now out tree (c.in_ok-descent.ensures.way honest agrees levels tree) taken never
 
 pub returns-in_err-new-clause-damaged : goal.returns-in_err-new-clause-damaged
@@ -107,9 +107,9 @@ returns-in_err-new-clause-damaged g c = λ honest agrees is levels holds.
     } in
     let told = rw is at c.from_residual-in_err-new.ensures.1 in
     let disk = (g.D.Device.state c.descend.new.device).disk in
-    let raw = c.in_ok-fate.ensures.shrinks (c.descend.ensures.honest.0 honest) (c.take_out.ensures.keeps.agrees disk (c.descend.ensures.agrees honest agrees)) in
+    let raw = c.in_ok-fate.ensures.shrinks (c.descend.ensures.only.honest.0 honest) (c.take_out.ensures.keeps.agrees disk (c.descend.ensures.agrees honest agrees)) in
     let shrinks = subst (λ (path : List Turn). ShrinksBy c.args.form path one two out fate) c.as_slice.ensures
-    (subst (λ (s : State). ShrinksBy c.args.form c.as_slice.result.now (pages_of_map c.take_out.new.pages s.disk.present) (pages_of_map c.shrink.new.pages s.disk.present) out fate) (c.descend.ensures.state honest) raw) in
+    (subst (λ (s : State). ShrinksBy c.args.form c.as_slice.result.now (pages_of_map c.take_out.new.pages s.disk.present) (pages_of_map c.shrink.new.pages s.disk.present) out fate) (c.descend.ensures.only.state honest) raw) in
     never_left c.args.form before one two c.args.root levels d.path.items d.page d.leaf d.right place c.args.key.now out fate tree (c.in_ok-descent.ensures.way honest agrees levels tree) taken shrinks
     (c.in_err-new.ensures.damaged (cc told) image c.args.form)
 
@@ -135,9 +135,9 @@ returns-clause-removed g c = λ honest agrees levels holds.
       fares = subst (λ (pages : List (Option Sector)). CanStand pages d.page d.leaf → Fares d.leaf.form Leaf pages one d.page d.leaf.rows (take place d.leaf.rows ++ drop (place + 1) d.leaf.rows) out) same (c.in_ok-out.ensures.pages image);
     } in
     let disk = (g.D.Device.state c.descend.new.device).disk in
-    let raw = c.in_ok-fate.ensures.shrinks (c.descend.ensures.honest.0 honest) (c.take_out.ensures.keeps.agrees disk (c.descend.ensures.agrees honest agrees)) in
+    let raw = c.in_ok-fate.ensures.shrinks (c.descend.ensures.only.honest.0 honest) (c.take_out.ensures.keeps.agrees disk (c.descend.ensures.agrees honest agrees)) in
     let shrinks = subst (λ (path : List Turn). ShrinksBy c.args.form path one two out fate) c.as_slice.ensures
-    (subst (λ (s : State). ShrinksBy c.args.form c.as_slice.result.now (pages_of_map c.take_out.new.pages s.disk.present) (pages_of_map c.shrink.new.pages s.disk.present) out fate) (c.descend.ensures.state honest) raw) in
+    (subst (λ (s : State). ShrinksBy c.args.form c.as_slice.result.now (pages_of_map c.take_out.new.pages s.disk.present) (pages_of_map c.shrink.new.pages s.disk.present) out fate) (c.descend.ensures.only.state honest) raw) in
     went c.args.form before one two after c.args.root c.in_ok-new.new levels d.path.items d.page d.leaf d.right place c.args.key.now out fate tree (c.in_ok-descent.ensures.way honest agrees levels tree) taken shrinks
     (c.in_ok-new.ensures.settles image c.args.form)
 

@@ -45,8 +45,8 @@ returns-in_err-node-clause-damaged g t c = λ honest agrees is.
     let rest = c.in-Some.pair.1.now in
     let told = rw is at c.from_residual-in_err-node.ensures.1 in
     let risen = subst (λ (up : Option Grown). RisesBy c.args.form rest before two (Some c.args.grown) up) c.in-Some-2.is (c.in_ok-told.ensures.rises honest agrees) in
-    let same = ap (λ (s : State). pages_of_map c.rise.new.pages s.disk.present) (c.rise.ensures.state honest) in
-    let none = c.in_err-node.ensures.damaged (c.rise.ensures.honest.0 honest) (c.rise.ensures.agrees honest agrees) (cc told) in
+    let same = ap (λ (s : State). pages_of_map c.rise.new.pages s.disk.present) (c.rise.ensures.only.state honest) in
+    let none = c.in_err-node.ensures.damaged (c.rise.ensures.only.honest.0 honest) (c.rise.ensures.agrees honest agrees) (cc told) in
     subst (λ (path : List Turn). NeverRises c.args.form path before (Some c.args.grown)) (sym c.in-Some.ensures.cases.0)
     (never_read c.args.form before two turn rest (Some c.args.grown) c.in-Some-2.told risen
     (λ kind part page stands. none kind part page (subst (λ (pages : List (Option Sector)). Stands c.args.form pages kind part) (sym same) stands)))
@@ -70,9 +70,9 @@ returns-in_err-up-clause-damaged g t c = λ honest agrees is.
     let node = c.in_ok-node.node in
     let told = rw is at c.from_residual-in_err-up.ensures.1 in
     let risen = subst (λ (up : Option Grown). RisesBy c.args.form rest before two (Some c.args.grown) up) c.in-Some-2.is (c.in_ok-told.ensures.rises honest agrees) in
-    let same = ap (λ (s : State). pages_of_map c.rise.new.pages s.disk.present) (c.rise.ensures.state honest) in
+    let same = ap (λ (s : State). pages_of_map c.rise.new.pages s.disk.present) (c.rise.ensures.only.state honest) in
     let still = ap (λ (m : Map). m.pages) (c.read_part.ensures.untouched.map image) in
-    let read = c.in_ok-node.ensures.part (c.rise.ensures.honest.0 honest) (c.rise.ensures.agrees honest agrees) in
+    let read = c.in_ok-node.ensures.part (c.rise.ensures.only.honest.0 honest) (c.rise.ensures.agrees honest agrees) in
     let none = c.in_err-up.ensures.damaged (cc told) image in
     subst (λ (path : List Turn). NeverRises c.args.form path before (Some c.args.grown)) (sym c.in-Some.ensures.cases.0)
     (never_lifted c.args.form before two turn rest (Some c.args.grown) c.in-Some-2.told node risen
@@ -90,9 +90,9 @@ returns-clause-rises g t c = λ honest agrees.
     let node = c.in_ok-node.node in
     let up = c.in_ok-up.up in
     let risen = subst (λ (up : Option Grown). RisesBy c.args.form rest before two (Some c.args.grown) up) c.in-Some-2.is (c.in_ok-told.ensures.rises honest agrees) in
-    let same = ap (λ (s : State). pages_of_map c.rise.new.pages s.disk.present) (c.rise.ensures.state honest) in
+    let same = ap (λ (s : State). pages_of_map c.rise.new.pages s.disk.present) (c.rise.ensures.only.state honest) in
     let still = ap (λ (m : Map). m.pages) (c.read_part.ensures.untouched.map image) in
-    let read = c.in_ok-node.ensures.part (c.rise.ensures.honest.0 honest) (c.rise.ensures.agrees honest agrees) in
+    let read = c.in_ok-node.ensures.part (c.rise.ensures.only.honest.0 honest) (c.rise.ensures.agrees honest agrees) in
     let lifts = subst (λ (pages : List (Option Sector)). CanStand pages turn.page node → rest_of node.form (slice_index_or node.rows turn.place []) ≡ big_bytes 4 c.in-Some-2.told.page → Lifts node.form pages three turn.page node.rows turn.place (run_of c.in-Some-2.told) up) still
     (c.in_ok-up.ensures.pages image) in
     subst (λ (path : List Turn). RisesBy c.args.form path before three (Some c.args.grown) up) (sym c.in-Some.ensures.cases.0)

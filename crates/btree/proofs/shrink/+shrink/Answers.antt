@@ -45,9 +45,9 @@ returns-in_default-clause-shrinks g t c = λ honest agrees.
     let below = c.in_ok-below.ensures.shrinks honest agrees in
     IfOk-weaker c.shrink_at.result _ _
     (λ up shrinks.
-    let on = subst (λ (s : State). ShrinksOn c.args.form turn (pages_of_map c.shrink.new.pages s.disk.present) (pages_of_map c.shrink_at.new.pages s.disk.present) told up) (c.shrink.ensures.state honest) shrinks in
+    let on = subst (λ (s : State). ShrinksOn c.args.form turn (pages_of_map c.shrink.new.pages s.disk.present) (pages_of_map c.shrink_at.new.pages s.disk.present) told up) (c.shrink.ensures.only.state honest) shrinks in
     subst (λ (path : List Turn). ShrinksBy c.args.form path before three c.args.fate up) (sym c.in-Some.ensures.cases.0) (on rest before c.args.fate below))
-    (c.shrink_at.ensures.shrinks (c.shrink.ensures.honest.0 honest) (c.shrink.ensures.agrees honest agrees))
+    (c.shrink_at.ensures.shrinks (c.shrink.ensures.only.honest.0 honest) (c.shrink.ensures.agrees honest agrees))
 
 pub returns-in_default-clause-damaged : goal.returns-in_default-clause-damaged
 returns-in_default-clause-damaged g t c = λ honest agrees is.
@@ -57,8 +57,8 @@ returns-in_default-clause-damaged g t c = λ honest agrees is.
     let rest = c.in-Some.pair.1.now in
     let told = c.in_ok-below.below in
     let below = c.in_ok-below.ensures.shrinks honest agrees in
-    let never = subst (λ (s : State). NeverShrinksOn c.args.form turn (pages_of_map c.shrink.new.pages s.disk.present) told) (c.shrink.ensures.state honest)
-    (c.shrink_at.ensures.damaged (c.shrink.ensures.honest.0 honest) (c.shrink.ensures.agrees honest agrees) is) in
+    let never = subst (λ (s : State). NeverShrinksOn c.args.form turn (pages_of_map c.shrink.new.pages s.disk.present) told) (c.shrink.ensures.only.state honest)
+    (c.shrink_at.ensures.damaged (c.shrink.ensures.only.honest.0 honest) (c.shrink.ensures.agrees honest agrees) is) in
     subst (λ (path : List Turn). NeverShrinks c.args.form path before c.args.fate) (sym c.in-Some.ensures.cases.0) (never rest before c.args.fate below)
 
 pub returns-in_default-clause-touched : goal.returns-in_default-clause-touched

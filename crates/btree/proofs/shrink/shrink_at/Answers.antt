@@ -107,23 +107,23 @@ returns-in-Underfull-clause-shrinks g c = λ honest agrees.
     let read : ReadNode c.args.form two turn node = record { form_is = c.in_ok-node.ensures.shape.0; read = c.in_ok-node.ensures.part honest agrees } in
     IfOk-weaker c.rebalance_at.result _ _
     (λ up rebalances.
-    let at_state = subst (λ (s : State). Rebalances c.args.form (pages_of_map c.read_part.new.pages s.disk.present) (pages_of_map c.rebalance_at.new.pages s.disk.present) turn child node up) (c.read_part.ensures.state honest) rebalances in
+    let at_state = subst (λ (s : State). Rebalances c.args.form (pages_of_map c.read_part.new.pages s.disk.present) (pages_of_map c.rebalance_at.new.pages s.disk.present) turn child node up) (c.read_part.ensures.only.state honest) rebalances in
     subst (λ (below : Fate). ShrinksOn c.args.form turn two three below up) (sym c.in-Underfull.is)
     (lone_on c.args.form two three turn child up node read (subst (λ (pages : List (Option Sector)). Rebalances c.args.form pages three turn child node up) still at_state)))
-    (c.rebalance_at.ensures.rebalances (c.read_part.ensures.honest.0 honest) (c.read_part.ensures.agrees honest agrees))
+    (c.rebalance_at.ensures.rebalances (c.read_part.ensures.only.honest.0 honest) (c.read_part.ensures.agrees honest agrees))
 
 pub returns-in-Underfull-clause-damaged : goal.returns-in-Underfull-clause-damaged
 returns-in-Underfull-clause-damaged g c = λ honest agrees is.
     let image = (g.D.Device.state c.args.device.now).disk.present in
     let two = pages_of_map c.args.pages.now image in
-    let same = ap (λ (s : State). pages_of_map c.read_part.new.pages s.disk.present) (c.read_part.ensures.state honest) ∙ ap (λ (m : Map). m.pages) (c.read_part.ensures.untouched.map image) in
+    let same = ap (λ (s : State). pages_of_map c.read_part.new.pages s.disk.present) (c.read_part.ensures.only.state honest) ∙ ap (λ (m : Map). m.pages) (c.read_part.ensures.untouched.map image) in
     let turn = c.args.turn in
     let node = c.in_ok-node.node in
     let child = c.in-Underfull.child in
     let read : ReadNode c.args.form two turn node = record { form_is = c.in_ok-node.ensures.shape.0; read = c.in_ok-node.ensures.part honest agrees } in
     subst (λ (below : Fate). NeverShrinksOn c.args.form turn two below) (sym c.in-Underfull.is)
     (never_rebalanced c.args.form two turn child node read (λ left right kind place some one other pair.
-    c.rebalance_at.ensures.damaged (c.read_part.ensures.honest.0 honest) (c.read_part.ensures.agrees honest agrees) is left right kind place some one other
+    c.rebalance_at.ensures.damaged (c.read_part.ensures.only.honest.0 honest) (c.read_part.ensures.agrees honest agrees) is left right kind place some one other
     (subst (λ (pages : List (Option Sector)). IsPair c.args.form pages turn.page node.rows turn.place child.page left right) (sym same) pair)))
 
 pub returns-in-Underfull-clause-catalog : goal.returns-in-Underfull-clause-catalog

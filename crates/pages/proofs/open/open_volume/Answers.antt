@@ -18,7 +18,7 @@ returns-clause-moments g c = λ honest.
     let honest' = c.sync.ensures.honest.0 honest in
     unseen _ (g.D.Device.history c.sync.new.self) _ (g.D.Device.state c.sync.new.self) (g.D.Device.state c.read_volume.new.device) _
     (opens _ _ (g.D.Device.state c.args.device.now) (g.D.Device.state c.sync.new.self) c.sync.result (g.met.D.Device.possible c.args.device.now honest) (c.sync.ensures.moves honest) (c.sync.ensures.synced honest) (c.sync.ensures.unsynced honest))
-    (c.read_volume.ensures.history honest') (c.read_volume.ensures.state honest')
+    (c.read_volume.ensures.only.history honest') (c.read_volume.ensures.only.state honest')
 
 pub returns-clause-refused : goal.returns-clause-refused
 returns-clause-refused g c = λ honest.

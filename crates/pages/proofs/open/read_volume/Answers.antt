@@ -19,8 +19,8 @@ read_table-requires g c =
     let marked : IsMarked root.maps.items c.mark_names.new.used.items = subst (λ (l : List ℕ). IsMarked l c.mark_names.new.used.items) c.deref.ensures.value (c.mark_names.ensures.marked c.if-not-mark_names.false [] c.in_ok-used.ensures.marked) in
     subst (All (λ (m : ℕ). m < g.D.Device.sectors c.read_root.new.device)) (sym c.deref-2.ensures.value)
     (All-from_get_or (λ (m : ℕ). m < g.D.Device.sectors c.read_root.new.device) root.maps.items 0 (λ i lt. ⊎_elim
-    (λ none. omega (arith, none, within.least, within.there, c.in_ok-root.ensures.sectors))
-    (λ place. omega (arith, place.1, c.mark_names.ensures.count, c.in_ok-used.ensures.count, within.there, c.in_ok-root.ensures.sectors))
+    (λ none. omega (arith, none, within.least, within.there, c.in_ok-root.ensures.only.sectors))
+    (λ place. omega (arith, place.1, c.mark_names.ensures.count, c.in_ok-used.ensures.count, within.there, c.in_ok-root.ensures.only.sectors))
     (marked.names.places (get_or root.maps.items i 0) (Contains-get_or root.maps.items i 0 lt))))
 
 pub index-first-requires : goal.index-first-requires
@@ -37,7 +37,7 @@ returns-clause-reads g c = λ honest.
     let within = c.in_ok-root.ensures.within in
     let present = (g.D.Device.state c.args.device.now).disk.present in
     let m : VolumeMap = record { generation = root.generation; sectors = root.sectors; catalog = root.catalog; maps = root.maps; table = table; used = c.mark_names-2.new.used.items; free = c.count_free-free.result } in
-    let honest' = c.in_ok-root.ensures.honest.0 honest in
+    let honest' = c.in_ok-root.ensures.only.honest.0 honest in
     let maps : length root.maps.items ≡ (root.sectors + 1023) / 1024 = within.maps in
     let count : length table.items ≡ 1024 * length root.maps.items = c.in_ok-table.ensures.count ∙ ap (λ (l : List ℕ). 1024 * length l) c.deref-2.ensures.value in
     let marked : IsMarked root.maps.items c.mark_names.new.used.items = subst (λ (l : List ℕ). IsMarked l c.mark_names.new.used.items) c.deref.ensures.value (c.mark_names.ensures.marked c.if-not-mark_names.false [] c.in_ok-used.ensures.marked) in
@@ -45,7 +45,7 @@ returns-clause-reads g c = λ honest.
     let some : 0 < length table.items = omega (arith, maps, count, within.least) in
     reads_now present m c.mark_names-2.new.used.items (c.in_ok-root.ensures.root honest) count
     (subst (λ (l : List ℕ). (i : ℕ) → i < length l → map_at present (get_or l i 0) ≡ map_part table.items i) c.deref-2.ensures.value
-    (subst (λ (s : State). (i : ℕ) → i < length c.deref-2.result.now → map_at s.disk.present (get_or c.deref-2.result.now i 0) ≡ map_part table.items i) (c.in_ok-root.ensures.state honest) (c.in_ok-table.ensures.entries honest')))
+    (subst (λ (s : State). (i : ℕ) → i < length c.deref-2.result.now → map_at s.disk.present (get_or c.deref-2.result.now i 0) ≡ map_part table.items i) (c.in_ok-root.ensures.only.state honest) (c.in_ok-table.ensures.entries honest')))
     all_marked (c.mark_names-2.ensures.count ∙ c.mark_names.ensures.count ∙ c.in_ok-used.ensures.count)
     (sym (get_or_read table.items 0 c.index-first.result.now some c.index-first.ensures 0) ∙ c.if-first-ne0.false)
 
@@ -77,13 +77,13 @@ returns-then-not-mark_names-2-clause-refused g c = λ honest.
     let root = c.in_ok-root.root in
     let table = c.in_ok-table.table in
     let present = (g.D.Device.state c.args.device.now).disk.present in
-    let honest' = c.in_ok-root.ensures.honest.0 honest in
+    let honest' = c.in_ok-root.ensures.only.honest.0 honest in
     let count : length table.items ≡ 1024 * length root.maps.items = c.in_ok-table.ensures.count ∙ ap (λ (l : List ℕ). 1024 * length l) c.deref-2.ensures.value in
     let marked : IsMarked root.maps.items c.mark_names.new.used.items = subst (λ (l : List ℕ). IsMarked l c.mark_names.new.used.items) c.deref.ensures.value (c.mark_names.ensures.marked c.if-not-mark_names.false [] c.in_ok-used.ensures.marked) in
     let all : length c.mark_names.new.used.items ≡ root.sectors = c.mark_names.ensures.count ∙ c.in_ok-used.ensures.count in
     bad_table present (found_root root) (c.in_ok-root.ensures.root honest) table.items count
     (subst (λ (l : List ℕ). (i : ℕ) → i < length l → map_at present (get_or l i 0) ≡ map_part table.items i) c.deref-2.ensures.value
-    (subst (λ (s : State). (i : ℕ) → i < length c.deref-2.result.now → map_at s.disk.present (get_or c.deref-2.result.now i 0) ≡ map_part table.items i) (c.in_ok-root.ensures.state honest) (c.in_ok-table.ensures.entries honest')))
+    (subst (λ (s : State). (i : ℕ) → i < length c.deref-2.result.now → map_at s.disk.present (get_or c.deref-2.result.now i 0) ≡ map_part table.items i) (c.in_ok-root.ensures.only.state honest) (c.in_ok-table.ensures.entries honest')))
     (λ are. c.mark_names-2.ensures.refused c.if-not-mark_names-2.true root.maps.items marked
     (subst (λ (n : ℕ). AreNames n (root.maps.items ++ c.deref-3.result.now)) (sym all) (subst (λ (l : List ℕ). AreNames root.sectors (root.maps.items ++ l)) (sym c.deref-3.ensures.value) are)))
 
@@ -93,11 +93,11 @@ returns-then-first-ne0-clause-refused g c = λ honest.
     let table = c.in_ok-table.table in
     let within = c.in_ok-root.ensures.within in
     let present = (g.D.Device.state c.args.device.now).disk.present in
-    let honest' = c.in_ok-root.ensures.honest.0 honest in
+    let honest' = c.in_ok-root.ensures.only.honest.0 honest in
     let maps : length root.maps.items ≡ (root.sectors + 1023) / 1024 = within.maps in
     let count : length table.items ≡ 1024 * length root.maps.items = c.in_ok-table.ensures.count ∙ ap (λ (l : List ℕ). 1024 * length l) c.deref-2.ensures.value in
     let some : 0 < length table.items = omega (arith, maps, count, within.least) in
     bad_first present (found_root root) (c.in_ok-root.ensures.root honest) table.items count
     (subst (λ (l : List ℕ). (i : ℕ) → i < length l → map_at present (get_or l i 0) ≡ map_part table.items i) c.deref-2.ensures.value
-    (subst (λ (s : State). (i : ℕ) → i < length c.deref-2.result.now → map_at s.disk.present (get_or c.deref-2.result.now i 0) ≡ map_part table.items i) (c.in_ok-root.ensures.state honest) (c.in_ok-table.ensures.entries honest')))
+    (subst (λ (s : State). (i : ℕ) → i < length c.deref-2.result.now → map_at s.disk.present (get_or c.deref-2.result.now i 0) ≡ map_part table.items i) (c.in_ok-root.ensures.only.state honest) (c.in_ok-table.ensures.entries honest')))
     (λ none. c.if-first-ne0.true (get_or_read table.items 0 c.index-first.result.now some c.index-first.ensures 0 ∙ none))

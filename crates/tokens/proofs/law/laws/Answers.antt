@@ -5,6 +5,7 @@ use Rattle.tokens.specs.declared.token.Token.{Token}
 use Rattle.tokens.specs.Scanning.{tokens}
 use Rattle.tokens.specs.Tokens.{TokensOf, InOrder}
 use Rattle.tokens.proofs.Relation.{only, longest, answered_within, in_order, placed}
+use Rattle.tokens.proofs.Refused.{refused_only, refused_within}
 use Rattle.tokens.proofs.Texts.{spelled, separated}
 use Rattle.tokens.proofs.law.laws.Goals as goal
 
@@ -34,3 +35,11 @@ returns-clause-separators c characters found is = let start : 0 ≡ length {A = 
 
 pub returns-clause-longest : goal.returns-clause-longest
 returns-clause-longest c before kind one text rest is = longest before kind one text rest is
+
+pub returns-clause-refused : goal.returns-clause-refused
+unfolding tokens
+returns-clause-refused c characters fault is = refused_within (length characters) context.Apart 0 characters fault (omega arith) is
+
+pub returns-clause-refused_only : goal.returns-clause-refused_only
+unfolding tokens
+returns-clause-refused_only c characters fault refuses = refused_only 0 refuses

@@ -35,7 +35,7 @@ pub returns-clause-holds : goal.returns-clause-holds
 returns-clause-holds g c = λ honest agrees.
     let read = c.read_part.ensures in
     let pages : List (Option Sector) = (map_now c.args.pages.now (g.D.Device.state c.args.device.now).disk.present).pages in
-    let same = same_pages c.args.pages.now c.read_part.new.pages (g.D.Device.state c.args.device.now) (g.D.Device.state c.read_part.new.device) read.untouched (read.state honest) in
+    let same = same_pages c.args.pages.now c.read_part.new.pages (g.D.Device.state c.args.device.now) (g.D.Device.state c.read_part.new.device) read.untouched (read.only.state honest) in
     let form = c.self.inside.form in
     let root = c.self.inside.root in
     let name : Name = record { key = c.in_ok-key.key; page = root } in
@@ -48,14 +48,14 @@ returns-clause-holds g c = λ honest agrees.
     subst (λ (n : List Name). Finds form pages n old new) names (subst (λ (p : List (Option Sector)). Finds form p c.push.new.self.items old new) same finds) in
     subst (λ (t : Rooted). FindsTree t.form pages t.root old new) c.self.view_is
     (record { levels = found.levels; holds = tree_holds form pages root found.levels (tree_found form pages root name old found.levels refl found.under found.marks.can); marks = found.marks }))
-    (c.check_levels.ensures.finds (read.honest.0 honest) (read.agrees honest agrees))
+    (c.check_levels.ensures.finds (read.only.honest.0 honest) (read.agrees honest agrees))
 
 pub returns-clause-damaged : goal.returns-clause-damaged
 returns-clause-damaged g c = λ honest agrees is levels holds unmarked.
     let read = c.read_part.ensures in
     let image = (g.D.Device.state c.args.device.now).disk.present in
     let pages : List (Option Sector) = (map_now c.args.pages.now image).pages in
-    let same = same_pages c.args.pages.now c.read_part.new.pages (g.D.Device.state c.args.device.now) (g.D.Device.state c.read_part.new.device) read.untouched (read.state honest) in
+    let same = same_pages c.args.pages.now c.read_part.new.pages (g.D.Device.state c.args.device.now) (g.D.Device.state c.read_part.new.device) read.untouched (read.only.state honest) in
     let form = c.self.inside.form in
     let root = c.self.inside.root in
     let top = c.in_ok-top.top in
@@ -69,7 +69,7 @@ returns-clause-damaged g c = λ honest agrees is levels holds unmarked.
     c.in_ok-key.ensures.is ∙ c.key.ensures.key ∙ ap (λ (f : TreeForm). key_of f (slice_index_or top.rows 0 [])) c.in_ok-top.ensures.shape.0 in
     let under : IsUnder form pages (name ∷ []) levels = tree_under form pages root c.in_ok-key.key top levels (c.in_ok-top.ensures.part honest agrees) key tree in
     let depth = few_levels form pages root levels few tree in
-    c.check_levels.ensures.damaged (read.honest.0 honest) (read.agrees honest agrees) is levels
+    c.check_levels.ensures.damaged (read.only.honest.0 honest) (read.agrees honest agrees) is levels
     (subst (λ (n : List Name). IsUnder form (map_now c.read_part.new.pages (g.D.Device.state c.read_part.new.device).disk.present).pages n levels) (sym names)
     (subst (λ (p : List (Option Sector)). IsUnder form p (name ∷ []) levels) (sym same) under))
     (tree_can form pages root c.args.seen.now levels tree unmarked) (small_numbers form pages root levels few tree) (omega arith)

@@ -26,7 +26,7 @@ returns-clause-entry g c = λ honest agrees levels holds.
     let W : Rooted → Type 0 = λ t. IsTree t.form pages t.root levels → EndsAt t.form c.args.key.now levels descent.path.items descent.page descent.leaf.rows descent.right in
     let ends : EndsAt view.form c.args.key.now levels descent.path.items descent.page descent.leaf.rows descent.right = subst W c.self.view_is (c.in_ok-descent.ensures.way honest agrees levels) tree in
     let leaf : IsLeafAmong view.form c.args.key.now levels descent.leaf.rows descent.right = leaf_among view.form pages view.root c.args.key.now levels descent.path.items descent.page descent.leaf.rows descent.right tree ends in
-    let same = same_pages c.args.pages.now c.descend.new.pages (g.D.Device.state c.args.device.now) (g.D.Device.state c.descend.new.device) c.descend.ensures.untouched (c.descend.ensures.state honest) in
+    let same = same_pages c.args.pages.now c.descend.new.pages (g.D.Device.state c.args.device.now) (g.D.Device.state c.descend.new.device) c.descend.ensures.untouched (c.descend.ensures.only.state honest) in
     let still = subst (λ (p : List (Option Sector)). IsTree view.form p view.root levels) (sym same) tree in
     let same_form = c.in_ok-descent.ensures.leaf.0 ∙ form_is in
     let Answers : ℕ → Type 0 = λ place. first_entry (listed view.form (drop place descent.leaf.rows ++ leaf.after)) ≡ first_from (entries_of view.form levels) c.args.key.now in
@@ -41,7 +41,7 @@ returns-clause-entry g c = λ honest agrees levels holds.
     (λ (entry : Option Entry). entry ≡ first_entry (listed view.form (drop c.match-find.place descent.leaf.rows ++ leaf.after)))
     (λ (entry : Option Entry). entry ≡ first_from (entries_of view.form levels) c.args.key.now)
     (λ entry is. is ∙ there)
-    (c.entry_from.ensures.entry (c.descend.ensures.honest.0 honest) (c.descend.ensures.agrees honest agrees) levels still leaf.before leaf.after leaf.around.is leaf.beside)
+    (c.entry_from.ensures.entry (c.descend.ensures.only.honest.0 honest) (c.descend.ensures.agrees honest agrees) levels still leaf.before leaf.after leaf.around.is leaf.beside)
 
 pub returns-clause-damaged : goal.returns-clause-damaged
 returns-clause-damaged g c = λ honest agrees damaged levels holds.
@@ -54,6 +54,6 @@ returns-clause-damaged g c = λ honest agrees damaged levels holds.
     let W : Rooted → Type 0 = λ t. IsTree t.form pages t.root levels → EndsAt t.form c.args.key.now levels descent.path.items descent.page descent.leaf.rows descent.right in
     let ends : EndsAt view.form c.args.key.now levels descent.path.items descent.page descent.leaf.rows descent.right = subst W c.self.view_is (c.in_ok-descent.ensures.way honest agrees levels) tree in
     let leaf : IsLeafAmong view.form c.args.key.now levels descent.leaf.rows descent.right = leaf_among view.form pages view.root c.args.key.now levels descent.path.items descent.page descent.leaf.rows descent.right tree ends in
-    let same = same_pages c.args.pages.now c.descend.new.pages (g.D.Device.state c.args.device.now) (g.D.Device.state c.descend.new.device) c.descend.ensures.untouched (c.descend.ensures.state honest) in
+    let same = same_pages c.args.pages.now c.descend.new.pages (g.D.Device.state c.args.device.now) (g.D.Device.state c.descend.new.device) c.descend.ensures.untouched (c.descend.ensures.only.state honest) in
     let still = subst (λ (p : List (Option Sector)). IsTree view.form p view.root levels) (sym same) tree in
-    c.entry_from.ensures.damaged (c.descend.ensures.honest.0 honest) (c.descend.ensures.agrees honest agrees) damaged levels still leaf.before leaf.after leaf.around.is leaf.beside
+    c.entry_from.ensures.damaged (c.descend.ensures.only.honest.0 honest) (c.descend.ensures.agrees honest agrees) damaged levels still leaf.before leaf.after leaf.around.is leaf.beside

@@ -56,7 +56,7 @@ returns-in-None-clause-agrees g c = λ honest agrees.
     let away : Away c.args.page changes = subst (Away c.args.page) c.deref.ensures.value c.in-None.ensures.absent in
     let before = subst (λ (l : List ℕ). IsCacheOf (pages_in present l) (touched changes) c.args.self.now.cache.entries) (sym c.deref-in-None.ensures.value) agrees.cache in
     let after = c.recall_page.ensures.right (touched changes) (away_touched changes c.args.page away) honest before in
-    let same = sym (c.recall_page.ensures.state honest) in
+    let same = sym (c.recall_page.ensures.only.state honest) in
     record {
       committed = subst (λ (s : State). IsCommitted (committed_of c.args.self.now) s.disk) same agrees.committed;
       cache = subst (λ (s : State). IsCacheOf (pages_in s.disk.present table) (touched changes) c.recall_page.new.cache.entries) same

@@ -1,0 +1,8 @@
+       IDENTIFICATION DIVISION.
+       PROGRAM-ID. P.
+       DATA DIVISION.
+       WORKING-STORAGE SECTION.
+       01  A PIC X(3).
+       01  B PIC 9Q.
+       PROCEDURE DIVISION.
+           STOP RUN.

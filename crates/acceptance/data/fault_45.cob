@@ -1,0 +1,8 @@
+       IDENTIFICATION DIVISION.
+       PROGRAM-ID. P.
+       DATA DIVISION.
+       WORKING-STORAGE SECTION.
+       01  A PIC X.
+           05  B PIC X.
+       PROCEDURE DIVISION.
+           STOP RUN.

@@ -1,0 +1,9 @@
+       IDENTIFICATION DIVISION.
+       PROGRAM-ID. P.
+       DATA DIVISION.
+       WORKING-STORAGE SECTION.
+       01  A PIC X.
+       01  B PIC X.
+       01  C REDEFINES A PIC X.
+       PROCEDURE DIVISION.
+           STOP RUN.

@@ -1,0 +1,8 @@
+       IDENTIFICATION DIVISION.
+       PROGRAM-ID. P.
+       DATA DIVISION.
+       WORKING-STORAGE SECTION.
+       01  A PIC 9.
+           88  B VALUE 5 THRU 3.
+       PROCEDURE DIVISION.
+           STOP RUN.

@@ -1,0 +1,8 @@
+       IDENTIFICATION DIVISION.
+       PROGRAM-ID. P.
+       DATA DIVISION.
+       WORKING-STORAGE SECTION.
+       01  A.
+           05  B OCCURS 65536 PIC X.
+       PROCEDURE DIVISION.
+           STOP RUN.

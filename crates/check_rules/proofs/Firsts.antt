@@ -1,0 +1,17 @@
+-- The first of rules that are looked for in order.
+use Rattle.std.proofs.Common.{◌≡◌, ℕ, ◌<◌, ◌+◌, List, [], ◌∷◌, ◌++◌, Some, length, drop, get_or, sym, ap, ◌∙◌, add-one, drop-cons}
+use Rattle.source_tree.specs.Broken.{Broken, each}
+use Rattle.source_tree.specs.LookUp.{first}
+
+pub first_front : (xs ys : List Broken) (one : Broken) → first xs ≡ Some one → first (xs ++ ys) ≡ Some one
+first_front [] ys one e = cc
+first_front (x ∷ xs) ys one e = e
+
+pub front_none : (xs ys : List Broken) → xs ≡ [] → xs ++ ys ≡ ys
+front_none xs ys e = ap (λ l. l ++ ys) e
+
+each_at : {A : Type 0} (rules : A → List Broken) (xs : List A) (i : ℕ) (d : A) → i < length xs → each rules (drop i xs) ≡ rules (get_or xs i d) ++ each rules (drop (i + 1) xs)
+each_at rules xs i d h = ap (each rules) (drop-cons xs i d h) ∙ ap (λ k. rules (get_or xs i d) ++ each rules (drop k xs)) (sym (add-one i))
+
+pub each_found : {A : Type 0} (rules : A → List Broken) (xs : List A) (i : ℕ) (d : A) (all : List Broken) (one : Broken) → i < length xs → all ≡ each rules (drop i xs) → first (rules (get_or xs i d)) ≡ Some one → first all ≡ Some one
+each_found rules xs i d all one h e found = ap first (e ∙ each_at rules xs i d h) ∙ first_front (rules (get_or xs i d)) (each rules (drop (i + 1) xs)) one found

@@ -1,0 +1,46 @@
+-- What is declared, in the words of the rules.
+use Rattle.std.specs.Prelude.{◌≡◌, ◌==◌, not, List, [], ◌∷◌, ◌++◌, length, map, Some, Result, Ok, Err}
+use Rattle.std.specs.Borrow.{Bor}
+use Rattle.lexical.specs.declared.place.Place.{Place}
+use Rattle.source_tree.specs.Broken.{Broken, where_so}
+use Rattle.source_tree.specs.declared.reference.QualifiedName.{QualifiedName}
+use Rattle.source_tree.specs.declared.reference.Reference.{Reference}
+use Rattle.source_tree.specs.LookUp.{first, items_named}
+use Rattle.source_tree.specs.NameRules.{named, subscript_item}
+use Rattle.source_tree.specs.Places.{Placed, items_of}
+use Rattle.layout.specs.declared.placed.PlacedItem.{PlacedItem}
+use Rattle.layout.specs.Placing.{placed_item}
+use Rattle.names.specs.Items.{called_item}
+use Rattle.names.specs.Table.{IsTable, calls_in}
+use Rattle.entry_rules.specs.declared.rule.BrokenRule.{BrokenRule}
+use Rattle.entry_rules.specs.Checks.{broken_of}
+use Rattle.check_rules.specs.declared.declarations.Declarations.{Declarations}
+
+abbrev pub items_in : Declarations → List Placed
+items_in all = items_of all.entries.now
+
+-- Names and places are those of the items.
+pub record IsDeclared (all : Declarations) : Type 0 where
+  pub table : IsTable all.names
+  pub calls : calls_in all.names ≡ map called_item (items_in all)
+  pub items : all.layout.items ≡ map placed_item (items_in all)
+
+abbrev pub told : Result (Bor PlacedItem) BrokenRule → Result PlacedItem BrokenRule
+told (Ok item) = Ok item.now
+told (Err broken) = Err broken
+
+-- The only item, as it is placed; or what a name breaks that names nothing, or several things.
+abbrev pub IsItemNamed : Place → Result PlacedItem BrokenRule → List Placed → Type 0
+IsItemNamed place (Ok item) found = (one : Placed) × (found ≡ one ∷ []) × (item ≡ placed_item one)
+IsItemNamed place (Err broken) found = (rules : Placed → List Broken) → first (named place rules found) ≡ Some (broken_of broken)
+
+-- ---- parts of the rules of references
+
+abbrev pub subscript_rules_of : List Placed → QualifiedName → List Broken
+subscript_rules_of items item = named item.name.place (subscript_item item.name.place) (items_named items item)
+
+abbrev pub named_rules : List Placed → (Place → Placed → List Broken) → Reference → List Broken
+named_rules items asked one =
+    named one.item.name.place
+    (λ found. where_so (not (length one.subscripts == length found.dimensions)) 50 one.item.name.place ++ asked one.item.name.place found)
+    (items_named items one.item)

@@ -1,0 +1,61 @@
+//! The rules of operands and of MOVE: 49 besides those of references (COBOL-85, Nucleus, "The MOVE statement").
+
+ghost use Rattle.std.specs.Prelude.{◌≡◌};
+ghost use Rattle.entry_rules.specs.Checks.{Finds};
+ghost use Rattle.source_tree.specs.Broken.{each};
+ghost use Rattle.source_tree.specs.NameRules as names;
+ghost use Rattle.source_tree.specs.MoveRules as spec;
+ghost use Rattle.check_rules.specs.Named.{IsDeclared, items_in};
+ghost use Rattle.check_rules.specs.Sending.{asks, sent_by};
+
+use crate::declarations::Declarations;
+use crate::sent::Sent;
+use entry_rules::BrokenRule;
+use source_tree::{Operand, Reference};
+
+impl<'a> Declarations<'a> {
+    /// An operand of which nothing is asked but that it names an item.
+    pub fn operand_rules(&self, one: &Operand) -> Result<(), BrokenRule>
+        requires { IsDeclared self.now }
+        ensures { Finds result (names.operand_rules (items_in self.now) one.now) }
+    {
+        match one {
+            Operand::Item(reference) => self.item_rules(None, reference),
+            Operand::Literal(_) => Ok(()),
+        }
+    }
+
+    /// What an operand sends; nothing where its name doesn't name one item.
+    fn sent_by(&self, one: &Operand) -> Option<Sent>
+        requires { IsDeclared self.now }
+        ensures { result ≡ sent_by (spec.sent_by (items_in self.now) one.now) }
+    {
+        match one {
+            Operand::Item(reference) => match self.item_named(&reference.item) {
+                Ok(found) => Some(Sent::by_item(found.item)),
+                Err(_) => None,
+            },
+            Operand::Literal(literal) => Some(Sent::by_literal(&literal.value)),
+        }
+    }
+
+    /// Receivers of what is sent, in order.
+    fn receivers_rules(&self, sent: Option<Sent>, all: &[Reference]) -> Result<(), BrokenRule>
+        requires { IsDeclared self.now }
+        ensures { Finds result (each (names.item_rules (items_in self.now) (asks sent)) all.now) }
+    {
+        for one in all {
+            self.item_rules(sent, one)?;
+        }
+        Ok(())
+    }
+
+    /// MOVE of a sender to receivers.
+    pub fn move_rules(&self, sender: &Operand, receivers: &[Reference]) -> Result<(), BrokenRule>
+        requires { IsDeclared self.now }
+        ensures { Finds result (spec.move_rules (items_in self.now) sender.now receivers.now) }
+    {
+        self.operand_rules(sender)?;
+        self.receivers_rules(self.sent_by(sender), receivers)
+    }
+}

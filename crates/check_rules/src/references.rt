@@ -1,0 +1,90 @@
+//! The rules of references: 40, 41, 50 and 51, and 49 of receivers (COBOL-85, Nucleus, "Uniqueness of reference").
+
+ghost use Rattle.std.specs.Prelude.{◌≡◌};
+ghost use Rattle.entry_rules.specs.Checks.{Finds};
+ghost use Rattle.source_tree.specs.Broken.{each};
+ghost use Rattle.source_tree.specs.NameRules as spec;
+ghost use Rattle.check_rules.specs.Named as declared;
+ghost use Rattle.check_rules.specs.Named.{IsDeclared, items_in, subscript_rules_of};
+ghost use Rattle.check_rules.specs.Sending.{asks, asks_kind};
+
+use crate::declarations::Declarations;
+use crate::sent::Sent;
+use entry_rules::{BrokenRule, Rule};
+use items::Kind;
+use source_tree::{Place, QualifiedName, Reference, Subscript};
+
+fn is_integer(kind: Kind) -> bool
+    ensures { result ≡ spec.is_integer_kind kind }
+{
+    match kind {
+        Kind::Numeric(numeric) => numeric.scale == 0,
+        _ => false,
+    }
+}
+
+/// What a sender asks of a receiver, if there is a sender.
+fn receiver_rules(sent: Option<Sent>, kind: Kind, place: Place) -> Result<(), BrokenRule>
+    ensures { Finds result (asks_kind sent kind place) }
+{
+    match sent {
+        Some(sent) => Rule::Move.broken_if(!sent.may_go_to(kind), place),
+        None => Ok(()),
+    }
+}
+
+impl<'a> Declarations<'a> {
+    /// The item of a subscript is an integer, and has no subscripts.
+    fn subscript_item_rules(&self, item: &QualifiedName) -> Result<(), BrokenRule>
+        requires { IsDeclared self.now }
+        ensures { Finds result (subscript_rules_of (items_in self.now) item.now) }
+    {
+        let place = item.name.place;
+        let found = self.item_named(item)?;
+        Rule::Subscripts.broken_if(found.dimensions.as_slice().len() != 0, place)?;
+        Rule::Number.broken_if(!is_integer(found.item.kind), place)
+    }
+
+    /// A subscript.
+    fn subscript_rules(&self, one: &Subscript) -> Result<(), BrokenRule>
+        requires { IsDeclared self.now }
+        ensures { Finds result (spec.subscript_rules (items_in self.now) one.now) }
+    {
+        match one {
+            Subscript::Literal(_) => Ok(()),
+            Subscript::Item { item, .. } => self.subscript_item_rules(item),
+        }
+    }
+
+    /// Subscripts, in order.
+    fn subscripts_rules(&self, all: &[Subscript]) -> Result<(), BrokenRule>
+        requires { IsDeclared self.now }
+        ensures { Finds result (each (spec.subscript_rules (items_in self.now)) all.now) }
+    {
+        for one in all {
+            self.subscript_rules(one)?;
+        }
+        Ok(())
+    }
+
+    /// The item of a reference, its number of subscripts, and what a sender asks of it.
+    fn named_rules(&self, sent: Option<Sent>, one: &Reference) -> Result<(), BrokenRule>
+        requires { IsDeclared self.now }
+        ensures { Finds result (declared.named_rules (items_in self.now) (asks sent) one.now) }
+    {
+        let place = one.item.name.place;
+        let found = self.item_named(&one.item)?;
+        let wanted = found.dimensions.as_slice().len();
+        Rule::Subscripts.broken_if(one.subscripts.as_slice().len() != wanted, place)?;
+        receiver_rules(sent, found.item.kind, place)
+    }
+
+    /// A reference, to which something is sent or nothing.
+    pub(crate) fn item_rules(&self, sent: Option<Sent>, one: &Reference) -> Result<(), BrokenRule>
+        requires { IsDeclared self.now }
+        ensures { Finds result (spec.item_rules (items_in self.now) (asks sent) one.now) }
+    {
+        self.named_rules(sent, one)?;
+        self.subscripts_rules(one.subscripts.as_slice())
+    }
+}

@@ -1,0 +1,14 @@
+//! Tests of `names` and `check_rules`: what qualified names name, and rules of references and statements. Nothing here is
+//! built into the product.
+#![tactic(auto)]
+
+#[cfg(test)]
+mod asserted;
+#[cfg(test)]
+mod name_rows;
+#[cfg(test)]
+mod reference_texts;
+#[cfg(test)]
+mod statement_rows;
+#[cfg(test)]
+mod texts;

@@ -1,0 +1,38 @@
+//! Pictures that have no form.
+
+ghost use Rattle.std.specs.Prelude.{◌≡◌, IfOk};
+ghost use Rattle.data_division.specs.Forms as spec;
+
+use entries::picture_of;
+use lexical::Place;
+use source_tree::Entry;
+use std::alloc::{AllocError, Global};
+
+/// Where the entry's picture stands, if it has no form.
+fn formless(alloc: Global, entry: &Entry) -> Result<Option<Place>, AllocError>
+    ensures { IfOk result (λ place. place ≡ spec.formless_of entry.now) }
+{
+    let Entry::Item(one) = entry else {
+        return Ok(None);
+    };
+    let Some(text) = &one.picture else {
+        return Ok(None);
+    };
+    match picture_of(alloc, one)? {
+        Some(_) => Ok(None),
+        None => Ok(Some(text.place)),
+    }
+}
+
+/// Where the first picture stands that has no form (COBOL-85, Nucleus, the PICTURE clause).
+#[tactic(auto, unfolding(crate::specs::Forms::first_formless))]
+pub fn first_formless(alloc: Global, entries: &[Entry]) -> Result<Option<Place>, AllocError>
+    ensures { IfOk result (λ place. place ≡ spec.first_formless entries.now) }
+{
+    for entry in entries {
+        if let Some(place) = formless(alloc, entry)? {
+            return Ok(Some(place));
+        }
+    }
+    Ok(None)
+}

@@ -1,0 +1,14 @@
+use Rattle.data_instructions.proofs.Safety.{safe, safe_accept, safe_date, safe_showing}
+use Rattle.data_instructions.proofs.laws.safety_law.Goals as goal
+
+pub returns-clause-work : goal.returns-clause-work
+returns-clause-work c = λ tables one s shape after order fit leaves. safe tables order one s shape after fit leaves
+
+pub returns-clause-accept : goal.returns-clause-accept
+returns-clause-accept c = safe_accept
+
+pub returns-clause-date : goal.returns-clause-date
+returns-clause-date c = safe_date
+
+pub returns-clause-show : goal.returns-clause-show
+returns-clause-show c = safe_showing

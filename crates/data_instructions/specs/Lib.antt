@@ -1,0 +1,11 @@
+pub mod Faults
+pub mod Tables
+pub mod Scratch
+pub mod Table
+pub mod Shapes
+pub mod Fits
+pub mod Naming
+pub mod Joining
+pub mod Codes
+pub mod Statements
+pub mod Chains

@@ -1,0 +1,333 @@
+//! What instructions make of what is known.
+
+ghost use Rattle.std.specs.Prelude.{◌≡◌, ◌+◌, ◌-◌, ◌*◌, length, IfOk, Some, slice_get};
+ghost use Rattle.std.specs.Option.{option_copied};
+ghost use Rattle.text_ops.specs.Lengths as lengths;
+ghost use Rattle.source_tree.specs.MoveRules as rules;
+ghost use Rattle.data_instructions.specs.Shapes as spec;
+
+use crate::index::ItemIndex;
+use crate::instruction::DataInstruction;
+use crate::shape::{PlaceShape, Shape, Stacks};
+use crate::tables::{DataItem, DataTables};
+use edited_move::{Receiving, Sending, is_permitted, is_short};
+use items::{Item, Kind, Numeric, OperationalSign, Taken, Usage};
+use std::alloc::AllocError;
+
+/// The day as a sender: an unsigned integer of six digits (COBOL-85, Nucleus, "The ACCEPT statement").
+pub const DATE: Item = Item {
+    kind: Kind::Numeric(Numeric {
+        digits: 6,
+        scale: 0,
+        usage: Usage::Display(OperationalSign::Unsigned),
+    }),
+    length: 6,
+};
+
+/// An item of the table.
+fn item(tables: &DataTables, item: ItemIndex) -> Option<&DataItem>
+    ensures { option_copied result ≡ slice_get tables.now.items item.number }
+{
+    tables.items.get(item.number as usize)
+}
+
+/// The item of the newest place.
+fn item_at(tables: &DataTables, newest: Option<PlaceShape>) -> Option<&DataItem>
+    ensures { option_copied result ≡ spec.item_at tables.now newest }
+{
+    item(tables, newest?.item)
+}
+
+/// The move is permitted, and from more than 18 characters no number is wanted.
+fn may_move(from: Taken, to: Item) -> bool
+    ensures { result ≡ rules.may_move from to }
+{
+    is_permitted(Sending::of(from), Receiving::of(to.kind)) && is_short(to, from)
+}
+
+/// The room that DISPLAY needs of an item, in bytes.
+fn shown_length(item: Item) -> usize
+    ensures { result ≡ lengths.shown_length item.kind item.length }
+{
+    match item.kind {
+        Kind::Numeric(numeric) => numeric.digits as usize + 2,
+        _ => item.length as usize,
+    }
+}
+
+/// How far a place with a subscript can reach, if its bytes then lie in its area.
+fn last_reach(tables: &DataTables, place: PlaceShape, stride: u32, count: u32) -> Option<usize>
+    ensures { result ≡ spec.reach_after tables.now stride count place }
+{
+    let one = item(tables, place.item)?;
+    let area = tables.areas.get(one.area as usize)?.len();
+    let last = count.saturating_sub(1) as usize * stride as usize;
+    let reach = place.reach.checked_add(last)?;
+    let end = reach.checked_add(one.item.length as usize)?;
+    if end <= area { Some(reach) } else { None }
+}
+
+/// So many numbers less.
+fn without(count: usize, stacks: Stacks) -> Option<Stacks>
+    ensures { result ≡ spec.without count stacks }
+{
+    if count <= stacks.numbers {
+        let Stacks { numbers, places } = stacks;
+        return Some(Stacks {
+            numbers: numbers - count,
+            places,
+        });
+    }
+    None
+}
+
+/// One number more.
+fn and_one(stacks: Stacks) -> Result<Option<Stacks>, AllocError>
+    ensures { IfOk result (λ after. after ≡ spec.and_one stacks) }
+{
+    let Stacks { numbers, places } = stacks;
+    let Some(numbers) = numbers.checked_add(1) else {
+        return Err(AllocError);
+    };
+    Ok(Some(Stacks { numbers, places }))
+}
+
+/// A new place.
+fn placing(
+    tables: &DataTables,
+    index: ItemIndex,
+    stacks: Stacks,
+) -> Result<Option<Stacks>, AllocError>
+    ensures { IfOk result (λ after. after ≡ spec.and_then (slice_get tables.now.items index.number) (λ one. spec.placing index one stacks)) }
+{
+    let Some(one) = item(tables, index) else {
+        return Ok(None);
+    };
+    let Stacks {
+        numbers,
+        mut places,
+    } = stacks;
+    places.push(PlaceShape {
+        item: index,
+        reach: one.offset as usize,
+    })?;
+    Ok(Some(Stacks { numbers, places }))
+}
+
+/// The newest place with a subscript.
+fn indexing(
+    tables: &DataTables,
+    stride: u32,
+    count: u32,
+    stacks: Stacks,
+) -> Result<Option<Stacks>, AllocError>
+    ensures { IfOk result (λ after. after ≡ spec.with_place (spec.indexing tables.now stride count) stacks.places stacks) }
+{
+    let Stacks {
+        numbers,
+        mut places,
+    } = stacks;
+    let Some(place) = places.pop() else {
+        return Ok(None);
+    };
+    let Some(reach) = last_reach(tables, place, stride, count) else {
+        return Ok(None);
+    };
+    places.push(PlaceShape {
+        item: place.item,
+        reach,
+    })?;
+    Ok(Some(Stacks { numbers, places }))
+}
+
+/// Takes the newest place.
+fn without_place(stacks: Stacks) -> Option<Stacks>
+    ensures { result ≡ spec.without_place stacks }
+{
+    let Stacks {
+        numbers,
+        mut places,
+    } = stacks;
+    let _ = places.pop()?;
+    Some(Stacks { numbers, places })
+}
+
+/// The same, where there is something, and a number more.
+fn and_one_of(stacks: Option<Stacks>) -> Result<Option<Stacks>, AllocError>
+    ensures { IfOk result (λ after. after ≡ spec.and_then stacks spec.and_one) }
+{
+    match stacks {
+        Some(stacks) => and_one(stacks),
+        None => Ok(None),
+    }
+}
+
+/// The stacks after an instruction.
+fn stacks_after(
+    tables: &DataTables,
+    one: DataInstruction,
+    stacks: Stacks,
+) -> Result<Option<Stacks>, AllocError>
+    ensures { IfOk result (λ after. after ≡ spec.stacks_after tables.now one stacks) }
+{
+    match one {
+        DataInstruction::Place { item } => placing(tables, item, stacks),
+        DataInstruction::Index { stride, count } => match without(1, stacks) {
+            Some(rest) => indexing(tables, stride, count, rest),
+            None => Ok(None),
+        },
+        DataInstruction::Push => and_one_of(without_place(stacks)),
+        DataInstruction::Literal { number } => match tables.numbers.get(number.number as usize) {
+            Some(_) => and_one(stacks),
+            None => Ok(None),
+        },
+        DataInstruction::Add | DataInstruction::Subtract => and_one_of(without(2, stacks)),
+        DataInstruction::Take | DataInstruction::Move | DataInstruction::Append => {
+            Ok(without_place(stacks))
+        }
+        DataInstruction::TakeLiteral { .. } | DataInstruction::AppendLiteral { .. } => {
+            Ok(Some(stacks))
+        }
+    }
+}
+
+/// A line with so many bytes more.
+fn longer(line: usize, more: usize) -> Result<Option<usize>, AllocError>
+    ensures { IfOk result (λ after. after ≡ Some (line + more)) }
+{
+    match line.checked_add(more) {
+        Some(line) => Ok(Some(line)),
+        None => Err(AllocError),
+    }
+}
+
+/// The bytes that the line has at the most after an instruction.
+fn line_after(
+    tables: &DataTables,
+    one: DataInstruction,
+    newest: Option<PlaceShape>,
+    line: usize,
+) -> Result<Option<usize>, AllocError>
+    ensures { IfOk result (λ after. after ≡ spec.line_after tables.now one newest line) }
+{
+    match one {
+        DataInstruction::Append => match item_at(tables, newest) {
+            Some(one) => longer(line, shown_length(one.item)),
+            None => Ok(None),
+        },
+        DataInstruction::AppendLiteral { text } => match tables.texts.get(text.number as usize) {
+            Some(bytes) => longer(line, bytes.len()),
+            None => Ok(None),
+        },
+        _ => Ok(Some(line)),
+    }
+}
+
+/// What is taken after a move.
+fn moving(
+    tables: &DataTables,
+    newest: Option<PlaceShape>,
+    sender: Option<Taken>,
+) -> Option<Option<Taken>>
+    ensures { result ≡ spec.and_then sender (λ sent. spec.and_then (spec.item_at tables.now newest) (spec.moving_to sent)) }
+{
+    let sent = sender?;
+    let one = item_at(tables, newest)?;
+    if may_move(sent, one.item) {
+        Some(Some(sent))
+    } else {
+        None
+    }
+}
+
+/// What is taken after an instruction.
+fn sender_after(
+    tables: &DataTables,
+    one: DataInstruction,
+    newest: Option<PlaceShape>,
+    sender: Option<Taken>,
+) -> Option<Option<Taken>>
+    ensures { result ≡ spec.sender_after tables.now one newest sender }
+{
+    match one {
+        DataInstruction::Take => Some(Some(Taken::Item(item_at(tables, newest)?.item))),
+        DataInstruction::TakeLiteral { literal } => {
+            Some(Some(tables.senders.get(literal.number as usize)?.taken))
+        }
+        DataInstruction::Move => moving(tables, newest, sender),
+        _ => Some(sender),
+    }
+}
+
+fn shape_with(
+    stacks: Option<Stacks>,
+    line: Option<usize>,
+    sender: Option<Option<Taken>>,
+) -> Option<Shape>
+    ensures { result ≡ spec.shape_with stacks line sender }
+{
+    let stacks = stacks?;
+    let line = line?;
+    let sender = sender?;
+    Some(Shape {
+        stacks,
+        line,
+        sender,
+    })
+}
+
+/// What is known after an instruction; none: it doesn't find what it needs.
+pub fn effect(
+    tables: &DataTables,
+    one: DataInstruction,
+    shape: Shape,
+) -> Result<Option<Shape>, AllocError>
+    ensures { IfOk result (λ after. after ≡ spec.effect tables.now one shape) }
+{
+    let Shape {
+        stacks,
+        line,
+        sender,
+    } = shape;
+    let newest = stacks.places.newest();
+    let sender = sender_after(tables, one, newest, sender);
+    let line = line_after(tables, one, newest, line)?;
+    let stacks = stacks_after(tables, one, stacks)?;
+    Ok(shape_with(stacks, line, sender))
+}
+
+/// What is known after `accept`, which takes a place.
+pub fn accepting(shape: Shape) -> Option<Shape>
+    ensures { result ≡ spec.accepting shape }
+{
+    let Shape {
+        stacks,
+        line,
+        sender,
+    } = shape;
+    shape_with(without_place(stacks), Some(line), Some(sender))
+}
+
+/// What is known after `date`, which takes a place to which the day may be moved.
+pub fn dating(tables: &DataTables, shape: Shape) -> Option<Shape>
+    ensures { result ≡ spec.dating tables.now shape }
+{
+    let one = item_at(tables, shape.stacks.places.newest())?;
+    if may_move(Taken::Item(DATE), one.item) {
+        accepting(shape)
+    } else {
+        None
+    }
+}
+
+/// What is known after `show`, which shows the line.
+pub fn showing(shape: Shape) -> Shape
+    ensures { result ≡ spec.showing shape }
+{
+    let Shape { stacks, sender, .. } = shape;
+    Shape {
+        stacks,
+        line: 0,
+        sender,
+    }
+}

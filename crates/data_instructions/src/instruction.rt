@@ -1,0 +1,36 @@
+//! The instructions on data.
+
+use crate::index::{ItemIndex, NumberIndex, SenderIndex, TextIndex};
+use std::mem::size_of;
+
+/// An instruction that uses none of the budget, and after which the next one comes, unless it ends in a fault.
+#[derive(Clone, Copy, Debug, PartialEq, Eq)]
+pub enum DataInstruction {
+    /// Puts the place of an item, its first occurrence, on the stack of places.
+    Place { item: ItemIndex },
+    /// Takes a subscript off the stack of numbers, and moves the newest place to the occurrence that it names. Fault 91
+    /// where it is out of its range, and 90 where it is no integer. The stride is in bytes.
+    Index { stride: u32, count: u32 },
+    /// Takes a place, and puts the number there on the stack of numbers. Fault 90 where there is none.
+    Push,
+    /// Puts a numeric literal on the stack of numbers.
+    Literal { number: NumberIndex },
+    /// Takes two numbers, and puts their sum on the stack: the one below and the newest.
+    Add,
+    /// The same with their difference: the one below without the newest.
+    Subtract,
+    /// Takes a place, and keeps its bytes as the sender.
+    Take,
+    /// Keeps a literal as the sender.
+    TakeLiteral { literal: SenderIndex },
+    /// Takes a place, and moves the sender there; an edited item is edited by its picture. Fault 90 where a number is wanted
+    /// of bytes that hold none.
+    Move,
+    /// Takes a place, and adds what DISPLAY shows of it to the line. Fault 90 where a numeric item holds no number.
+    Append,
+    /// Adds a text to the line.
+    AppendLiteral { text: TextIndex },
+}
+
+// Code is read in order, so an instruction has few bytes.
+const _: () = prove!(size_of::<DataInstruction>() <= 12);

@@ -1,0 +1,23 @@
+//! The machine's instructions on data: what each does, the tables that they name, and what is known of the stacks along
+//! code, so that an instruction whose operands are known is never stuck.
+#![tactic(auto)]
+
+mod effects;
+mod fault;
+mod index;
+mod instruction;
+mod laws;
+mod naming;
+mod order;
+mod place;
+mod shape;
+mod tables;
+
+pub use effects::{DATE, accepting, dating, effect, showing};
+pub use fault::ProgramFault;
+pub use index::{ItemIndex, NumberIndex, SenderIndex, TextIndex};
+pub use instruction::DataInstruction;
+pub use laws::{joining_law, safety_law, shape_law, statement_law};
+pub use place::Place;
+pub use shape::{PlaceShape, PlaceShapes, Shape, Stacks};
+pub use tables::{DataItem, DataTables, LiteralSender};

@@ -1,0 +1,38 @@
+//! The tables of data that code names.
+
+use decimal18::Dec;
+use items::{Item, Taken};
+use picture::Picture;
+use sqlite_items::Items;
+
+/// An item that code names. Its first occurrence begins `offset` bytes behind the start of its area.
+#[derive(Debug, Drop)]
+pub struct DataItem {
+    pub item: Item,
+    /// The picture by which it is edited, if it is.
+    pub editing: Option<Picture>,
+    /// Areas count from 0.
+    pub area: u32,
+    pub offset: u32,
+}
+
+/// A literal as a sender: what it counts as, and its bytes.
+#[derive(Debug, Drop)]
+pub struct LiteralSender {
+    pub taken: Taken,
+    pub bytes: Items<u8>,
+}
+
+/// The tables of data that code names.
+#[derive(Debug, Drop)]
+pub struct DataTables {
+    /// The bytes of each area at the start of a run. An area keeps its length.
+    pub areas: Items<Items<u8>>,
+    pub items: Items<DataItem>,
+    /// Literals that are numbers.
+    pub numbers: Items<Dec>,
+    /// Literals that are sent.
+    pub senders: Items<LiteralSender>,
+    /// Texts that are shown.
+    pub texts: Items<Items<u8>>,
+}

@@ -1,0 +1,88 @@
+-- The environment division, which is looked past: which tokens spell it, and how it is read (COBOL-85, Nucleus, "Environment
+-- division").
+use Rattle.std.specs.Prelude.{Bool, true, false, if◌then◌else◌, List, [], ◌∷◌, Option, None, Some, Ok}
+use Rattle.tokens.specs.declared.reserved.Reserved.{Reserved}
+use Rattle.tokens.specs.declared.reserved.Reserved.TheVariants as w
+use Rattle.tokens.specs.declared.token.Kind.{Kind}
+use Rattle.tokens.specs.declared.token.Kind.TheVariants as k
+use Rattle.tokens.specs.declared.token.Token.{Token}
+use Rattle.grammar.specs.Parts.{Part, ◌then◌, ◌or◌, without, some_of, several, tested, telling, begins_telling, word, period, heading}
+use Rattle.grammar.specs.Reading as r
+use Rattle.grammar.specs.Reading.{Parser, ◌>>=◌, ◌>>◌, begins_word}
+
+-- p, which begins with this word; it is left out only where the word does not stand.
+infixr 25 ◌unless_no◌
+abbrev pub ◌unless_no◌ : Part → Reserved → Part
+p unless_no one = p or without (word one)
+
+-- the words of what may come after a description
+abbrev pub comes_after : Reserved → Bool
+comes_after w.ObjectComputer = true
+comes_after w.InputOutput = true
+comes_after w.Data = true
+comes_after w.Procedure = true
+comes_after _ = false
+
+abbrev pub ends_description : Kind → Bool
+ends_description k.Period = true
+ends_description (k.Reserved one) = comes_after one
+ends_description _ = false
+
+abbrev pub unless : Bool → Option (Unit {0})
+unless true = None
+unless false = Some tt
+
+-- any token but a period and these words
+abbrev pub described_in : Token → Option (Unit {0})
+described_in one = unless (ends_description one.kind)
+
+abbrev pub begins_description : List Token → Bool
+begins_description = begins_telling described_in
+
+-- [any... .]
+abbrev pub description : Part
+description = (some_of (several (telling described_in) (tested begins_description)) then period) or without (tested begins_description)
+
+-- [SOURCE-COMPUTER . [any... .]], and the same for OBJECT-COMPUTER
+abbrev pub computer : Reserved → Part
+computer one = (heading (one ∷ []) then description) unless_no one
+
+-- [CONFIGURATION SECTION . [SOURCE-COMPUTER . ..] [OBJECT-COMPUTER . ..]]
+abbrev pub configuration : Part
+configuration =
+    (heading (w.Configuration ∷ w.Section ∷ []) then computer w.SourceComputer then computer w.ObjectComputer) unless_no w.Configuration
+
+-- [ENVIRONMENT DIVISION . [CONFIGURATION SECTION . ..]]
+abbrev pub environment : Part
+environment = (heading (w.Environment ∷ w.Division ∷ []) then configuration) unless_no w.Environment
+
+-- ---- reading
+
+abbrev pub unless_none : Reserved → Parser (Unit {0}) → Parser (Unit {0})
+unless_none one read i = if begins_word one i then read i else Ok (tt, i)
+
+-- the tokens after a description
+unfoldable pub past_description : List Token → List Token
+past_description [] = []
+past_description (first ∷ more) = if ends_description first.kind then first ∷ more else past_description more
+
+abbrev pub pass_description : Parser (Unit {0})
+pass_description i = Ok (tt, past_description i)
+
+unfoldable pub some_description : Parser (Unit {0})
+some_description = do
+  pass_description
+  r.period
+
+unfoldable pub description_reader : Parser (Unit {0})
+description_reader i = if begins_description i then some_description i else Ok (tt, i)
+
+unfoldable pub computer_reader : Reserved → Parser (Unit {0})
+computer_reader one = unless_none one (r.heading (one ∷ []) >> description_reader)
+
+unfoldable pub configuration_reader : Parser (Unit {0})
+configuration_reader =
+    unless_none w.Configuration (r.heading (w.Configuration ∷ w.Section ∷ []) >> (computer_reader w.SourceComputer >> computer_reader w.ObjectComputer))
+
+unfoldable pub environment_reader : Parser (Unit {0})
+environment_reader = unless_none w.Environment (r.heading (w.Environment ∷ w.Division ∷ []) >> configuration_reader)

@@ -1,0 +1,51 @@
+-- What a check answers of rules that are looked for in order: the first one that is broken, or that none is.
+use Rattle.std.specs.Prelude.{◌≡◌, ℕ, List, [], ◌∷◌, Option, Some, None, Result, Ok, Err}
+use Rattle.source_tree.specs.Broken.{Broken}
+use Rattle.source_tree.specs.LookUp.{first}
+use Rattle.entry_rules.specs.declared.rule.Rule.{Rule}
+use Rattle.entry_rules.specs.declared.rule.Rule.TheVariants as rule
+use Rattle.entry_rules.specs.declared.rule.BrokenRule.{BrokenRule}
+use Rattle.entry_rules.specs.declared.rule.CheckError.{CheckError}
+use Rattle.entry_rules.specs.declared.rule.CheckError.TheVariants.{Memory, Refused}
+
+abbrev pub number_of : Rule → ℕ
+number_of rule.UnknownName = 40
+number_of rule.AmbiguousName = 41
+number_of rule.LevelOrder = 43
+number_of rule.Clause = 44
+number_of rule.Picture = 45
+number_of rule.Redefinition = 46
+number_of rule.Value = 47
+number_of rule.Size = 48
+number_of rule.Move = 49
+number_of rule.Subscripts = 50
+number_of rule.Number = 51
+number_of rule.Range = 55
+number_of rule.AllLiteral = 67
+number_of rule.Limit = 69
+
+abbrev pub broken_of : BrokenRule → Broken
+broken_of one = record { rule = number_of one.rule; place = one.place }
+
+abbrev pub fault_of : CheckError → Option Broken
+fault_of Memory = None
+fault_of (Refused one) = Some (broken_of one)
+
+-- The first of the broken rules; or there is none, and then this value.
+abbrev pub first_or : {A : Type 0} → A → List Broken → Result A Broken
+first_or value [] = Ok value
+first_or value (one ∷ more) = Err one
+
+-- A check that takes no memory: none of the rules is broken, or this is the first that is.
+abbrev pub Finds : {A : Type 0} → Result A BrokenRule → List Broken → Type 0
+Finds (Ok value) rules = rules ≡ []
+Finds (Err one) rules = first rules ≡ Some (broken_of one)
+
+abbrev pub IsFirst : Option Broken → List Broken → Type 0
+IsFirst None rules = Unit {0}
+IsFirst (Some one) rules = first rules ≡ Some one
+
+-- The same of a check that may be out of memory, of which the rules say nothing.
+abbrev pub Tells : {A : Type 0} → Result A CheckError → List Broken → Type 0
+Tells (Ok value) rules = rules ≡ []
+Tells (Err e) rules = IsFirst (fault_of e) rules

@@ -1,0 +1,125 @@
+//! Rules, and why a program is refused.
+
+ghost use Rattle.std.specs.Prelude.{◌≡◌};
+ghost use Rattle.source_tree.specs.Broken.{where_so};
+ghost use Rattle.entry_rules.specs.Checks.{Finds, number_of};
+
+use source_tree::Place;
+use std::alloc::{AllocError, AllocFailed};
+use thiserror::Error;
+
+/// A rule that entries or references can break.
+#[derive(Clone, Copy, Debug, PartialEq, Eq)]
+pub enum Rule {
+    /// A name that names nothing, or a thing of another kind.
+    UnknownName,
+    /// A name that names several things.
+    AmbiguousName,
+    /// Level numbers and their order.
+    LevelOrder,
+    /// OCCURS, JUSTIFIED, BLANK WHEN ZERO, SIGN and USAGE.
+    Clause,
+    /// A picture is missing, has no form, or stands on a group.
+    Picture,
+    Redefinition,
+    /// A VALUE that its item can't hold as it is.
+    Value,
+    /// An item or storage is too large.
+    Size,
+    /// A MOVE that isn't permitted.
+    Move,
+    /// The number of subscripts.
+    Subscripts,
+    /// An operand isn't numeric where it must be, or has decimals in a subscript.
+    Number,
+    /// A range of values that is backwards.
+    Range,
+    /// ALL with a literal in DISPLAY.
+    AllLiteral,
+    /// A limit of this compiler.
+    Limit,
+}
+
+impl Rule {
+    /// The number that the product prints.
+    pub fn number(self) -> u8
+        ensures { result ≡ number_of self }
+    {
+        match self {
+            Rule::UnknownName => 40,
+            Rule::AmbiguousName => 41,
+            Rule::LevelOrder => 43,
+            Rule::Clause => 44,
+            Rule::Picture => 45,
+            Rule::Redefinition => 46,
+            Rule::Value => 47,
+            Rule::Size => 48,
+            Rule::Move => 49,
+            Rule::Subscripts => 50,
+            Rule::Number => 51,
+            Rule::Range => 55,
+            Rule::AllLiteral => 67,
+            Rule::Limit => 69,
+        }
+    }
+
+    /// The rule is broken at a place, if the test says so.
+    pub fn broken_if(self, test: bool, place: Place) -> Result<(), BrokenRule>
+        ensures { Finds result (where_so test (number_of self) place) }
+    {
+        if test {
+            Err(BrokenRule { rule: self, place })
+        } else {
+            Ok(())
+        }
+    }
+}
+
+/// A rule that is broken, and where.
+#[derive(Clone, Copy, Debug, PartialEq, Eq)]
+pub struct BrokenRule {
+    pub rule: Rule,
+    pub place: Place,
+}
+
+/// Why entries or statements are refused.
+#[derive(Clone, Copy, Debug, PartialEq, Eq, Error)]
+pub enum CheckError {
+    #[error("out of memory")]
+    Memory,
+    #[error("a rule is broken")]
+    Refused(BrokenRule),
+}
+
+impl From<BrokenRule> for CheckError {
+    ghost use Rattle.std.specs.Prelude.{◌≡◌};
+    ghost use Rattle.entry_rules.specs.declared.rule.CheckError.TheVariants.{Refused};
+
+    ghost from_gives = { λ broken e. e ≡ Refused broken };
+
+    fn from(broken: BrokenRule) -> CheckError {
+        CheckError::Refused(broken)
+    }
+}
+
+impl From<AllocError> for CheckError {
+    ghost use Rattle.std.specs.Prelude.{◌≡◌};
+    ghost use Rattle.entry_rules.specs.declared.rule.CheckError.TheVariants.{Memory};
+
+    ghost from_gives = { λ _ e. e ≡ Memory };
+
+    fn from(_: AllocError) -> CheckError {
+        CheckError::Memory
+    }
+}
+
+impl<T: Drop> From<AllocFailed<T>> for CheckError {
+    ghost use Rattle.std.specs.Prelude.{◌≡◌};
+    ghost use Rattle.entry_rules.specs.declared.rule.CheckError.TheVariants.{Memory};
+
+    ghost from_gives = { λ _ e. e ≡ Memory };
+
+    fn from(_: AllocFailed<T>) -> CheckError {
+        CheckError::Memory
+    }
+}

@@ -1,0 +1,11 @@
+pub mod Elementary
+mod Examples
+pub mod Groups
+pub mod Inner
+pub mod Kept
+pub mod Lengths
+pub mod Places
+pub mod Records
+pub mod Repeats
+pub mod Sizes
+pub mod Values

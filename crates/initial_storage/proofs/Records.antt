@@ -1,0 +1,157 @@
+-- Items lie within their areas.
+use Rattle.std.proofs.Common.{◌≡◌, ℕ, ◌+◌, ◌-◌, ◌*◌, ◌≤◌, ◌<◌, max, Bool, true, false, if◌then◌else◌, List, [], ◌∷◌, ◌++◌, length, get_or, None, Some, is_some, refl, sym, ap, subst, ◌∙◌, append_assoc, length-append, arith}
+use Rattle.std.specs.Prelude.{Option}
+use Rattle.std.specs.List.{All, AllByRecursion}
+use Rattle.std.proofs.Math.ListN.{get_or-append}
+use Rattle.std.proofs.Math.Seq.{get_or-append_seam}
+use Rattle.std.proofs.lemmas.List.Elements.{All-from_recursion}
+use Rattle.items.specs.declared.item.Item.{Item}
+use Rattle.source_tree.specs.declared.name.Name.{Name}
+use Rattle.source_tree.specs.declared.entry.ItemEntry.{ItemEntry}
+use Rattle.source_tree.specs.declared.entry.Entry.{Entry}
+use Rattle.source_tree.specs.Levels.{Forest, End, Tree, nested}
+use Rattle.source_tree.specs.Clauses.{nothing_around, inside, occurrences}
+use Rattle.source_tree.specs.Rooms.{redefines, room, item_with, longest, redefining, area_lengths}
+use Rattle.source_tree.specs.Places.{Placed, top, places, storage_places, items_of}
+use Rattle.source_tree.specs.Broken.{each}
+use Rattle.source_tree.specs.RedefinitionRules.{Redefinable, remembered, wrong_object, wrong_redefinition}
+use Rattle.source_tree.specs.ValueRules.{condition_rules}
+use Rattle.source_tree.specs.EntryRules.{outermost, redefinition_rules, own_rules, below, forest_rules, entry_rules}
+use Rattle.initial_storage.specs.Reach.{reach, IsWithin}
+use Rattle.initial_storage.proofs.Kept.{three_parts, kept, second_false, KeepsOwn, keeps_own, rule_parts}
+use Rattle.initial_storage.proofs.Inner.{Outer, outer_nested}
+use Rattle.initial_storage.proofs.Sizes.{room_in, sized}
+use Rattle.initial_storage.proofs.Groups.{Sized, Ends, all_append, within_group}
+
+-- A 01 or 77 may be longer than the one that it redefines, but there is one.
+abbrev Records : Bool → Forest → Type 0
+Records some End = Unit {0}
+Records some (Tree one conditions inner next) =
+    (redefines one ≡ true → some ≡ true) × (1 ≤ occurrences one) × (room (inside nothing_around one) inner ≤ (item_with nothing_around one inner).length)
+    × Sized (inside nothing_around one) 0 inner × Records true next
+
+-- ---- by the rules
+
+redefines_some : (is_record : Bool) (one : ItemEntry) (bytes : ℕ) (object : Option Name) (last : Option Redefinable)
+    → redefinition_rules is_record one bytes object last ≡ [] → is_some object ≡ true → is_some last ≡ true
+redefines_some is_record one bytes None last e so = cc
+redefines_some is_record one bytes (Some name) None e so =
+    let no : true ≡ false = second_false is_record (wrong_object one bytes name None) (kept (wrong_redefinition is_record one bytes name None) 46 name.place e) in
+    cc
+redefines_some is_record one bytes (Some name) (Some last) e so = refl
+
+some_if : (b : Bool) (last : Option Redefinable) (one : Redefinable) → (b ≡ true → is_some last ≡ true) → is_some (if b then last else Some one) ≡ true
+some_if true last one h = h refl
+some_if false last one h = refl
+
+records : (last : Option Redefinable) (F : Forest) → Outer F → forest_rules (outermost false) last F ≡ [] → Records (is_some last) F
+records last End levels e = tt
+records last (Tree one conditions inner next) levels e =
+    let item : Item = item_with nothing_around one inner in
+    let bytes : ℕ = occurrences one * item.length in
+    let after : Option Redefinable = remembered one bytes last in
+    let parts = three_parts (forest_rules (below (outermost false) one inner) None inner) (own_rules (outermost false) one item inner last) (each (condition_rules item) conditions) (forest_rules (outermost false) after next) e in
+    let own : KeepsOwn (outermost false) one inner last = keeps_own (outermost false) one inner last parts.1 in
+    let so : redefines one ≡ true → is_some last ≡ true = redefines_some false one bytes one.redefines last own.redefinition in (
+      so,
+      own.some,
+      room_in nothing_around one inner own.picture,
+      sized (below (outermost false) one inner) None inner levels.0 parts.0,
+      subst (λ b. Records b next) (some_if (redefines one) last _ so) (records after next levels.1 parts.2),
+    )
+
+-- ---- areas
+
+-- that the longest redefinition isn't longer than the area before it, where the next one redefines
+front : (b : Bool) (F : Forest) (n : ℕ) → longest nothing_around (if b then F else End) ≤ n → b ≡ true → longest nothing_around F ≤ n
+front true F n h e = h
+front false F n h e = cc
+
+own_fits : (b : Bool) (areas own rest : ℕ) (before lengths : List ℕ) → length before ≡ areas → (b ≡ true → 1 ≤ areas) → (b ≡ true → max own rest ≤ get_or before (areas - 1) 0)
+    → own ≤ get_or (before ++ (if b then lengths else max own rest ∷ lengths)) (if b then areas - 1 else areas) 0
+own_fits true areas own rest before lengths e some h =
+    let one = some refl in
+    let most = h refl in
+    let lt : areas - 1 < length before = omega (arith, one, e) in
+    let same = get_or-append before lengths 0 (areas - 1) lt in
+    omega (arith, most, same)
+own_fits false areas own rest before lengths e some h =
+    let same : get_or (before ++ max own rest ∷ lengths) areas 0 ≡ max own rest = ap (λ n. get_or (before ++ max own rest ∷ lengths) n 0) (sym e) ∙ get_or-append_seam before (max own rest) lengths 0 in
+    omega (arith, same)
+
+same_lengths : (b : Bool) (before lengths : List ℕ) (n : ℕ) → before ++ (if b then lengths else n ∷ lengths) ≡ (if b then before else before ++ n ∷ []) ++ lengths
+same_lengths true before lengths n = refl
+same_lengths false before lengths n = sym (append_assoc before (n ∷ []) lengths)
+
+next_areas : (b : Bool) (areas n : ℕ) (before : List ℕ) → length before ≡ areas → (b ≡ true → 1 ≤ areas) → length (if b then before else before ++ n ∷ []) ≡ (if b then areas - 1 else areas) + 1
+next_areas true areas n before e some = let one = some refl in omega (arith, e, one)
+next_areas false areas n before e some = omega (arith, e, length-append before (n ∷ []))
+
+next_fits : (b : Bool) (areas own rest : ℕ) (before : List ℕ) → length before ≡ areas → (b ≡ true → max own rest ≤ get_or before (areas - 1) 0)
+    → rest ≤ get_or (if b then before else before ++ max own rest ∷ []) ((if b then areas - 1 else areas) + 1 - 1) 0
+next_fits true areas own rest before e h =
+    let most = h refl in
+    let same : get_or before (areas - 1 + 1 - 1) 0 ≡ get_or before (areas - 1) 0 = ap (λ n. get_or before n 0) (omega arith) in
+    omega (arith, most, same)
+next_fits false areas own rest before e h =
+    let at : areas + 1 - 1 ≡ length before = omega (arith, e) in
+    let same : get_or (before ++ max own rest ∷ []) (areas + 1 - 1) 0 ≡ max own rest = ap (λ n. get_or (before ++ max own rest ∷ []) n 0) at ∙ get_or-append_seam before (max own rest) [] 0 in
+    omega (arith, same)
+
+none_taken : (b : Bool) (own : ℕ) → 0 + ((if b then 0 else own) + 0) + 0 ≤ own
+none_taken true own = omega arith
+none_taken false own = omega arith
+
+all_weaker : {A : Type 0} (P Q : A → Type 0) (xs : List A) → ((x : A) → P x → Q x) → AllByRecursion P xs → AllByRecursion Q xs
+all_weaker P Q [] h k = tt
+all_weaker P Q (x ∷ xs) h k = (h x k.0, all_weaker P Q xs h k.1)
+
+-- what ends before an area does
+ends_within : (lengths : List ℕ) (area limit : ℕ) → limit ≤ get_or lengths area 0 → (one : Placed) → Ends area limit one → IsWithin lengths one
+ends_within lengths area limit h one ends =
+    let same : get_or lengths one.area 0 ≡ get_or lengths area 0 = ap (λ n. get_or lengths n 0) ends.0 in
+    let end = ends.1 in
+    let here : one.offset + reach one.dimensions + one.item.length ≤ get_or lengths one.area 0 = omega (arith, end, h, same) in
+    here
+
+within_storage : (areas : ℕ) (before : List ℕ) (some : Bool) (F : Forest) → length before ≡ areas → (some ≡ true → 1 ≤ areas) → Records some F
+    → longest nothing_around (redefining F) ≤ get_or before (areas - 1) 0 → AllByRecursion (IsWithin (before ++ area_lengths F)) (storage_places areas F)
+within_storage areas before some End e one kept h = tt
+within_storage areas before some (Tree one conditions inner next) e count kept h =
+    let b : Bool = redefines one in
+    let own : ℕ = occurrences one * (item_with nothing_around one inner).length in
+    let rest : ℕ = longest nothing_around (redefining next) in
+    let area : ℕ = if b then areas - 1 else areas in
+    let lengths : List ℕ = before ++ (if b then area_lengths next else max own rest ∷ area_lengths next) in
+    let after : List ℕ = if b then before else before ++ max own rest ∷ [] in
+    let some_area : b ≡ true → 1 ≤ areas = λ so. count (kept.0 so) in
+    let most : b ≡ true → max own rest ≤ get_or before (areas - 1) 0 = front b (Tree one conditions inner (redefining next)) (get_or before (areas - 1) 0) h in
+    let fits : own ≤ get_or lengths area 0 = own_fits b areas own rest before (area_lengths next) e some_area most in
+    let items = places (top area []) 0 0 (Tree one conditions inner End) in
+    let ends : AllByRecursion (Ends area own) items =
+    within_group (top area []) own 0 0 own (Tree one conditions inner End)
+    (record { some = kept.1; shorter = λ so. omega arith; room = kept.2 }, kept.3, tt) (omega arith) (none_taken b own) in
+    let later : AllByRecursion (IsWithin (after ++ area_lengths next)) (storage_places (area + 1) next) =
+    within_storage (area + 1) after true next (next_areas b areas (max own rest) before e some_area) (λ so. omega arith) kept.4 (next_fits b areas own rest before e most) in
+    all_append (IsWithin lengths) items (storage_places (area + 1) next)
+    (all_weaker (Ends area own) (IsWithin lengths) items (ends_within lengths area own fits) ends)
+    (subst (λ l. AllByRecursion (IsWithin l) (storage_places (area + 1) next)) (sym (same_lengths b before (area_lengths next) (max own rest))) later)
+
+-- ---- all of working storage
+
+no_front : (b : Bool) (F : Forest) → (b ≡ true → false ≡ true) → longest nothing_around (if b then F else End) ≤ 0
+no_front true F h = let no : false ≡ true = h refl in cc
+no_front false F h = omega arith
+
+begins : (F : Forest) → Records false F → longest nothing_around (redefining F) ≤ 0
+begins End h = omega arith
+begins (Tree one conditions inner next) h = no_front (redefines one) (Tree one conditions inner (redefining next)) h.0
+
+pub within_by_recursion : (entries : List Entry) → entry_rules entries ≡ [] → AllByRecursion (IsWithin (area_lengths (nested entries))) (items_of entries)
+within_by_recursion entries e =
+    let parts = rule_parts entries e in
+    let all : Records false (nested entries) = records None (nested entries) (outer_nested entries parts.0) parts.1 in
+    within_storage 0 [] false (nested entries) refl (λ so. cc) all (begins (nested entries) all)
+
+pub within_areas : (entries : List Entry) → entry_rules entries ≡ [] → All (IsWithin (area_lengths (nested entries))) (items_of entries)
+within_areas entries e = All-from_recursion (IsWithin (area_lengths (nested entries))) (items_of entries) (within_by_recursion entries e)

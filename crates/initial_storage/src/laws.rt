@@ -1,0 +1,20 @@
+//! What holds of all entries that keep the rules.
+
+ghost use Rattle.std.specs.Prelude.{◌≡◌, ◌+◌, ◌≤◌, List, [], Ok, slice_index};
+ghost use Rattle.std.specs.List.{All};
+ghost use Rattle.source_tree.specs.declared.entry.Entry.{Entry};
+ghost use Rattle.source_tree.specs.declared.reference.Reference.{Reference};
+ghost use Rattle.source_tree.specs.EntryRules.{entry_rules};
+ghost use Rattle.source_tree.specs.Levels.{nested};
+ghost use Rattle.source_tree.specs.Places.{items_of};
+ghost use Rattle.source_tree.specs.References.{ItemPlace, place_of};
+ghost use Rattle.source_tree.specs.Rooms.{area_lengths};
+ghost use Rattle.source_tree.specs.Storage.{Storage};
+ghost use Rattle.initial_storage.specs.Reach.{IsWithin};
+
+/// Each item lies within its area, with all its occurrences, and so does the place that a reference names, whatever storage
+/// holds.
+pub fn items_lie_within_areas()
+    ensures items { (entries : List Entry) → entry_rules entries ≡ [] → All (IsWithin (area_lengths (nested entries))) (items_of entries) }
+    ensures places { (entries : List Entry) (reference : Reference) (storage : Storage) (place : ItemPlace) → entry_rules entries ≡ [] → place_of (items_of entries) reference storage ≡ Ok place → place.offset + place.item.length ≤ slice_index (area_lengths (nested entries)) place.area }
+{}

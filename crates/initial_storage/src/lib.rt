@@ -1,0 +1,11 @@
+//! What working storage holds at the start of a run: the bytes of each area, with VALUE.
+#![tactic(auto)]
+
+mod laws;
+mod occurrences;
+mod repeat;
+mod storage;
+mod value;
+
+pub use laws::items_lie_within_areas;
+pub use storage::InitialStorage;

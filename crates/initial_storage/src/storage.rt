@@ -1,0 +1,104 @@
+//! The areas of working storage.
+
+ghost use Rattle.std.specs.Prelude.{◌≡◌, ◌++◌, [], length, map, IfOk, OnOk};
+ghost use Rattle.items.specs.Texts.{padded};
+ghost use Rattle.source_tree.specs.Levels.{nested, leading};
+ghost use Rattle.source_tree.specs.Clauses.{nothing_around};
+ghost use Rattle.source_tree.specs.Clauses as clauses;
+ghost use Rattle.source_tree.specs.Rooms.{redefining, longest, area_length, area_lengths};
+ghost use Rattle.source_tree.specs.EntryRules.{entry_rules};
+ghost use Rattle.source_tree.specs.Starts.{areas_from, areas_at_start};
+ghost use Rattle.entries.specs.Nesting.{HasLevel};
+ghost use Rattle.initial_storage.specs.Fits.{Fits, FitsEntry};
+ghost use Rattle.initial_storage.specs.Occurrences as spec;
+
+use crate::occurrences::put_item;
+use entries::{Sibling, levels_are_told, next_item};
+use source_tree::{Around, Entry};
+use sqlite_items::Items;
+use std::alloc::{AllocError, Global};
+
+const NOTHING_AROUND: Around = Around {
+    usage: None,
+    sign: None,
+};
+
+/// What working storage holds at the start of a run.
+#[derive(Debug, Drop)]
+pub struct InitialStorage {
+    /// The bytes of each area, in the order of the 01 and 77 that begin them.
+    pub areas: Items<Items<u8>>,
+}
+
+/// The first item, where it redefines.
+fn next_redefinition(entries: &[Entry]) -> Option<Sibling<'_>>
+    requires { HasLevel (nested entries.now) }
+    ensures { spec.IsNextRedefinition entries.now result }
+{
+    let one = next_item(entries)?;
+    if one.entry.redefines.is_none() {
+        return None;
+    }
+    Some(one)
+}
+
+/// The bytes of the longest of the 01 at the front that redefine.
+fn longest_redefinition(alloc: Global, entries: &[Entry]) -> Result<usize, AllocError>
+    requires { Fits nothing_around (nested entries.now) }
+    ensures { IfOk result (λ bytes. bytes ≡ longest nothing_around (redefining (nested entries.now))) }
+{
+    let mut bytes: usize = 0;
+    let mut rest = entries;
+    'records: while let Some(one) = next_redefinition(rest) {
+        let mut record = Vec::new(alloc);
+        put_item(alloc, NOTHING_AROUND, one, &mut record)?;
+        bytes = bytes.max(record.len());
+        rest = one.next;
+    }
+    Ok(bytes)
+}
+
+/// The area that a 01 or 77 begins, as long as the longest of it and those after it that redefine it.
+fn area(alloc: Global, one: Sibling<'_>) -> Result<Items<u8>, AllocError>
+    requires fits { FitsEntry nothing_around one.entry.now (nested one.inner.now) }
+    requires within { Fits (clauses.inside nothing_around one.entry.now) (nested one.inner.now) }
+    requires next { Fits nothing_around (nested one.next.now) }
+    ensures { IfOk result (λ area. area ≡ padded (area_length one.entry.entry.now (leading one.entry.inner.now) (nested one.entry.inner.now) (nested one.entry.next.now)) (spec.all_occurrences nothing_around one.entry.entry.now (nested one.entry.inner.now))) }
+{
+    let mut bytes = Vec::new(alloc);
+    put_item(alloc, NOTHING_AROUND, one, &mut bytes)?;
+    let length = bytes.len().max(longest_redefinition(alloc, one.next)?);
+    bytes.resize(length, b' ')?;
+    Ok(Items::from_vec(bytes))
+}
+
+/// Puts the area of each 01 and 77 that redefines nothing.
+fn put_areas(alloc: Global, entries: &[Entry], out: &mut Vec<Items<u8>>) -> Result<(), AllocError>
+    requires { Fits nothing_around (nested entries.now) }
+    ensures { OnOk result (out.new.items ≡ out.old.items ++ areas_from (nested entries.now)) }
+{
+    let mut rest = entries;
+    'records: while let Some(one) = next_item(rest) {
+        if one.entry.redefines.is_none() {
+            out.push(area(alloc, one)?)?;
+        }
+        rest = one.next;
+    }
+    Ok(())
+}
+
+impl InitialStorage {
+    /// What working storage of entries that keep the rules holds at the start of a run (COBOL-85, Nucleus, "The VALUE clause").
+    pub fn of(alloc: Global, entries: &[Entry]) -> Result<InitialStorage, AllocError>
+        requires { entry_rules entries.now ≡ [] }
+        ensures areas { IfOk result (λ storage. storage.areas ≡ areas_at_start entries.now) }
+        ensures lengths { IfOk result (λ storage. map length storage.areas ≡ area_lengths (nested entries.now)) }
+    {
+        levels_are_told();
+        let mut areas = Vec::new(alloc);
+        put_areas(alloc, entries, &mut areas)?;
+        Ok(InitialStorage {
+            areas: Items::from_vec(areas),
+        })
+    }
+}

@@ -1,0 +1,5 @@
+pub mod Steps
+pub mod Grown
+pub mod Within
+pub mod ItemCalls
+pub mod Picked

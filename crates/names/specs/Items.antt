@@ -1,0 +1,30 @@
+-- The items of entries, with their names and those around them.
+use Rattle.std.specs.Prelude.{◌≡◌, List, [], ◌∷◌, ◌++◌, Some, slice_get}
+use Rattle.source_tree.specs.declared.name.Name.{Name}
+use Rattle.source_tree.specs.declared.entry.ItemEntry.{ItemEntry}
+use Rattle.source_tree.specs.declared.reference.QualifiedName.{QualifiedName}
+use Rattle.source_tree.specs.LookUp as tree
+use Rattle.source_tree.specs.Levels.{Forest, End, Tree}
+use Rattle.source_tree.specs.Names.{with_name}
+use Rattle.source_tree.specs.Places.{Placed}
+use Rattle.names.specs.declared.look_up.LookUp.{LookUp}
+use Rattle.names.specs.declared.look_up.LookUp.TheVariants.{Unknown, One, Several}
+use Rattle.names.specs.Positions.{Called}
+
+abbrev pub called_item : Placed → Called
+called_item one = record { name = one.entry.name; around = one.groups }
+
+-- The items of a tree of entries in groups of these names, in order.
+abbrev pub item_calls : List Name → Forest → List Called
+item_calls groups End = []
+item_calls groups (Tree one conditions inner next) =
+    record { name = one.name; around = groups } ∷ (item_calls (with_name one.name groups) inner ++ item_calls groups next)
+
+abbrev pub entry_calls : List Name → ItemEntry → Forest → List Called
+entry_calls groups one inner = record { name = one.name; around = groups } ∷ item_calls (with_name one.name groups) inner
+
+-- What was found is what the name names: nothing, the item of that number alone, or several items.
+abbrev pub IsNamed : List Placed → QualifiedName → LookUp → Type 0
+IsNamed items reference Unknown = tree.items_named items reference ≡ []
+IsNamed items reference (One n) = (one : Placed) × (slice_get items n ≡ Some one) × (tree.items_named items reference ≡ one ∷ [])
+IsNamed items reference Several = (one : Placed) × (other : Placed) × (more : List Placed) × (tree.items_named items reference ≡ one ∷ other ∷ more)

@@ -1,0 +1,28 @@
+//! Qualification (COBOL-85, Nucleus, "Qualification").
+
+ghost use Rattle.std.specs.Prelude.{◌≡◌};
+ghost use Rattle.source_tree.specs.Names as names;
+ghost use Rattle.names.specs.Table.{names_of};
+
+use source_tree::Name;
+
+fn is_same(one: &Name, other: &Name) -> bool
+    ensures { result ≡ names.same one.now other.now }
+{
+    one.characters.as_slice() == other.characters.as_slice()
+}
+
+/// Each qualifier is one of these names, in their order; names between may be left out.
+pub fn is_within(qualifiers: &[Name], around: &[&Name]) -> bool
+    ensures { result ≡ names.is_within qualifiers.now (names_of around.now) }
+{
+    let mut rest = qualifiers;
+    for name in around {
+        if let [one, more @ ..] = rest {
+            if is_same(one, name) {
+                rest = more;
+            }
+        }
+    }
+    rest.is_empty()
+}

@@ -1,0 +1,3 @@
+pub mod AreaBytes
+pub mod Readies
+pub mod Staying

@@ -1,0 +1,10 @@
+pub mod Held
+pub mod Filled
+pub mod Areas
+pub mod Writing
+pub mod Finds
+pub mod Data
+pub mod Comes
+pub mod Ready
+pub mod Subscripts
+pub mod Lines

@@ -1,0 +1,85 @@
+//! Areas of bytes.
+
+ghost use Rattle.std.specs.Prelude.{◌≡◌, length, map, IfOk};
+ghost use Rattle.items.specs.Items.{IsOf};
+ghost use Rattle.items.specs.Texts.{padded};
+ghost use Rattle.source_tree.specs.References.{part_of, storing};
+ghost use Rattle.source_tree.specs.Moving.{move_to};
+ghost use Rattle.data_instructions.specs.Tables.{item_place};
+ghost use Rattle.run_time_data.specs.Finds.{StandsAt, Receives};
+ghost use Rattle.run_time_data.specs.Writing.{Stores};
+
+use crate::receiving::{move_part, pad_part};
+use data_instructions::DataItem;
+use items::{DataFault, Taken, part};
+use sqlite_items::Items;
+use std::alloc::{AllocError, Global};
+use std::marker::Model;
+
+/// Areas of bytes, each of a length that stays.
+#[derive(Drop)]
+pub struct Areas {
+    areas: Vec<Vec<u8>>,
+}
+
+impl Model for Areas {
+    ghost use Rattle.std.specs.Prelude.{List, ℕ};
+    ghost use Rattle.std.specs.Coded.{coded_list, coded_ℕ};
+    ghost use Rattle.run_time_data.specs.Areas.{storage_of};
+
+    ghost Value = { List (List ℕ) };
+
+    ghost coded = { coded_list (coded_list coded_ℕ) };
+
+    ghost view = { λ it. storage_of it.areas.items };
+}
+
+impl Areas {
+    /// Areas with these bytes.
+    pub fn new(alloc: Global, start: &[Items<u8>]) -> Result<Areas, AllocError>
+        ensures { IfOk result (λ areas. areas ≡ start.now) }
+    {
+        let mut areas = Vec::new(alloc);
+        for area in start {
+            areas.push(Vec::from_slice(alloc, area.as_slice())?)?;
+        }
+        Ok(Areas { areas })
+    }
+
+    /// The bytes of an item that stands at an offset.
+    pub fn bytes(&self, one: &DataItem, offset: usize) -> &[u8]
+        requires { StandsAt one.now self.now offset }
+        ensures value { result.now ≡ part_of self.now (item_place one.now offset) }
+        ensures of { IsOf one.now.item result.now }
+    {
+        let area = self.areas[one.area as usize].as_slice();
+        part(area, offset, one.item.length as usize)
+    }
+
+    /// Moves a sender to an item that stands at an offset. Where a number is wanted of bytes that hold none, nothing changes.
+    pub fn receive(
+        &mut self,
+        one: &DataItem,
+        offset: usize,
+        taken: Taken,
+        from: &[u8],
+    ) -> Result<(), DataFault>
+        requires stands { StandsAt one.now self.old offset }
+        requires sender { Receives one.now (record { taken = taken; bytes = from.now }) }
+        ensures stores { Stores result self.old self.new (move_to (record { taken = taken; bytes = from.now }) (item_place one.now offset) self.old) }
+        ensures lengths { map length self.new ≡ map length self.old }
+    {
+        let area = &mut self.areas[one.area as usize];
+        move_part(one, area.as_mut_slice(), offset, taken, from)
+    }
+
+    /// Stores characters in an item that stands at an offset, cut or padded with spaces.
+    pub fn pad(&mut self, one: &DataItem, offset: usize, text: &[u8])
+        requires { StandsAt one.now self.old offset }
+        ensures stores { self.new ≡ storing (item_place one.now offset) (padded one.now.item.length text.now) self.old }
+        ensures lengths { map length self.new ≡ map length self.old }
+    {
+        let area = &mut self.areas[one.area as usize];
+        pad_part(one, area.as_mut_slice(), offset, text);
+    }
+}

@@ -1,0 +1,90 @@
+//! Bytes in room that is made once.
+
+ghost use Rattle.std.specs.Prelude.{◌≡◌, ◌+◌, ◌≤◌, [], ◌++◌, length, IfOk};
+ghost use Rattle.items.specs.Items.{IsOf};
+ghost use Rattle.text_ops.specs.Shown.{shown};
+ghost use Rattle.text_ops.specs.Lengths.{shown_length};
+ghost use Rattle.run_time_data.specs.Writing.{Appends, WritesBehind};
+
+use items::{DataFault, Item};
+use std::alloc::{AllocError, Global};
+use std::marker::Model;
+use text_ops::shown;
+
+/// Bytes, with room for so many.
+#[derive(Drop)]
+pub struct Buffer {
+    room: Vec<u8>,
+    used: usize,
+}
+
+impl Model for Buffer {
+    ghost use Rattle.std.specs.Prelude.{◌≤◌, take, length};
+    ghost use Rattle.run_time_data.specs.Filled.{Filled, coded_filled};
+
+    ghost Value = { Filled };
+
+    ghost coded = { coded_filled };
+
+    ghost view = { λ it. record { room = length it.room.items; bytes = take it.used it.room.items } };
+
+    ghost invariant = { λ it. it.used ≤ length it.room.items };
+}
+
+impl Buffer {
+    /// Room for so many bytes, with none in it.
+    pub fn new(alloc: Global, room: usize) -> Result<Buffer, AllocError>
+        ensures { IfOk result (λ buffer. buffer ≡ record { room = room; bytes = [] }) }
+    {
+        let room = vec![in alloc; 0; room]?;
+        Ok(Buffer { room, used: 0 })
+    }
+
+    /// The bytes in it.
+    pub fn bytes(&self) -> &[u8]
+        ensures { result.now ≡ self.now.bytes }
+    {
+        &self.room.as_slice()[..self.used]
+    }
+
+    /// With nothing in it.
+    pub fn clear(&mut self)
+        ensures { self.new ≡ record { room = self.old.room; bytes = [] } }
+    {
+        self.used = 0;
+    }
+
+    /// Adds bytes at the end.
+    pub fn append(&mut self, bytes: &[u8])
+        requires { length self.old.bytes + length bytes.now ≤ self.old.room }
+        ensures { self.new ≡ record { room = self.old.room; bytes = self.old.bytes ++ bytes.now } }
+    {
+        let end = self.used + bytes.len();
+        let room = self.room.as_mut_slice();
+        room[self.used..end].copy_from_slice(bytes);
+        self.used = end;
+    }
+
+    /// Adds what DISPLAY shows of an item at the end. Where a numeric item holds no number, nothing changes.
+    pub fn append_shown(&mut self, item: Item, bytes: &[u8]) -> Result<(), DataFault>
+        requires item { IsOf item bytes.now }
+        requires room { length self.old.bytes + shown_length item.kind (length bytes.now) ≤ self.old.room }
+        ensures { Appends result self.old self.new (shown item.kind bytes.now) }
+    {
+        self.used = put_shown(item, bytes, self.used, self.room.as_mut_slice())?;
+        Ok(())
+    }
+}
+
+/// Writes what DISPLAY shows of an item behind so many bytes, and answers where it ends.
+fn put_shown(item: Item, bytes: &[u8], used: usize, room: &mut [u8]) -> Result<usize, DataFault>
+    requires item { IsOf item bytes.now }
+    requires room { used + shown_length item.kind (length bytes.now) ≤ length room.old }
+    ensures writes { WritesBehind result used room.old room.new (shown item.kind bytes.now) }
+    ensures within { IfOk result (λ end. end ≤ length room.old) }
+{
+    let (_, rest) = room.split_at_mut(used);
+    let most = rest.len();
+    let count = shown(item, bytes, rest)?;
+    Ok(used + count.min(most))
+}

@@ -1,0 +1,119 @@
+//! What instructions on data work on.
+
+ghost use Rattle.std.specs.Prelude.{◌≡◌, ◌≤◌, ℕ, length, slice_get, IfOk, Some};
+ghost use Rattle.data_instructions.specs.Scratch.{started};
+ghost use Rattle.data_instructions.specs.Table as spec;
+ghost use Rattle.run_time_data.specs.Data.{scratch_of};
+ghost use Rattle.run_time_data.specs.Comes.{Comes, Keeps};
+ghost use Rattle.data_instructions.specs.declared.tables.DataItem.{DataItem};
+ghost use Rattle.data_instructions.specs.declared.tables.LiteralSender.{LiteralSender};
+ghost use Rattle.run_time_data.specs.Finds.{HasSenderRoom};
+ghost use Rattle.run_time_data.specs.Ready.{HasRoomOf, IsReady};
+
+use crate::areas::Areas;
+use crate::buffer::Buffer;
+use crate::sender::Sender;
+use crate::stack::Stack;
+use data_instructions::{
+    DataInstruction, DataItem, DataTables, ItemIndex, LiteralSender, Place, ProgramFault,
+};
+use decimal18::Dec;
+use std::alloc::{AllocError, Global};
+
+// What fills the room of places; it is never read.
+const NO_PLACE: Place = Place {
+    item: ItemIndex { number: 0 },
+    offset: 0,
+};
+
+/// The most that the shapes of code ask for.
+#[derive(Clone, Copy, Debug, PartialEq, Eq)]
+pub struct Room {
+    pub numbers: usize,
+    pub places: usize,
+    /// In bytes.
+    pub line: usize,
+}
+
+/// What instructions work on, with all the room that they need.
+#[derive(Drop)]
+pub struct Data {
+    pub areas: Areas,
+    pub numbers: Stack<Option<Dec>>,
+    pub places: Stack<Place>,
+    pub sender: Sender,
+    /// The line that is being made up.
+    pub line: Buffer,
+}
+
+/// The greatest length of an item, in bytes.
+fn longest_item(items: &[DataItem]) -> usize
+    ensures { (k : ℕ) (one : DataItem) → slice_get items.now k ≡ Some one → one.item.length ≤ result }
+{
+    let mut longest = 0;
+    for one in items {
+        longest = longest.max(one.item.length as usize);
+    }
+    longest
+}
+
+/// The greatest length of a literal that is sent, in bytes.
+fn longest_literal(senders: &[LiteralSender]) -> usize
+    ensures { (k : ℕ) (one : LiteralSender) → slice_get senders.now k ≡ Some one → length one.bytes ≤ result }
+{
+    let mut longest = 0;
+    for one in senders {
+        longest = longest.max(one.bytes.len());
+    }
+    longest
+}
+
+/// Room for whatever is sent.
+fn sender_room(tables: &DataTables) -> usize
+    ensures { HasSenderRoom tables.now result }
+{
+    longest_item(tables.items.as_slice()).max(longest_literal(tables.senders.as_slice()))
+}
+
+impl Data {
+    /// Data at the start of a run, with this room, and room for whatever is sent.
+    pub fn new(alloc: Global, tables: &DataTables, room: Room) -> Result<Data, AllocError>
+        ensures starts { IfOk result (λ d. scratch_of d ≡ started tables.now) }
+        ensures room { IfOk result (HasRoomOf room) }
+        ensures senders { IfOk result (λ d. HasSenderRoom tables.now d.sender.bytes.room) }
+    {
+        let areas = Areas::new(alloc, tables.areas.as_slice())?;
+        let numbers = Stack::new(alloc, room.numbers, None)?;
+        let places = Stack::new(alloc, room.places, NO_PLACE)?;
+        let sender = Sender::new(alloc, sender_room(tables))?;
+        let line = Buffer::new(alloc, room.line)?;
+        Ok(Data {
+            areas,
+            numbers,
+            places,
+            sender,
+            line,
+        })
+    }
+
+    /// An instruction. It takes no memory.
+    pub fn work(&mut self, tables: &DataTables, one: DataInstruction) -> Result<(), ProgramFault>
+        requires { IsReady tables.now self.old one }
+        ensures does { Comes result (scratch_of self.new) (spec.work tables.now one (scratch_of self.old)) }
+        ensures keeps { Keeps self.old self.new }
+    {
+        match one {
+            DataInstruction::Place { item } => self.place(tables, item),
+            DataInstruction::Index { stride, count } => self.index(stride, count),
+            DataInstruction::Push => self.push(tables),
+            DataInstruction::Literal { number } => self.literal(tables, number),
+            DataInstruction::Add => self.add(),
+            DataInstruction::Subtract => self.subtract(),
+            DataInstruction::Take => self.take(tables),
+            DataInstruction::TakeLiteral { literal } => self.take_literal(tables, literal),
+            DataInstruction::Move => self.receive(tables),
+            DataInstruction::Append => self.append(tables),
+            DataInstruction::AppendLiteral { text } => self.append_literal(tables, text),
+        }
+    }
+}

@@ -1,0 +1,27 @@
+//! How data stay with what is known of them.
+
+ghost use Rattle.std.specs.Prelude.{◌≡◌, Some};
+ghost use Rattle.data_instructions.specs.Scratch.{Step, Went, started};
+ghost use Rattle.data_instructions.specs.Shapes.{empty, accepting, dating};
+ghost use Rattle.data_instructions.specs.Fits.{Safe};
+ghost use Rattle.data_instructions.specs.Tables.{IsTables};
+ghost use Rattle.data_instructions.specs.declared.tables.DataTables.{DataTables};
+ghost use Rattle.data_instructions.specs.declared.shape.Shape.{Shape};
+ghost use Rattle.run_time_data.specs.declared.data.Data.{Data};
+ghost use Rattle.run_time_data.specs.Data.{scratch_of};
+ghost use Rattle.run_time_data.specs.Comes.{Keeps};
+ghost use Rattle.run_time_data.specs.Finds.{FindsItem, HasSenderRoom};
+ghost use Rattle.run_time_data.specs.Ready.{HasRoom, IsAt};
+
+/// At the start nothing is known (`start`). Where data go on from an instruction that is safe with a shape, they stand at that
+/// shape (`stays`): with `safety_law` of `data_instructions` the next instruction finds what it needs.
+pub fn staying_law()
+    ensures start { (tables : DataTables) (d : Data) → IsTables tables → scratch_of d ≡ started tables → HasSenderRoom tables d.sender.bytes.room → IsAt tables d empty }
+    ensures stays { (tables : DataTables) (old new : Data) (shape after : Shape) (step : Step) → IsAt tables old shape → HasRoom old after → Keeps old new → Safe tables step after → step ≡ Went (scratch_of new) → IsAt tables new after }
+{}
+
+/// Where what is known lets `accept` or `date` take a place, an item stands there.
+pub fn finding_law()
+    ensures accept { (tables : DataTables) (d : Data) (shape after : Shape) → IsAt tables d shape → accepting shape ≡ Some after → FindsItem tables d.areas d.places.newest_first }
+    ensures date { (tables : DataTables) (d : Data) (shape after : Shape) → IsAt tables d shape → dating tables shape ≡ Some after → FindsItem tables d.areas d.places.newest_first }
+{}

@@ -1,0 +1,21 @@
+//! What a machine's instructions on data work on, with all room made once: one function an instruction, each of which does
+//! what the table says.
+#![tactic(auto)]
+
+mod areas;
+mod buffer;
+mod data;
+mod laws;
+mod moving;
+mod numbers;
+mod receiving;
+mod sender;
+mod showing;
+mod stack;
+
+pub use areas::Areas;
+pub use buffer::Buffer;
+pub use data::{Data, Room};
+pub use laws::{finding_law, staying_law};
+pub use sender::Sender;
+pub use stack::Stack;

@@ -1,0 +1,54 @@
+//! Stacks of a room that is made once.
+
+ghost use Rattle.std.specs.Prelude.{◌≡◌, ◌<◌, [], ◌∷◌, length, IfOk};
+
+use std::alloc::{AllocError, Global};
+use std::marker::Model;
+
+/// A stack with room for so many.
+#[derive(Drop)]
+pub struct Stack<T> {
+    room: Vec<T>,
+    used: usize,
+}
+
+impl<T> Model for Stack<T> {
+    ghost use Rattle.std.specs.Prelude.{◌≤◌, reverse, take, length};
+    ghost use Rattle.std.specs.Coded.{coded_list, coded_ℕ};
+    ghost use Rattle.run_time_data.specs.Held.{Held, coded_held};
+
+    ghost Value = { Held T };
+
+    ghost coded = { coded_held T.code };
+
+    ghost view = { λ it. record { room = length it.room.items; newest_first = reverse (take it.used it.room.items) } };
+
+    ghost invariant = { λ it. it.used ≤ length it.room.items };
+}
+
+impl<T: Copy> Stack<T> {
+    /// Room for so many, filled with anything.
+    pub fn new(alloc: Global, room: usize, filler: T) -> Result<Stack<T>, AllocError>
+        ensures { IfOk result (λ stack. stack ≡ record { room = room; newest_first = [] }) }
+    {
+        let room = vec![in alloc; filler; room]?;
+        Ok(Stack { room, used: 0 })
+    }
+
+    pub fn push(&mut self, item: T)
+        requires { length self.old.newest_first < self.old.room }
+        ensures { self.new ≡ record { room = self.old.room; newest_first = item ∷ self.old.newest_first } }
+    {
+        self.room[self.used] = item;
+        self.used += 1;
+    }
+
+    pub fn pop(&mut self) -> T
+        requires { 0 < length self.old.newest_first }
+        ensures newest { self.old.newest_first ≡ result ∷ self.new.newest_first }
+        ensures room { self.new.room ≡ self.old.room }
+    {
+        self.used -= 1;
+        self.room[self.used]
+    }
+}

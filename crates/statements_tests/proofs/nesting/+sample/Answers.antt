@@ -1,0 +1,14 @@
+use Rattle.std.proofs.Common.{◌≡◌, sym, ◌∙◌, ap, Err, arith}
+use Rattle.grammar.specs.declared.fault.Halt.TheVariants.{TooDeep}
+use Rattle.grammar.proofs.Turns.{deeper}
+use Rattle.statements_tests.specs.Samples.{sample_reader}
+use Rattle.statements_tests.proofs.nesting.+sample.Goals as goal
+
+pub returns-then-depth-eq0 : goal.returns-then-depth-eq0
+unfolding sample_reader
+returns-then-depth-eq0 t c =
+    let none : c.args.depth ≡ 0 = omega arith in ap (λ n. sample_reader n c.args.tokens.now) none ∙ ap (λ n. Err (TooDeep n)) (sym c.len.ensures)
+
+pub returns : goal.returns
+unfolding sample_reader
+returns t c = rw (deeper (λ n. sample_reader n c.args.tokens.now) c.args.depth (omega arith)) c.line.ensures

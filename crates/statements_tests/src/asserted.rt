@@ -1,0 +1,14 @@
+//! Assertions of the rows, as functions: a call of one is proved at once, while a macro in a test makes a path of its own there, on
+//! which everything that the test holds has to be accounted for.
+use std::fmt::Debug;
+use std::process::Abort;
+
+/// Asserts that what was told in a row is what is expected.
+pub fn same_in<T: PartialEq + Debug + Drop>(
+    rt: &impl Abort,
+    row: &impl Debug,
+    told: T,
+    expected: T,
+) {
+    assert_eq!(rt; told, expected, "{row:?}");
+}
