@@ -11,6 +11,7 @@ use Rattle.source_tree.specs.declared.statement.Statement.{Statement}
 use Rattle.source_tree.specs.Integers.{number_of}
 use Rattle.source_tree.specs.State.{State, Outcome, then_do, in_turn}
 use Rattle.source_tree.specs.Performing.{turns, most_turns, IsDigit, turns_of}
+use Rattle.source_tree.specs.Setting.{Setting}
 use Rattle.source_tree.specs.Meaning.{exec}
 use Rattle.source_tree.proofs.Runs.{IsRun, in_turn_runs, exec_runs}
 use Rattle.source_tree.proofs.Depth.{then_same, spend_same}
@@ -65,11 +66,11 @@ turns_same line go r (suc n) (suc m) s below under =
     then_same left (go t) (go t) (turns line n go) (turns line m go) (r.falls t) refl
     (record { by = λ u le. turns_same line go r n m u (omega arith) (omega arith) }))
 
-pub cut_is_same : (count : Integer) (line depth : ℕ) (statements : List Statement) (s : State) → s.budget < most_turns
-    → turns line (turns_of count) (in_turn (exec depth) statements) s ≡ turns line (number_of count) (in_turn (exec depth) statements) s
-cut_is_same count line depth statements s below =
-    let go = in_turn (exec depth) statements in
+pub cut_is_same : (around : Setting) (count : Integer) (line depth : ℕ) (statements : List Statement) (s : State) → s.budget < most_turns
+    → turns line (turns_of count) (in_turn (exec around depth) statements) s ≡ turns line (number_of count) (in_turn (exec around depth) statements) s
+cut_is_same around count line depth statements s below =
+    let go = in_turn (exec around depth) statements in
     ⊎_elim
     (λ less. let same : turns_of count ≡ number_of count = omega arith in ap (λ n. turns line n go s) same)
-    (λ more. turns_same line go (in_turn_runs (exec depth) (exec_runs depth) statements) (turns_of count) (number_of count) s (omega arith) (omega arith))
+    (λ more. turns_same line go (in_turn_runs (exec around depth) (exec_runs around depth) statements) (turns_of count) (number_of count) s (omega arith) (omega arith))
     (cases_lt (number_of count) most_turns)

@@ -9,6 +9,7 @@ use Rattle.source_tree.specs.declared.statement.Verb.TheVariants as verb
 use Rattle.source_tree.specs.declared.statement.Statement.{Statement, out-Statement}
 use Rattle.source_tree.specs.declared.program.Paragraph.{Paragraph}
 use Rattle.source_tree.specs.State.{State, Outcome, Done, Over, then_do, in_turn, spend_from, spend}
+use Rattle.source_tree.specs.Setting.{Setting}
 use Rattle.source_tree.specs.Performing.{turns, turns_of, repeat, body}
 use Rattle.source_tree.specs.Meaning.{step, exec, sentence, paragraph, range}
 use Rattle.source_tree.proofs.Runs
@@ -53,34 +54,36 @@ body_agrees : {S : Type 0} (n : ℕ) (run other : S → State → Outcome) → (
     → (one : Performed S) → Agrees n (body run one) (body other one)
 body_agrees n run other r a (Statements statements) = in_turn_agrees n run other r a statements
 
--- the statements in a statement run with less budget than it began with
-step_same : {S : Type 0} (n : ℕ) (run other : S → State → Outcome) → ((one : S) → IsRun (run one)) → ((one : S) → Agrees n (run one) (other one))
-    → (line : ℕ) (one : Verb S) → Agrees n (step run line one) (step other line one)
-step_same n run other r a line (verb.Performing one) = repeat_agrees n line one.turns (body run one.performed) (body other one.performed) (body_runs run r one.performed) (body_agrees n run other r a one.performed)
-step_same n run other r a line (verb.Text one) = record { by = λ s le. refl }
-step_same n run other r a line (verb.Ending one) = record { by = λ s le. refl }
+module _ (around : Setting) where
+  -- the statements in a statement run with less budget than it began with
+  step_same : {S : Type 0} (n : ℕ) (run other : S → State → Outcome) → ((one : S) → IsRun (run one)) → ((one : S) → Agrees n (run one) (other one))
+      → (line : ℕ) (one : Verb S) → Agrees n (step around run line one) (step around other line one)
+  step_same n run other r a line (verb.Moving one) = record { by = λ s le. refl }
+  step_same n run other r a line (verb.Performing one) = repeat_agrees n line one.turns (body run one.performed) (body other one.performed) (body_runs run r one.performed) (body_agrees n run other r a one.performed)
+  step_same n run other r a line (verb.Text one) = record { by = λ s le. refl }
+  step_same n run other r a line (verb.Ending one) = record { by = λ s le. refl }
 
--- two depths above the budget are the same
-pub exec_same : (d e : ℕ) (one : Statement) (s : State) → s.budget < d → s.budget < e → exec d one s ≡ exec e one s
-exec_same zero e one s below under = absurd (omega arith)
-exec_same (suc d) zero one s below under = absurd (omega arith)
-exec_same (suc d) (suc e) one s below under =
-    let line = (out-Statement one).place.line in
-    let verb = (out-Statement one).verb in
-    spend_same s.budget line s (step (exec d) line verb) (step (exec e) line verb) (λ n lt.
-    (step_same n (exec d) (exec e) (exec_runs d) (λ inner. record { by = λ t le. exec_same d e inner t (omega arith) (omega arith) }) line verb).by (record s { budget = n; line = line }) (omega arith))
+  -- two depths above the budget are the same
+  pub exec_same : (d e : ℕ) (one : Statement) (s : State) → s.budget < d → s.budget < e → exec around d one s ≡ exec around e one s
+  exec_same zero e one s below under = absurd (omega arith)
+  exec_same (suc d) zero one s below under = absurd (omega arith)
+  exec_same (suc d) (suc e) one s below under =
+      let line = (out-Statement one).place.line in
+      let verb = (out-Statement one).verb in
+      spend_same s.budget line s (step around (exec around d) line verb) (step around (exec around e) line verb) (λ n lt.
+      (step_same n (exec around d) (exec around e) (exec_runs around d) (λ inner. record { by = λ t le. exec_same d e inner t (omega arith) (omega arith) }) line verb).by (record s { budget = n; line = line }) (omega arith))
 
-exec_agrees : (n d e : ℕ) → n < d → n < e → (one : Statement) → Agrees n (exec d one) (exec e one)
-exec_agrees n d e below under one = record { by = λ s le. exec_same d e one s (omega arith) (omega arith) }
+  exec_agrees : (n d e : ℕ) → n < d → n < e → (one : Statement) → Agrees n (exec around d one) (exec around e one)
+  exec_agrees n d e below under one = record { by = λ s le. exec_same d e one s (omega arith) (omega arith) }
 
-module _ (n d e : ℕ) (below : n < d) (under : n < e) where
-  paragraph_agrees : (one : Paragraph) → Agrees n (paragraph (exec d) one) (paragraph (exec e) one)
-  paragraph_agrees one =
-      in_turn_agrees n (sentence (exec d)) (sentence (exec e)) (λ some. in_turn_runs (exec d) (exec_runs d) some.statements)
-      (λ some. in_turn_agrees n (exec d) (exec e) (exec_runs d) (exec_agrees n d e below under) some.statements) one.sentences
+  module _ (n d e : ℕ) (below : n < d) (under : n < e) where
+    paragraph_agrees : (one : Paragraph) → Agrees n (paragraph (exec around d) one) (paragraph (exec around e) one)
+    paragraph_agrees one =
+        in_turn_agrees n (sentence (exec around d)) (sentence (exec around e)) (λ some. in_turn_runs (exec around d) (exec_runs around d) some.statements)
+        (λ some. in_turn_agrees n (exec around d) (exec around e) (exec_runs around d) (exec_agrees n d e below under) some.statements) one.sentences
 
-  pub range_agrees : (all : List Paragraph) (more : ℕ) → Agrees n (range (exec d) all more) (range (exec e) all more)
-  range_agrees [] more = record { by = λ s le. refl }
-  range_agrees (one ∷ rest) zero = paragraph_agrees one
-  range_agrees (one ∷ rest) (suc more) =
-      then_agrees n (paragraph (exec d) one) (paragraph (exec e) one) (range (exec d) rest more) (range (exec e) rest more) (paragraph_runs d one) (paragraph_agrees one) (range_agrees rest more)
+    pub range_agrees : (all : List Paragraph) (more : ℕ) → Agrees n (range (exec around d) all more) (range (exec around e) all more)
+    range_agrees [] more = record { by = λ s le. refl }
+    range_agrees (one ∷ rest) zero = paragraph_agrees one
+    range_agrees (one ∷ rest) (suc more) =
+        then_agrees n (paragraph (exec around d) one) (paragraph (exec around e) one) (range (exec around d) rest more) (range (exec around e) rest more) (paragraph_runs around d one) (paragraph_agrees one) (range_agrees rest more)

@@ -1,12 +1,13 @@
 -- Programs and what they do.
 use Rattle.std.proofs.Common.{◌≡◌, ℕ, Bool, true, false, List, [], ◌∷◌, ◌++◌, None, Some, refl}
-use Rattle.std.specs.Prelude.{map}
+use Rattle.std.specs.Prelude.{map, Ok}
 use Rattle.station.specs.State.{Shown}
 use Rattle.lexical.specs.declared.place.Place.{Place}
 use Rattle.lexical.specs.declared.number.Sign.TheVariants as sign
 use Rattle.source_tree.specs.declared.literal.Figurative.TheVariants.{Space, Quote}
 use Rattle.source_tree.specs.declared.literal.LiteralValue.TheVariants.{Numeric, Nonnumeric, Figurative, All}
 use Rattle.source_tree.specs.declared.literal.Literal.{Literal}
+use Rattle.source_tree.specs.declared.expression.Operand.TheVariants as operand
 use Rattle.source_tree.specs.declared.performing.Performed.TheVariants.{Statements}
 use Rattle.source_tree.specs.declared.performing.Turns.TheVariants.{Once, Times}
 use Rattle.source_tree.specs.declared.text.Text.TheVariants as text_as
@@ -16,7 +17,9 @@ use Rattle.source_tree.specs.declared.statement.Statement.{Statement, out-Statem
 use Rattle.source_tree.specs.declared.program.Paragraph.{Paragraph}
 use Rattle.source_tree.specs.declared.program.Program.{Program}
 use Rattle.source_tree.specs.State.{Stopped, Budget, Done, Over}
-use Rattle.source_tree.specs.Display.{shown_literal, shown_display, line_feed}
+use Rattle.source_tree.specs.Display.{shown_literal, line_feed}
+use Rattle.source_tree.specs.Showing.{displayed}
+use Rattle.source_tree.specs.Setting.{Setting}
 use Rattle.source_tree.specs.Given.{Given}
 use Rattle.source_tree.specs.State.{State}
 use Rattle.source_tree.specs.Performing.{turns_of}
@@ -32,9 +35,9 @@ text bytes = record { value = Nonnumeric bytes; place = at 5 20 }
 abbrev pub number : List ℕ → List ℕ → Literal
 number whole decimals = record { value = Numeric (record { sign = sign.Unsigned; whole = whole; decimals = decimals }); place = at 5 24 }
 
--- DISPLAY with these operands
+-- DISPLAY with these literals
 abbrev pub display : Place → List Literal → Bool → Statement
-display place operands advancing = roll-Statement (record { place = place; verb = verb.Text (text_as.Display operands advancing) })
+display place literals advancing = roll-Statement (record { place = place; verb = verb.Text (text_as.Display (map operand.Literal literals) advancing) })
 
 abbrev pub stop_run : Place → Statement
 stop_run place = roll-Statement (record { place = place; verb = verb.Ending ending.StopRun })
@@ -55,8 +58,16 @@ with budget = record { budget = budget; day = 50 ∷ 54 ∷ 48 ∷ 55 ∷ 51 ∷
 abbrev meaning : Program → ℕ → Run
 meaning program budget = given.meaning program (with budget)
 
+-- no items
+abbrev nothing_declared : Setting
+nothing_declared = record { items = [] }
+
+-- of a program without items
+abbrev empty : Program
+empty = record { name = record { characters = 80 ∷ []; place = at 2 20 }; storage = []; sections = [] }
+
 abbrev start : ℕ → State
-start budget = given.start (with budget)
+start budget = given.start empty (with budget)
 
 -- HELLO
 abbrev pub hello_bytes : List ℕ
@@ -152,13 +163,13 @@ unfolding out-Statement roll-Statement denote.Hole.Carrier.out denote.Hole.Carri
 two_by_three_with_17 = refl
 
 -- the last turn of the inner PERFORM has used the sixteenth, at the line of that PERFORM, and none is left for what stands in it
-last_turn : exec 4 (perform_times (at 2 12) (51 ∷ []) (display (at 3 12) (text (65 ∷ []) ∷ []) false ∷ [])) (start 6)
+last_turn : exec nothing_declared 4 (perform_times (at 2 12) (51 ∷ []) (display (at 3 12) (text (65 ∷ []) ∷ []) false ∷ [])) (start 6)
     ≡ Over Budget (record (start 0) { line = 2; events = map Shown (65 ∷ 65 ∷ []) })
 unfolding out-Statement roll-Statement denote.Hole.Carrier.out denote.Hole.Carrier.roll Rattle.source_tree.specs.declared.statement.Statement.TheBlock.shown-the_row-Statement-0 denote.Hole.Carrier.shown denote.Hole.Carrier.hidden
 last_turn = refl
 
 -- PERFORM 0 TIMES uses one of the budget, and nothing that stands in it runs
-no_turns : exec 1 (perform_times (at 1 12) (48 ∷ []) (stop ∷ [])) (start 1) ≡ Done (record (start 0) { line = 1 })
+no_turns : exec nothing_declared 1 (perform_times (at 1 12) (48 ∷ []) (stop ∷ [])) (start 1) ≡ Done (record (start 0) { line = 1 })
 unfolding out-Statement roll-Statement denote.Hole.Carrier.out denote.Hole.Carrier.roll Rattle.source_tree.specs.declared.statement.Statement.TheBlock.shown-the_row-Statement-0 denote.Hole.Carrier.shown denote.Hole.Carrier.hidden
 no_turns = refl
 
@@ -174,12 +185,12 @@ nothing_to_do : meaning (plain []) 0 ≡ record { events = []; end = Stopped }
 nothing_to_do = refl
 
 -- DISPLAY "A" 12.50 'it''s' WITH NO ADVANCING
-three_operands : shown_display (text (65 ∷ []) ∷ number (49 ∷ 50 ∷ []) (53 ∷ 48 ∷ []) ∷ text (105 ∷ 116 ∷ 39 ∷ 115 ∷ []) ∷ []) false
-    ≡ 65 ∷ 49 ∷ 50 ∷ 46 ∷ 53 ∷ 48 ∷ 105 ∷ 116 ∷ 39 ∷ 115 ∷ []
+three_operands : displayed [] (map operand.Literal (text (65 ∷ []) ∷ number (49 ∷ 50 ∷ []) (53 ∷ 48 ∷ []) ∷ text (105 ∷ 116 ∷ 39 ∷ 115 ∷ []) ∷ [])) false []
+    ≡ Ok (65 ∷ 49 ∷ 50 ∷ 46 ∷ 53 ∷ 48 ∷ 105 ∷ 116 ∷ 39 ∷ 115 ∷ [])
 three_operands = refl
 
 -- the same line ended
-line_ended : shown_display (text (65 ∷ []) ∷ []) true ≡ 65 ∷ 10 ∷ []
+line_ended : displayed [] (map operand.Literal (text (65 ∷ []) ∷ [])) true [] ≡ Ok (65 ∷ 10 ∷ [])
 line_ended = refl
 
 -- -.50, +007 and 5 are shown as they were written
@@ -190,11 +201,11 @@ leading_zeros : shown_literal (Numeric (record { sign = sign.Plus; whole = 48 �
 leading_zeros = refl
 
 -- the line of the statement that last used one of the budget
-last_line : exec 1 show_hello (start 3) ≡ Done (record (start 2) { line = 5; events = map Shown (hello_bytes ++ line_feed ∷ []) })
+last_line : exec nothing_declared 1 show_hello (start 3) ≡ Done (record (start 2) { line = 5; events = map Shown (hello_bytes ++ line_feed ∷ []) })
 unfolding out-Statement roll-Statement denote.Hole.Carrier.out denote.Hole.Carrier.roll
 last_line = refl
 
 -- DISPLAY SPACE ALL "AB" QUOTE
-figurative_constants : shown_display (record { value = Figurative Space; place = at 5 20 } ∷ record { value = All (65 ∷ 66 ∷ []); place = at 5 26 } ∷ record { value = Figurative Quote; place = at 5 35 } ∷ []) false
-    ≡ 32 ∷ 65 ∷ 66 ∷ 34 ∷ []
+figurative_constants : displayed [] (map operand.Literal (record { value = Figurative Space; place = at 5 20 } ∷ record { value = All (65 ∷ 66 ∷ []); place = at 5 26 } ∷ record { value = Figurative Quote; place = at 5 35 } ∷ [])) false []
+    ≡ Ok (32 ∷ 65 ∷ 66 ∷ 34 ∷ [])
 figurative_constants = refl

@@ -9,3 +9,4 @@ pub mod Computing
 pub mod PlaceExamples
 pub mod EntryExamples
 pub mod MoveExamples
+pub mod DataExamples

@@ -3,47 +3,50 @@ use Rattle.std.proofs.Common.{◌≡◌, ◌≢◌, ℕ, suc, ◌+◌, ◌-◌, 
 use Rattle.std.specs.Prelude.{length}
 use Rattle.source_tree.specs.declared.program.Program.{Program}
 use Rattle.source_tree.specs.Given.{Given, with_budget}
-use Rattle.source_tree.specs.State.{Stopped, Budget, Outcome, Done, Over}
+use Rattle.source_tree.specs.State.{Stopped, Budget, Faulted, Outcome, Done, Over}
+use Rattle.source_tree.specs.Setting.{setting}
 use Rattle.source_tree.specs.Meaning.{paragraphs, start, run_from, told, meaning}
 use Rattle.station.specs.State.{Begins}
 use Rattle.source_tree.proofs.Runs.{Alike, richer, itself, range_runs}
 use Rattle.source_tree.proofs.Depth.{range_agrees}
 
-deep : (program : Program) (given : Given) (depth : ℕ) → given.budget < depth → run_from depth program (start given) ≡ run_from (suc given.budget) program (start given)
+deep : (program : Program) (given : Given) (depth : ℕ) → given.budget < depth → run_from depth program (start program given) ≡ run_from (suc given.budget) program (start program given)
 deep program given depth below =
-    (range_agrees given.budget depth (suc given.budget) below (omega arith) (paragraphs program) (length (paragraphs program))).by (start given) (omega arith)
+    (range_agrees (setting program) given.budget depth (suc given.budget) below (omega arith) (paragraphs program) (length (paragraphs program))).by (start program given) (omega arith)
 
-pub depth_is_enough : (program : Program) (given : Given) (depth : ℕ) → given.budget < depth → told (run_from depth program (start given)) ≡ meaning program given
+pub depth_is_enough : (program : Program) (given : Given) (depth : ℕ) → given.budget < depth → told (run_from depth program (start program given)) ≡ meaning program given
 depth_is_enough program given depth below = ap told (deep program given depth below)
 
 told_alike : (k : ℕ) (o other : Outcome) → Alike k o other → (told o).end ≢ Budget → told other ≡ told o
 told_alike k (Done s) other a ends = ap told a
 told_alike k (Over Stopped s) other a ends = ap told a
+told_alike k (Over (Faulted fault line) s) other a ends = ap told a
 told_alike k (Over Budget s) other a ends = absurd (ends refl)
 
 told_begins : (k : ℕ) (o other : Outcome) → Alike k o other → Begins (told o).events (told other).events
 told_begins k (Done s) other a = subst (λ x. Begins s.events (told x).events) (sym a) (itself s.events)
 told_begins k (Over Stopped s) other a = subst (λ x. Begins s.events (told x).events) (sym a) (itself s.events)
+told_begins k (Over (Faulted fault line) s) other a = subst (λ x. Begins s.events (told x).events) (sym a) (itself s.events)
 told_begins k (Over Budget s) (Done t) a = a
 told_begins k (Over Budget s) (Over end t) a = a
 
-richer_start : (given : Given) (more : ℕ) → given.budget ≤ more → richer (more - given.budget) (start given) ≡ start (with_budget more given)
-richer_start given more le = let e : given.budget + (more - given.budget) ≡ more = omega arith in ap (λ n. start (with_budget n given)) e
+richer_start : (program : Program) (given : Given) (more : ℕ) → given.budget ≤ more → richer (more - given.budget) (start program given) ≡ start program (with_budget more given)
+richer_start program given more le = let e : given.budget + (more - given.budget) ≡ more = omega arith in ap (λ n. start program (with_budget n given)) e
 
 -- the same program, at the depth of the greater budget
 both : (program : Program) (given : Given) (more : ℕ) → given.budget ≤ more
-    → Alike (more - given.budget) (run_from (suc given.budget) program (start given)) (run_from (suc more) program (start (with_budget more given)))
+    → Alike (more - given.budget) (run_from (suc given.budget) program (start program given)) (run_from (suc more) program (start program (with_budget more given)))
 both program given more le =
     let e = deep program given (suc more) (omega arith) in
     let k = more - given.budget in
-    subst (λ o. Alike k o (run_from (suc more) program (start (with_budget more given)))) e
-    (subst (λ t. Alike k (run_from (suc more) program (start given)) (run_from (suc more) program t)) (richer_start given more le)
-    ((range_runs (suc more) (paragraphs program) (length (paragraphs program))).alike k (start given)))
+    subst (λ o. Alike k o (run_from (suc more) program (start program (with_budget more given)))) e
+    (subst (λ t. Alike k (run_from (suc more) program (start program given)) (run_from (suc more) program t)) (richer_start program given more le)
+    ((range_runs (setting program) (suc more) (paragraphs program) (length (paragraphs program))).alike k (start program given)))
 
 pub enough_budget : (program : Program) (given : Given) (more : ℕ) → given.budget ≤ more → (meaning program given).end ≢ Budget → meaning program (with_budget more given) ≡ meaning program given
 enough_budget program given more le ends =
-    told_alike (more - given.budget) (run_from (suc given.budget) program (start given)) (run_from (suc more) program (start (with_budget more given))) (both program given more le) ends
+    told_alike (more - given.budget) (run_from (suc given.budget) program (start program given)) (run_from (suc more) program (start program (with_budget more given))) (both program given more le) ends
 
 pub more_tells_more : (program : Program) (given : Given) (more : ℕ) → given.budget ≤ more → Begins (meaning program given).events (meaning program (with_budget more given)).events
 more_tells_more program given more le =
-    told_begins (more - given.budget) (run_from (suc given.budget) program (start given)) (run_from (suc more) program (start (with_budget more given))) (both program given more le)
+    told_begins (more - given.budget) (run_from (suc given.budget) program (start program given)) (run_from (suc more) program (start program (with_budget more given))) (both program given more le)

@@ -1,7 +1,7 @@
 -- What holds of each run of a stretch: the budget never rises, output only grows, and with more budget a stretch that
 -- doesn't end for want of it does the same and has so much more left.
 use Rattle.std.proofs.Common.{◌≡◌, ℕ, zero, suc, ◌+◌, ◌≤◌, List, [], ◌∷◌, ◌++◌, refl, sym, ap, ◌∙◌, subst, arith}
-use Rattle.std.specs.Prelude.{map}
+use Rattle.std.specs.Prelude.{map, Ok, Err}
 use Rattle.std.proofs.lemmas.List.{append-nil, append_assoc}
 use Rattle.station.specs.State.{Event, Shown}
 use Rattle.source_tree.specs.declared.text.Text.{Text}
@@ -17,9 +17,15 @@ use Rattle.source_tree.specs.declared.statement.Verb.{Verb}
 use Rattle.source_tree.specs.declared.statement.Verb.TheVariants as verb
 use Rattle.source_tree.specs.declared.statement.Statement.{Statement, out-Statement}
 use Rattle.source_tree.specs.declared.program.Paragraph.{Paragraph}
-use Rattle.source_tree.specs.State.{State, Stopped, Budget, Outcome, Done, Over, showing, then_do, in_turn, spend_from, spend, outcome_events}
+use Rattle.source_tree.specs.Storage.{Storage}
+use Rattle.source_tree.specs.Evaluated.{Evaluated}
+use Rattle.source_tree.specs.State.{State, Stopped, Budget, Faulted, Outcome, Done, Over, showing, then_do, in_turn, spend_from, spend, with_value, changing, outcome_events}
+use Rattle.source_tree.specs.Showing.{displayed}
+use Rattle.source_tree.specs.Setting.{Setting}
+use Rattle.source_tree.specs.Moving.{moving}
+use Rattle.source_tree.specs.Texts.{texts}
 use Rattle.source_tree.specs.Performing.{turns, turns_of, repeat, body, performing}
-use Rattle.source_tree.specs.Meaning.{texts, finish, step, exec, sentence, paragraph, range}
+use Rattle.source_tree.specs.Meaning.{finish, step, exec, sentence, paragraph, range}
 use Rattle.station.specs.State.{Begins}
 
 pub itself : (es : List Event) → Begins es es
@@ -41,6 +47,7 @@ richer k s = record s { budget = s.budget + k }
 abbrev pub Alike : ℕ → Outcome → Outcome → Type 0
 Alike k (Done s) other = other ≡ Done (richer k s)
 Alike k (Over Stopped s) other = other ≡ Over Stopped (richer k s)
+Alike k (Over (Faulted fault line) s) other = other ≡ Over (Faulted fault line) (richer k s)
 Alike k (Over Budget s) other = Begins s.events (outcome_events other)
 
 pub record IsRun (go : State → Outcome) : Type 0 where
@@ -63,6 +70,7 @@ then_grows es (Over end s) go r b = b
 then_alike : (k : ℕ) (o other : Outcome) (go : State → Outcome) → IsRun go → Alike k o other → Alike k (then_do o go) (then_do other go)
 then_alike k (Done s) other go r a = subst (λ x. Alike k (go s) (then_do x go)) (sym a) (r.alike k s)
 then_alike k (Over Stopped s) other go r a = ap (λ x. then_do x go) a
+then_alike k (Over (Faulted fault line) s) other go r a = ap (λ x. then_do x go) a
 then_alike k (Over Budget s) other go r a = then_grows s.events other go r a
 
 pub then_runs : (first go : State → Outcome) → IsRun first → IsRun go → IsRun (λ s. then_do (first s) go)
@@ -108,8 +116,35 @@ pub in_turn_runs : {A : Type 0} (run : A → State → Outcome) → ((one : A) �
 in_turn_runs run r [] = done_runs
 in_turn_runs run r (one ∷ more) = then_runs (run one) (in_turn run more) (r one) (in_turn_runs run r more)
 
-texts_runs : (one : Text) → IsRun (texts one)
-texts_runs (text.Display operands advancing) = show_runs _
+-- What is evaluated of storage doesn't depend on the budget.
+module _ {A : Type 0} (go : A → State → Outcome) (r : (x : A) → IsRun (go x)) where
+  value_within : (e : Evaluated A) (s : State) → Within s.budget (with_value e s (λ x. go x s))
+  value_within (Ok x) s = (r x).falls s
+  value_within (Err fault) s = tt
+
+  value_grows : (e : Evaluated A) (s : State) → Begins s.events (outcome_events (with_value e s (λ x. go x s)))
+  value_grows (Ok x) s = (r x).grows s
+  value_grows (Err fault) s = itself s.events
+
+  value_alike : (e : Evaluated A) (k : ℕ) (s : State) → Alike k (with_value e s (λ x. go x s)) (with_value e (richer k s) (λ x. go x (richer k s)))
+  value_alike (Ok x) k s = (r x).alike k s
+  value_alike (Err fault) k s = refl
+
+  pub value_runs : (find : Storage → Evaluated A) → IsRun (λ s. with_value (find s.storage) s (λ x. go x s))
+  value_runs find = record {
+    falls = λ s. value_within (find s.storage) s;
+    grows = λ s. value_grows (find s.storage) s;
+    alike = λ k s. value_alike (find s.storage) k s;
+  }
+
+storing_runs : (after : Storage) → IsRun (λ s. Done (record s { storage = after }))
+storing_runs after = record { falls = λ s. omega arith; grows = λ s. itself s.events; alike = λ k s. refl }
+
+pub changing_runs : (change : Storage → Evaluated Storage) → IsRun (changing change)
+changing_runs change = value_runs (λ after s. Done (record s { storage = after })) storing_runs change
+
+texts_runs : (around : Setting) (one : Text) → IsRun (texts around one)
+texts_runs around (text.Display operands advancing) = value_runs (λ bytes s. Done (showing bytes s)) show_runs (displayed around.items operands advancing)
 
 finish_runs : (one : Ending) → IsRun (finish one)
 finish_runs ending.StopRun = stop_runs
@@ -130,22 +165,26 @@ module _ {S : Type 0} (run : S → State → Outcome) (r : (one : S) → IsRun (
   performing_runs : (line : ℕ) (one : Performing S) → IsRun (performing run line one)
   performing_runs line one = repeat_runs line one.turns (body run one.performed) (body_runs one.performed)
 
-step_runs : {S : Type 0} (run : S → State → Outcome) → ((one : S) → IsRun (run one)) → (line : ℕ) (one : Verb S) → IsRun (step run line one)
-step_runs run r line (verb.Performing one) = performing_runs run r line one
-step_runs run r line (verb.Text one) = texts_runs one
-step_runs run r line (verb.Ending one) = finish_runs one
+module _ (around : Setting) where
+  step_runs : {S : Type 0} (run : S → State → Outcome) → ((one : S) → IsRun (run one)) → (line : ℕ) (one : Verb S) → IsRun (step around run line one)
+  step_runs run r line (verb.Moving one) = changing_runs (moving around.items one)
+  step_runs run r line (verb.Performing one) = performing_runs run r line one
+  step_runs run r line (verb.Text one) = texts_runs around one
+  step_runs run r line (verb.Ending one) = finish_runs one
 
-pub exec_runs : (depth : ℕ) (one : Statement) → IsRun (exec depth one)
-exec_runs zero one = record { falls = λ s. tt; grows = λ s. itself s.events; alike = λ k s. itself s.events }
-exec_runs (suc depth) one =
-    let line = (out-Statement one).place.line in
-    let verb = (out-Statement one).verb in
-    spend_runs line (step (exec depth) line verb) (step_runs (exec depth) (exec_runs depth) line verb)
+  pub exec_runs : (depth : ℕ) (one : Statement) → IsRun (exec around depth one)
+  exec_runs zero one = record { falls = λ s. tt; grows = λ s. itself s.events; alike = λ k s. itself s.events }
+  exec_runs (suc depth) one =
+      let line = (out-Statement one).place.line in
+      let verb = (out-Statement one).verb in
+      spend_runs line (step around (exec around depth) line verb) (step_runs (exec around depth) (exec_runs depth) line verb)
 
-pub paragraph_runs : (depth : ℕ) (one : Paragraph) → IsRun (paragraph (exec depth) one)
-paragraph_runs depth one = in_turn_runs (sentence (exec depth)) (λ some. in_turn_runs (exec depth) (exec_runs depth) some.statements) one.sentences
+  pub paragraph_runs : (depth : ℕ) (one : Paragraph) → IsRun (paragraph (exec around depth) one)
+  paragraph_runs depth one =
+      in_turn_runs (sentence (exec around depth)) (λ some. in_turn_runs (exec around depth) (exec_runs depth) some.statements) one.sentences
 
-pub range_runs : (depth : ℕ) (all : List Paragraph) (more : ℕ) → IsRun (range (exec depth) all more)
-range_runs depth [] more = stop_runs
-range_runs depth (one ∷ rest) zero = paragraph_runs depth one
-range_runs depth (one ∷ rest) (suc more) = then_runs (paragraph (exec depth) one) (range (exec depth) rest more) (paragraph_runs depth one) (range_runs depth rest more)
+  pub range_runs : (depth : ℕ) (all : List Paragraph) (more : ℕ) → IsRun (range (exec around depth) all more)
+  range_runs depth [] more = stop_runs
+  range_runs depth (one ∷ rest) zero = paragraph_runs depth one
+  range_runs depth (one ∷ rest) (suc more) =
+      then_runs (paragraph (exec around depth) one) (range (exec around depth) rest more) (paragraph_runs depth one) (range_runs depth rest more)

@@ -1,4 +1,4 @@
--- The bytes that DISPLAY shows (COBOL-85, Nucleus, "The DISPLAY statement").
+-- What DISPLAY shows of literals, and the end of its line (COBOL-85, Nucleus, "The DISPLAY statement").
 use Rattle.std.specs.Prelude.{ℕ, Bool, true, false, List, [], ◌∷◌, ◌++◌}
 use Rattle.lexical.specs.declared.number.Sign.{Sign}
 use Rattle.lexical.specs.declared.number.Sign.TheVariants as sign
@@ -7,7 +7,6 @@ use Rattle.source_tree.specs.declared.literal.Figurative.{Figurative}
 use Rattle.source_tree.specs.declared.literal.Figurative.TheVariants.{Zero, Space, HighValue, LowValue, Quote}
 use Rattle.source_tree.specs.declared.literal.LiteralValue.{LiteralValue}
 use Rattle.source_tree.specs.declared.literal.LiteralValue.TheVariants as value
-use Rattle.source_tree.specs.declared.literal.Literal.{Literal}
 
 -- in ASCII
 abbrev pub line_feed : ℕ
@@ -52,14 +51,6 @@ shown_literal (value.Nonnumeric bytes) = bytes
 shown_literal (value.Figurative one) = figurative_byte one ∷ []
 shown_literal (value.All bytes) = bytes
 
-abbrev pub shown_operands : List Literal → List ℕ
-shown_operands [] = []
-shown_operands (one ∷ more) = shown_literal one.value ++ shown_operands more
-
 abbrev pub line_end : Bool → List ℕ
 line_end true = line_feed ∷ []
 line_end false = []
-
--- The operands follow one another with nothing between, and the line ends unless NO ADVANCING was written.
-abbrev pub shown_display : List Literal → Bool → List ℕ
-shown_display operands advancing = shown_operands operands ++ line_end advancing

@@ -1,8 +1,8 @@
 pub mod Given
 pub mod State
+pub mod Setting
 pub mod Display
 pub mod Performing
-pub mod Meaning
 pub mod Integers
 pub mod Names
 pub mod Levels
@@ -17,6 +17,7 @@ pub mod LookUp
 pub mod References
 pub mod Moving
 pub mod Showing
+pub mod Texts
 pub mod Accepting
 pub mod Broken
 pub mod ClauseRules
@@ -26,4 +27,6 @@ pub mod EntryRules
 pub mod NameRules
 pub mod MoveRules
 pub mod TextRules
+pub mod Rules
+pub mod Meaning
 pub use Rattle.station.specs.State as Events

@@ -2,8 +2,6 @@
 -- acts as STOP RUN and uses none of the budget (own choice; COBOL-85, Nucleus, "Procedure division execution").
 use Rattle.std.specs.Prelude.{ℕ, zero, suc, List, [], ◌∷◌, ◌++◌, length}
 use Rattle.station.specs.State.{Event}
-use Rattle.source_tree.specs.declared.text.Text.{Text}
-use Rattle.source_tree.specs.declared.text.Text.TheVariants as text
 use Rattle.source_tree.specs.declared.ending.Ending.{Ending}
 use Rattle.source_tree.specs.declared.ending.Ending.TheVariants as ending
 use Rattle.source_tree.specs.declared.statement.Verb.{Verb}
@@ -14,28 +12,30 @@ use Rattle.source_tree.specs.declared.program.Paragraph.{Paragraph}
 use Rattle.source_tree.specs.declared.program.Section.{Section}
 use Rattle.source_tree.specs.declared.program.Program.{Program}
 use Rattle.source_tree.specs.Given.{Given}
-use Rattle.source_tree.specs.State.{State, End, Stopped, Budget, Outcome, Done, Over, showing, then_do, in_turn, spend}
-use Rattle.source_tree.specs.Display.{shown_display}
+use Rattle.source_tree.specs.Starts.{areas_at_start}
+use Rattle.source_tree.specs.State.{State, End, Stopped, Budget, Outcome, Done, Over, then_do, in_turn, spend, changing}
+use Rattle.source_tree.specs.Setting.{Setting, setting}
+use Rattle.source_tree.specs.Moving.{moving}
 use Rattle.source_tree.specs.Performing.{performing}
-
-abbrev pub texts : Text → State → Outcome
-texts (text.Display operands advancing) s = Done (showing (shown_display operands advancing) s)
+use Rattle.source_tree.specs.Texts.{texts}
 
 abbrev pub finish : Ending → State → Outcome
 finish ending.StopRun s = Over Stopped s
 finish ending.Continue s = Done s
 
 -- One statement at this line after it has used one of the budget, by its family. `run` runs the statements that stand in it.
-abbrev pub step : {S : Type 0} → (S → State → Outcome) → ℕ → Verb S → State → Outcome
-step run line (verb.Performing one) s = performing run line one s
-step run line (verb.Text one) s = texts one s
-step run line (verb.Ending one) s = finish one s
+abbrev pub step : Setting → {S : Type 0} → (S → State → Outcome) → ℕ → Verb S → State → Outcome
+step around run line (verb.Moving one) s = changing (moving around.items one) s
+step around run line (verb.Performing one) s = performing run line one s
+step around run line (verb.Text one) s = texts around one s
+step around run line (verb.Ending one) s = finish one s
 
 -- A statement, with at most `depth` statements in one another, itself among them. Each of these has used one of the
 -- budget, so that a depth above the budget is never used up.
-abbrev pub exec : ℕ → Statement → State → Outcome
-exec zero one s = Over Budget s
-exec (suc depth) one s = spend (out-Statement one).place.line s (step (exec depth) (out-Statement one).place.line (out-Statement one).verb)
+abbrev pub exec : Setting → ℕ → Statement → State → Outcome
+exec around zero one s = Over Budget s
+exec around (suc depth) one s =
+    spend (out-Statement one).place.line s (step around (exec around depth) (out-Statement one).place.line (out-Statement one).verb)
 
 abbrev pub sentence : (Statement → State → Outcome) → Sentence → State → Outcome
 sentence run one s = in_turn run one.statements s
@@ -57,12 +57,18 @@ paragraphs_in (one ∷ more) = one.paragraphs ++ paragraphs_in more
 abbrev pub paragraphs : Program → List Paragraph
 paragraphs program = paragraphs_in program.sections
 
-abbrev pub start : Given → State
-start given = record { budget = given.budget; line = 0; day = given.day; events = [] }
+abbrev pub start : Program → Given → State
+start program given = record {
+  budget = given.budget;
+  line = 0;
+  day = given.day;
+  storage = areas_at_start program.storage;
+  events = [];
+}
 
 -- a run of the program from this state, with nesting up to `depth`
 abbrev pub run_from : ℕ → Program → State → Outcome
-run_from depth program s = range (exec depth) (paragraphs program) (length (paragraphs program)) s
+run_from depth program s = range (exec (setting program) depth) (paragraphs program) (length (paragraphs program)) s
 
 -- What is told of a run: its events and its end.
 pub record Run : Type 0 where
@@ -76,4 +82,4 @@ told (Over end s) = record { events = s.events; end = end }
 
 -- the program's run with what it is given
 abbrev pub meaning : Program → Given → Run
-meaning program given = told (run_from (suc given.budget) program (start given))
+meaning program given = told (run_from (suc given.budget) program (start program given))

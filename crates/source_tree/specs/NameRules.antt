@@ -1,9 +1,17 @@
--- The rules of references: 40 unknown name, or one of another kind, 41 ambiguous name, 50 number of subscripts, 51 numbers (COBOL-85,
--- Nucleus, "Uniqueness of reference").
-use Rattle.std.specs.Prelude.{◌==◌, Bool, false, not, List, [], ◌∷◌, ◌++◌, length}
+-- The rules of operands: 40 unknown name, or one of another kind, 41 ambiguous name, 50 number of subscripts, 51 numbers (COBOL-85,
+-- Nucleus, "Uniqueness of reference"); and the form of literals, which those of a source text have.
+use Rattle.std.specs.Prelude.{ℕ, ◌==◌, Bool, false, not, ◌&&◌, List, [], ◌∷◌, ◌++◌, length}
+use Rattle.std.specs.Char.{is_ascii_digit}
+use Rattle.std.specs.List.{list_all}
 use Rattle.items.specs.declared.item.Kind.{Kind}
 use Rattle.items.specs.declared.item.Kind.TheVariants as kind
 use Rattle.lexical.specs.declared.place.Place.{Place}
+use Rattle.source_tree.specs.declared.literal.Integer.{Integer}
+use Rattle.source_tree.specs.declared.literal.LiteralValue.{LiteralValue}
+use Rattle.source_tree.specs.declared.literal.LiteralValue.TheVariants as literal
+use Rattle.source_tree.specs.declared.literal.Literal.{Literal}
+use Rattle.source_tree.specs.declared.reference.Adjustment.{Adjustment}
+use Rattle.source_tree.specs.declared.reference.Adjustment.TheVariants as adjustment
 use Rattle.source_tree.specs.declared.reference.Subscript as written
 use Rattle.source_tree.specs.declared.reference.Subscript.TheVariants as subscript
 use Rattle.source_tree.specs.declared.reference.Reference.{Reference}
@@ -12,6 +20,22 @@ use Rattle.source_tree.specs.declared.expression.Operand.TheVariants as operand
 use Rattle.source_tree.specs.Places.{Placed}
 use Rattle.source_tree.specs.LookUp.{items_named}
 use Rattle.source_tree.specs.Broken.{Broken, where_so, each}
+use Rattle.source_tree.specs.ValueRules.{most_literal_digits, are_some, has_form}
+
+-- the rule that a literal of another form breaks: 17 a numeric one, 18 a nonnumeric one
+abbrev pub form_rule : LiteralValue → ℕ
+form_rule (literal.Numeric one) = 17
+form_rule _ = 18
+
+abbrev pub literal_rules : Literal → List Broken
+literal_rules one = where_so (not (has_form one.value)) (form_rule one.value) one.place
+
+-- An integer has 1 to 18 digits.
+abbrev pub is_integer : Integer → Bool
+is_integer one = list_all is_ascii_digit one.digits && are_some most_literal_digits (length one.digits)
+
+abbrev pub integer_rules : Integer → List Broken
+integer_rules one = where_so (not (is_integer one)) 17 one.place
 
 -- A name names one thing.
 abbrev pub named : {A : Type 0} → Place → (A → List Broken) → List A → List Broken
@@ -28,9 +52,15 @@ abbrev pub subscript_item : Place → Placed → List Broken
 subscript_item place one =
     where_so (not (length one.dimensions == 0)) 50 place ++ where_so (not (is_integer_kind one.item.kind)) 51 place
 
+abbrev pub adjustment_rules : Adjustment → List Broken
+adjustment_rules adjustment.Nothing = []
+adjustment_rules (adjustment.Plus n) = integer_rules n
+adjustment_rules (adjustment.Minus n) = integer_rules n
+
 abbrev pub subscript_rules : List Placed → written.Subscript → List Broken
-subscript_rules items (subscript.Literal n) = []
-subscript_rules items (subscript.Item item adjustment) = named item.name.place (subscript_item item.name.place) (items_named items item)
+subscript_rules items (subscript.Literal n) = integer_rules n
+subscript_rules items (subscript.Item item adjusting) =
+    named item.name.place (subscript_item item.name.place) (items_named items item) ++ adjustment_rules adjusting
 
 -- A reference to an item, and what is asked of that item.
 abbrev pub item_rules : List Placed → (Place → Placed → List Broken) → Reference → List Broken
@@ -46,4 +76,4 @@ any_item place one = []
 
 abbrev pub operand_rules : List Placed → Operand → List Broken
 operand_rules items (operand.Item one) = item_rules items any_item one
-operand_rules items (operand.Literal one) = []
+operand_rules items (operand.Literal one) = literal_rules one

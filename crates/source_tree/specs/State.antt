@@ -1,6 +1,8 @@
 -- What a run has at a moment, and how a stretch of it ends.
-use Rattle.std.specs.Prelude.{ℕ, zero, suc, List, [], ◌∷◌, ◌++◌, map}
+use Rattle.std.specs.Prelude.{ℕ, zero, suc, List, [], ◌∷◌, ◌++◌, map, Ok, Err}
 use Rattle.station.specs.State.{Event, Shown}
+use Rattle.source_tree.specs.Storage.{Storage}
+use Rattle.source_tree.specs.Evaluated.{Fault, Evaluated}
 
 pub record State : Type 0 where
   -- how many statements may still begin (own choice)
@@ -9,13 +11,17 @@ pub record State : Type 0 where
   pub line : ℕ
   -- the day that the program is told
   pub day : List ℕ
+  -- the bytes of working storage
+  pub storage : Storage
   -- what was told so far, the first of it first
   pub events : List Event
 
--- How a run ends: by STOP RUN or after the last paragraph, or with no budget left for the next statement.
+-- How a run ends: by STOP RUN or after the last paragraph, with no budget left for the next statement, or because the statement
+-- at a line did something wrong.
 pub data End : Type 0 where
   Stopped : End
   Budget : End
+  Faulted : Fault → ℕ → End
 
 -- How a stretch of a run ends: what follows goes on, or the run is over.
 pub data Outcome : Type 0 where
@@ -30,6 +36,15 @@ showing bytes s = record s { events = s.events ++ map Shown bytes }
 abbrev pub then_do : Outcome → (State → Outcome) → Outcome
 then_do (Done s) go = go s
 then_do (Over end s) go = Over end s
+
+-- goes on with what was evaluated; a fault ends the run at the statement's line
+abbrev pub with_value : {A : Type 0} → Evaluated A → State → (A → Outcome) → Outcome
+with_value (Ok x) s go = go x
+with_value (Err fault) s go = Over (Faulted fault s.line) s
+
+-- A statement that only changes storage, or ends the run.
+abbrev pub changing : (Storage → Evaluated Storage) → State → Outcome
+changing change s = with_value (change s.storage) s (λ after. Done (record s { storage = after }))
 
 -- one after the other, as long as each is done
 abbrev pub in_turn : {A : Type 0} → (A → State → Outcome) → List A → State → Outcome

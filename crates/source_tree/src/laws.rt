@@ -7,6 +7,7 @@ ghost use Rattle.source_tree.specs.declared.program.Program.{Program};
 ghost use Rattle.source_tree.specs.declared.statement.Statement.{Statement};
 ghost use Rattle.source_tree.specs.Given.{Given, with_budget};
 ghost use Rattle.source_tree.specs.Integers.{number_of};
+ghost use Rattle.source_tree.specs.Setting.{Setting};
 ghost use Rattle.source_tree.specs.State.{State, Budget, in_turn, outcome_events};
 ghost use Rattle.source_tree.specs.Performing.{turns, most_turns, IsDigit, turns_of};
 ghost use Rattle.source_tree.specs.Meaning.{exec, run_from, start, told, meaning};
@@ -14,8 +15,8 @@ ghost use Rattle.station.specs.State.{Begins};
 
 /// Two depths above the budget are the same, of a statement and of a program.
 pub fn depth_law()
-    ensures statement { (one : Statement) (s : State) (depth other : ℕ) → s.budget < depth → s.budget < other → exec depth one s ≡ exec other one s }
-    ensures program { (program : Program) (given : Given) (depth : ℕ) → given.budget < depth → told (run_from depth program (start given)) ≡ meaning program given }
+    ensures statement { (around : Setting) (one : Statement) (s : State) (depth other : ℕ) → s.budget < depth → s.budget < other → exec around depth one s ≡ exec around other one s }
+    ensures program { (program : Program) (given : Given) (depth : ℕ) → given.budget < depth → told (run_from depth program (start program given)) ≡ meaning program given }
 {}
 
 /// A program that doesn't end for want of budget does the same with more.
@@ -25,7 +26,7 @@ pub fn budget_law()
 
 /// What was told is never taken back, and more budget only tells more.
 pub fn output_law()
-    ensures statement { (one : Statement) (s : State) (depth : ℕ) → Begins s.events (outcome_events (exec depth one s)) }
+    ensures statement { (around : Setting) (one : Statement) (s : State) (depth : ℕ) → Begins s.events (outcome_events (exec around depth one s)) }
     ensures program { (program : Program) (given : Given) (more : ℕ) → given.budget ≤ more → Begins (meaning program given).events (meaning program (with_budget more given)).events }
 {}
 
@@ -33,6 +34,6 @@ pub fn output_law()
 /// ends for want of budget.
 pub fn turns_law()
     ensures digits { (count : Integer) → AllByRecursion IsDigit count.digits → length count.digits ≤ 18 → turns_of count ≡ number_of count }
-    ensures cut { (count : Integer) (line depth : ℕ) (statements : List Statement) (s : State) → s.budget < most_turns →
-        turns line (turns_of count) (in_turn (exec depth) statements) s ≡ turns line (number_of count) (in_turn (exec depth) statements) s }
+    ensures cut { (around : Setting) (count : Integer) (line depth : ℕ) (statements : List Statement) (s : State) → s.budget < most_turns →
+        turns line (turns_of count) (in_turn (exec around depth) statements) s ≡ turns line (number_of count) (in_turn (exec around depth) statements) s }
 {}

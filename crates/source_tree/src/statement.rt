@@ -1,6 +1,7 @@
 //! Statements.
 
 use crate::ending::Ending;
+use crate::moving::Moving;
 use crate::performing::Performing;
 use crate::text::Text;
 use lexical::Place;
@@ -8,6 +9,7 @@ use lexical::Place;
 /// What a statement does, by families. `S` is the statements inside it: in a tree, `Statement`.
 #[derive(Debug, Drop)]
 pub enum Verb<S> {
+    Moving(Moving),
     Performing(Performing<S>),
     Text(Text),
     Ending(Ending),

@@ -3,7 +3,7 @@ use Rattle.source_tree.proofs.Runs.{exec_runs}
 use Rattle.source_tree.proofs.laws.output_law.Goals as goal
 
 pub returns-clause-statement : goal.returns-clause-statement
-returns-clause-statement c = λ one s depth. (exec_runs depth one).grows s
+returns-clause-statement c = λ around one s depth. (exec_runs around depth one).grows s
 
 pub returns-clause-program : goal.returns-clause-program
 returns-clause-program c = more_tells_more

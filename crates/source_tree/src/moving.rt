@@ -1,0 +1,14 @@
+//! Statements that move: MOVE.
+
+use crate::expression::Operand;
+use crate::reference::Reference;
+use sqlite_items::Items;
+
+#[derive(Debug, Drop)]
+pub enum Moving {
+    Move {
+        sender: Operand,
+        /// One or more.
+        receivers: Items<Reference>,
+    },
+}
