@@ -15,6 +15,10 @@ impl fmt::Display for Ending {
         match self {
             Ending::Run(Ended::Stopped) => write!(f, "Stopped"),
             Ending::Run(Ended::Budget) => write!(f, "Budget"),
+            Ending::Run(Ended::Faulted { fault, line }) => {
+                let number = fault.number();
+                write!(f, "fault {number} at line {line}")
+            }
             Ending::Run(Ended::Refused(refusal)) => {
                 let number = refusal.number();
                 write!(f, "refused {number}")

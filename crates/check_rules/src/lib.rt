@@ -1,11 +1,15 @@
-//! The rules of names and statements: whether references, MOVE, DISPLAY and ACCEPT keep them, or the first that they break.
+//! The rules of programs: whether entries, references and statements keep them, or the first that they break.
 #![tactic(auto)]
 
+mod checked;
 mod declarations;
+mod forms;
 mod moving;
 mod references;
 mod sent;
+mod statements;
 mod text;
 
+pub use checked::{Checked, check};
 pub use declarations::Declarations;
 pub use entry_rules::{BrokenRule, CheckError, Rule};

@@ -9,19 +9,20 @@ ghost use Rattle.check_rules.specs.Named.{IsDeclared, items_in};
 ghost use Rattle.check_rules.specs.Sending.{asks, sent_by};
 
 use crate::declarations::Declarations;
+use crate::forms::literal_rules;
 use crate::sent::Sent;
 use entry_rules::BrokenRule;
 use source_tree::{Operand, Reference};
 
 impl<'a> Declarations<'a> {
-    /// An operand of which nothing is asked but that it names an item.
+    /// An operand: a reference, of whose item nothing is asked, or a literal that has its form.
     pub fn operand_rules(&self, one: &Operand) -> Result<(), BrokenRule>
         requires { IsDeclared self.now }
         ensures { Finds result (names.operand_rules (items_in self.now) one.now) }
     {
         match one {
             Operand::Item(reference) => self.item_rules(None, reference),
-            Operand::Literal(_) => Ok(()),
+            Operand::Literal(literal) => literal_rules(literal),
         }
     }
 

@@ -1,4 +1,4 @@
-//! The rules of references: 40, 41, 50 and 51, and 49 of receivers (COBOL-85, Nucleus, "Uniqueness of reference").
+//! The rules of references: 17, 40, 41, 50 and 51, and 49 of receivers (COBOL-85, Nucleus, "Uniqueness of reference").
 
 ghost use Rattle.std.specs.Prelude.{◌≡◌};
 ghost use Rattle.entry_rules.specs.Checks.{Finds};
@@ -9,6 +9,7 @@ ghost use Rattle.check_rules.specs.Named.{IsDeclared, items_in, subscript_rules_
 ghost use Rattle.check_rules.specs.Sending.{asks, asks_kind};
 
 use crate::declarations::Declarations;
+use crate::forms::{adjustment_rules, integer_rules};
 use crate::sent::Sent;
 use entry_rules::{BrokenRule, Rule};
 use items::Kind;
@@ -51,8 +52,11 @@ impl<'a> Declarations<'a> {
         ensures { Finds result (spec.subscript_rules (items_in self.now) one.now) }
     {
         match one {
-            Subscript::Literal(_) => Ok(()),
-            Subscript::Item { item, .. } => self.subscript_item_rules(item),
+            Subscript::Literal(integer) => integer_rules(integer),
+            Subscript::Item { item, adjustment } => {
+                self.subscript_item_rules(item)?;
+                adjustment_rules(adjustment)
+            }
         }
     }
 

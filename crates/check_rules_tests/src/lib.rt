@@ -1,11 +1,15 @@
-//! Tests of `names` and `check_rules`: what qualified names name, and rules of references and statements. Nothing here is
-//! built into the product.
+//! Tests of `names` and `check_rules`: what qualified names name, and rules of references, statements and programs. Nothing
+//! here is built into the product.
 #![tactic(auto)]
 
 #[cfg(test)]
 mod asserted;
 #[cfg(test)]
 mod name_rows;
+#[cfg(test)]
+mod program_rows;
+#[cfg(test)]
+mod program_texts;
 #[cfg(test)]
 mod reference_texts;
 #[cfg(test)]

@@ -1,6 +1,6 @@
 //! What qualified names name, by the number of the item.
 use crate::asserted::same_in;
-use crate::reference_texts::{HERE, qualified};
+use crate::reference_texts::{LINE, OPERAND, qualified};
 use crate::texts::entries;
 use entry_rules::check_entries;
 use names::{LookUp, item_names};
@@ -41,7 +41,7 @@ fn look_ups(rt: &impl Abort, alloc: Global) {
         panic!(rt; "no memory");
     };
     for (text, expected) in ROWS {
-        let name = qualified(rt, alloc, HERE, text);
+        let name = qualified(rt, alloc, (LINE, OPERAND), text);
         same_in(rt, text, table.look_up(&name), *expected);
     }
 }

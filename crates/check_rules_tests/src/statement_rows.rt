@@ -1,6 +1,7 @@
 //! Rules of references, MOVE, DISPLAY and ACCEPT, with their places.
 use crate::asserted::same_in;
-use crate::reference_texts::{HERE, SUBSCRIPT, operand, reference};
+use crate::reference_texts;
+use crate::reference_texts::{ADDED, LINE, OPERAND, operand, reference};
 use crate::texts::entries;
 use check_rules::{BrokenRule, Declarations, Rule};
 use entry_rules::check_entries;
@@ -22,6 +23,10 @@ const ENTRIES: &[&str] = &[
 
 type Expected = Option<(Rule, (u32, u8))>;
 
+const HERE: (u32, u8) = (LINE, OPERAND);
+
+const SUBSCRIPT: (u32, u8) = (LINE, reference_texts::SUBSCRIPT);
+
 const OPERANDS: &[(&str, Expected)] = &[
     ("M", None),
     ("G", None),
@@ -38,6 +43,23 @@ const OPERANDS: &[(&str, Expected)] = &[
     ("T,B", Some((Rule::Number, SUBSCRIPT))),
     ("T,T", Some((Rule::Subscripts, SUBSCRIPT))),
     ("T,Z", Some((Rule::UnknownName, SUBSCRIPT))),
+    ("T,M+1", None),
+    ("T,123456789012345678", None),
+    (
+        "T,1234567890123456789",
+        Some((Rule::NumericLiteral, SUBSCRIPT)),
+    ),
+    (
+        "T,M+1234567890123456789",
+        Some((Rule::NumericLiteral, (LINE, ADDED))),
+    ),
+    ("T,M+", Some((Rule::NumericLiteral, (LINE, ADDED)))),
+    ("T,N+", Some((Rule::Number, SUBSCRIPT))),
+    ("=1234567890.12345678", None),
+    ("=1234567890.123456789", Some((Rule::NumericLiteral, HERE))),
+    ("=", Some((Rule::NumericLiteral, HERE))),
+    ("=''", Some((Rule::NonnumericLiteral, HERE))),
+    ("=ALL''", Some((Rule::NonnumericLiteral, HERE))),
 ];
 
 const MOVES: &[(&str, &str, Expected)] = &[
@@ -58,6 +80,7 @@ const MOVES: &[(&str, &str, Expected)] = &[
     ("=1.5", "A/G", Some((Rule::Move, HERE))),
     ("=ALL'A'", "E", Some((Rule::Move, HERE))),
     ("Z", "M", Some((Rule::UnknownName, HERE))),
+    ("=''", "M", Some((Rule::NonnumericLiteral, HERE))),
     ("M", "T", Some((Rule::Subscripts, HERE))),
 ];
 
@@ -81,7 +104,7 @@ fn operands(rt: &impl Abort, alloc: Global) {
         panic!(rt; "no memory");
     };
     for (text, expected) in OPERANDS {
-        let one = operand(rt, alloc, text);
+        let one = operand(rt, alloc, LINE, text);
         same_in(rt, text, told(declared.operand_rules(&one)), *expected);
     }
 }
@@ -95,8 +118,8 @@ fn moves(rt: &impl Abort, alloc: Global) {
         panic!(rt; "no memory");
     };
     for (from, to, expected) in MOVES {
-        let sender = operand(rt, alloc, from);
-        let receiver = reference(rt, alloc, to);
+        let sender = operand(rt, alloc, LINE, from);
+        let receiver = reference(rt, alloc, LINE, to);
         let receivers = [receiver];
         same_in(
             rt,
@@ -115,16 +138,22 @@ fn texts(rt: &impl Abort, alloc: Global) {
     let Ok(declared) = Declarations::of(alloc, &all) else {
         panic!(rt; "no memory");
     };
-    let shown = [operand(rt, alloc, "T,2"), operand(rt, alloc, "=SPACE")];
+    let shown = [
+        operand(rt, alloc, LINE, "T,2"),
+        operand(rt, alloc, LINE, "=SPACE"),
+    ];
     same_in(rt, &"shown", told(declared.display_rules(&shown)), None);
-    let repeated = [operand(rt, alloc, "M"), operand(rt, alloc, "=ALL'A'")];
+    let repeated = [
+        operand(rt, alloc, LINE, "M"),
+        operand(rt, alloc, LINE, "=ALL'A'"),
+    ];
     same_in(
         rt,
         &"ALL",
         told(declared.display_rules(&repeated)),
         Some((Rule::AllLiteral, HERE)),
     );
-    let letters = reference(rt, alloc, "B");
+    let letters = reference(rt, alloc, LINE, "B");
     same_in(
         rt,
         &"line",
@@ -137,7 +166,7 @@ fn texts(rt: &impl Abort, alloc: Global) {
         told(declared.accept_date_rules(&letters)),
         Some((Rule::Move, HERE)),
     );
-    let number = reference(rt, alloc, "N");
+    let number = reference(rt, alloc, LINE, "N");
     same_in(rt, &"date", told(declared.accept_date_rules(&number)), None);
 }
 

@@ -1,5 +1,6 @@
 -- How a command ends, and its exit status (own choice).
 use Rattle.std.specs.Prelude.{ℕ}
+use Rattle.data_instructions.specs.Faults as program
 use Rattle.run_unit.specs.Ends as run
 use Rattle.run_unit.specs.Faults as source
 use Rattle.run_unit.specs.declared.ended.Ended.{Ended}
@@ -8,7 +9,7 @@ use Rattle.run_unit.specs.declared.ended.Refusal.TheVariants as refusal
 use Rattle.run_unit.specs.declared.fault.CompileError.{CompileError}
 use Rattle.run_unit.specs.declared.fault.CompileError.TheVariants as compiling
 use Rattle.cobol.specs.declared.verdict.Verdict.{Verdict}
-use Rattle.cobol.specs.declared.verdict.Verdict.TheVariants.{Done, SourceFault, WrongCommand, NotText, Refused, Budget}
+use Rattle.cobol.specs.declared.verdict.Verdict.TheVariants.{Done, SourceFault, WrongCommand, NotText, Refused, Budget, ProgramFault}
 
 abbrev pub status_of : Verdict → ℕ
 status_of Done = 0
@@ -17,11 +18,13 @@ status_of WrongCommand = 2
 status_of NotText = 2
 status_of (Refused number) = 4
 status_of Budget = 5
+status_of (ProgramFault number line) = 3
 
 -- how a run's end is told
 abbrev pub verdict_after : Ended → Verdict
 verdict_after ended.Stopped = Done
 verdict_after ended.Budget = Budget
+verdict_after (ended.Faulted fault line) = ProgramFault (program.fault_number (program.fault_of fault)) line
 verdict_after (ended.Refused why) = Refused (run.number_of why)
 
 -- how a source text that isn't run is told

@@ -22,6 +22,8 @@ pub enum Verdict {
     Refused(u8),
     /// The budget was used up.
     Budget,
+    /// The statement that began in this line did something wrong, of this number.
+    ProgramFault { number: u8, line: u32 },
 }
 
 impl Verdict {
@@ -36,6 +38,10 @@ impl Verdict {
         match ended {
             Ended::Stopped => Verdict::Done,
             Ended::Budget => Verdict::Budget,
+            Ended::Faulted { fault, line } => Verdict::ProgramFault {
+                number: fault.number(),
+                line,
+            },
             Ended::Refused(refusal) => Verdict::Refused(refusal.number()),
         }
     }
@@ -81,6 +87,7 @@ impl Verdict {
             Verdict::WrongCommand | Verdict::NotText => 2,
             Verdict::Refused(_) => 4,
             Verdict::Budget => 5,
+            Verdict::ProgramFault { .. } => 3,
         }
     }
 }
@@ -97,6 +104,7 @@ impl fmt::Display for Verdict {
             } => write!(f, "{line}:{column}: fault {number}"),
             Verdict::Refused(number) => write!(f, "refused {number}"),
             Verdict::Budget => write!(f, "budget"),
+            Verdict::ProgramFault { number, line } => write!(f, "fault {number} at line {line}"),
         }
     }
 }

@@ -1,26 +1,29 @@
 -- What bytes spell is read from them.
 use Rattle.std.proofs.Common.{◌≡◌, ℕ, List, [], ◌++◌, Ok, sym, ap, ◌∙◌, append_assoc}
 use Rattle.std.proofs.lemmas.List.{append-nil}
+use Rattle.image_tables.specs.Spelling.{count_bytes, table_bytes}
+use Rattle.image_tables.specs.Reading.{◌>>=◌, table_at}
+use Rattle.image_tables.specs.Tables.{tables_bytes}
+use Rattle.image_tables.proofs.Forms.{bind_is, part_again}
+use Rattle.image_tables.proofs.DataTables.{tables_form}
 use Rattle.code_image.specs.declared.code.Code.{Code}
-use Rattle.code_image.specs.Spelling.{no_tables, table_bytes, count_bytes, literal_bytes, instruction_bytes, spelling, HasSpelling}
-use Rattle.code_image.specs.Reading.{after_mark, after_none_twice, table_at, count_at, literal_at, instruction_at, code_at}
-use Rattle.code_image.proofs.Forms.{bind_is, mark_again, none_twice_again}
-use Rattle.code_image.proofs.Images.{end_from, instructions_from, starts_from, files_from, literals_from, tables_from, literal_table, start_table, instruction_table}
+use Rattle.code_image.specs.Spelling.{mark, instruction_bytes, spelling, HasSpelling}
+use Rattle.code_image.specs.Reading.{after_mark, instruction_at, code_at}
+use Rattle.code_image.proofs.Forms.{mark_again}
+use Rattle.code_image.proofs.Images.{end_from, instructions_from, starts_from, tables_from, start_table, instruction_table}
 
-regroup : (a b c d e : List ℕ) → a ++ b ++ c ++ d ++ e ≡ a ++ (b ++ (c ++ (d ++ e)))
-regroup a b c d e = simp append_assoc
+regroup : (a b c d : List ℕ) → a ++ b ++ c ++ d ≡ a ++ (b ++ (c ++ d))
+regroup a b c d = simp append_assoc
 
 pub code_again : (code : Code) → HasSpelling code → code_at (spelling code) ≡ Ok code
 unfolding code_at
 code_again code fits =
-    let l = table_bytes literal_bytes code.literals in
+    let t = tables_bytes code.tables in
     let s = table_bytes count_bytes code.starts in
     let i = table_bytes instruction_bytes code.instructions in
-    bind_is (after_mark (spelling code)) tables_from (no_tables ++ l ++ no_tables ++ s ++ i) (mark_again (no_tables ++ l ++ no_tables ++ s ++ i))
-    ∙ ap tables_from (regroup no_tables l no_tables s i)
-    ∙ bind_is (after_none_twice (no_tables ++ (l ++ (no_tables ++ (s ++ i))))) literals_from (l ++ (no_tables ++ (s ++ i))) (none_twice_again (l ++ (no_tables ++ (s ++ i))))
-    ∙ bind_is (table_at literal_at (l ++ (no_tables ++ (s ++ i)))) files_from (code.literals, no_tables ++ (s ++ i)) (literal_table.again code.literals (no_tables ++ (s ++ i)) (fits.literal_count, fits.literals))
-    ∙ bind_is (after_none_twice (no_tables ++ (s ++ i))) (starts_from code.literals) (s ++ i) (none_twice_again (s ++ i))
-    ∙ bind_is (table_at count_at (s ++ i)) (instructions_from code.literals) (code.starts, i) (start_table.again code.starts i (fits.start_count, fits.starts))
-    ∙ bind_is (table_at instruction_at i) (end_from code.literals code.starts) (code.instructions, [])
-    (ap (table_at instruction_at) (sym (append-nil i)) ∙ instruction_table.again code.instructions [] (fits.instruction_count, fits.instructions))
+    ap (λ (bytes : List ℕ). after_mark bytes >>= tables_from) (regroup mark t s i)
+    ∙ bind_is (after_mark (mark ++ (t ++ (s ++ i)))) tables_from (t ++ (s ++ i)) (mark_again (t ++ (s ++ i)))
+    ∙ part_again tables_form code.tables (s ++ i) starts_from fits.tables
+    ∙ part_again start_table code.starts i (instructions_from code.tables) fits.starts
+    ∙ ap (λ (bytes : List ℕ). table_at instruction_at bytes >>= end_from code.tables code.starts) (sym (append-nil i))
+    ∙ part_again instruction_table code.instructions [] (end_from code.tables code.starts) fits.instructions

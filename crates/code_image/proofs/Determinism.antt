@@ -1,15 +1,17 @@
 -- A run ends in one way, and what was told stays told.
-use Rattle.std.proofs.Common.{◌≡◌, ℕ, zero, suc, ◌+◌, ◌≤◌, List, Option, Some, None, sym, ◌∙◌, ⊎_elim, arith}
+use Rattle.std.proofs.Common.{◌≡◌, ℕ, zero, suc, ◌+◌, ◌≤◌, Option, Some, None, sym, ◌∙◌, ⊎_elim, arith}
 use Rattle.std.specs.Prelude.{slice_get, slice_index, slice_set}
 use Rattle.std.proofs.lemmas.Bool.{cases_lt}
-use Rattle.source_tree.specs.State.{State, showing}
+use Rattle.source_tree.specs.State.{State}
 use Rattle.source_tree.specs.Given.{Given}
 use Rattle.source_tree.specs.Meaning.{Run}
 use Rattle.code_image.specs.declared.code.Code.{Code}
 use Rattle.code_image.specs.declared.instruction.Instruction.{Instruction}
-use Rattle.code_image.specs.declared.instruction.Instruction.TheVariants.{Tick, Show, Stop, Count, Turn}
-use Rattle.code_image.specs.Points.{Point, first_point}
-use Rattle.code_image.specs.Table.{Next, onward, tick_from, show_from, turn_from, act, exec_code, Runs}
+use Rattle.code_image.specs.declared.instruction.Instruction.TheVariants.{Tick, Show, Stop, Count, Turn, Data}
+use Rattle.data_instructions.specs.Scratch.{Step, Went, Faulted, Stuck}
+use Rattle.data_instructions.specs.Table.{work}
+use Rattle.code_image.specs.Points.{Point, scratch_of, first_point}
+use Rattle.code_image.specs.Table.{Next, onward, tick_from, shown_point, worked_point, data_from, turn_from, act, exec_code, Runs}
 
 -- where f is over, g is over with the same run
 abbrev Extends : Next → Next → Type 0
@@ -20,21 +22,23 @@ module _ (f g : Next) (h : Extends f g) where
   tick_extends zero line p s run e = e
   tick_extends (suc n) line p s run e = h (record p { address = p.address + 1; state = record s { budget = n; line = line } }) run e
 
-  show_extends : (bytes : Option (List ℕ)) (p : Point) (s : State) (run : Run) → show_from bytes (onward f p) s ≡ Some run → show_from bytes (onward g p) s ≡ Some run
-  show_extends None p s run e = e
-  show_extends (Some bytes) p s run e = h (record p { address = p.address + 1; state = showing bytes s }) run e
+  data_extends : (step : Step) (p : Point) (run : Run) → data_from step f p ≡ Some run → data_from step g p ≡ Some run
+  data_extends (Went s) p run e = h (worked_point s p) run e
+  data_extends (Faulted fault) p run e = e
+  data_extends Stuck p run e = absurd cc
 
   turn_extends : (left counter to : ℕ) (p : Point) (run : Run) → turn_from left counter to f p ≡ Some run → turn_from left counter to g p ≡ Some run
   turn_extends zero counter to p run e = h (record p { address = p.address + 1 }) run e
-  turn_extends (suc n) counter to p run e = h (record p { address = to; own = record { counters = slice_set p.own.counters counter n } }) run e
+  turn_extends (suc n) counter to p run e = h (record p { address = to; own = record p.own { counters = slice_set p.own.counters counter n } }) run e
 
   act_extends : (code : Code) (i : Option Instruction) (p : Point) (run : Run) → act code i f p ≡ Some run → act code i g p ≡ Some run
   act_extends code None p run e = e
   act_extends code (Some (Tick line)) p run e = tick_extends p.state.budget line p p.state run e
-  act_extends code (Some (Show literal)) p run e = show_extends (slice_get code.literals literal.number) p p.state run e
+  act_extends code (Some Show) p run e = h (shown_point p) run e
+  act_extends code (Some (Data one)) p run e = data_extends (work code.tables one (scratch_of p.state p.own)) p run e
   act_extends code (Some Stop) p run e = e
   act_extends code (Some (Count counter turns)) p run e =
-      h (record p { address = p.address + 1; own = record { counters = slice_set p.own.counters counter.number turns } }) run e
+      h (record p { address = p.address + 1; own = record p.own { counters = slice_set p.own.counters counter.number turns } }) run e
   act_extends code (Some (Turn counter to)) p run e = turn_extends (slice_index p.own.counters counter.number) counter.number to p run e
 
 longer : (code : Code) (m n : ℕ) → m ≤ n → Extends (exec_code code m) (exec_code code n)

@@ -1,93 +1,188 @@
--- Worked examples: the code of a program that shows HELLO and stops, its runs, and images.
-use Rattle.std.proofs.Common.{◌≡◌, ℕ, List, [], ◌∷◌, ◌++◌, take, Some, None, Ok, Err, map, refl}
+-- Worked examples: the code of a program that shows HELLO and stops, two loops, code that works on data, and images.
+use Rattle.std.proofs.Common.{◌≡◌, ℕ, List, [], ◌∷◌, ◌++◌, take, Some, None, Ok, Err, map, refl, pos}
+use Rattle.std.specs.Prelude.{codes}
+use Rattle.items.specs.declared.item.Kind.TheVariants as kind
+use Rattle.items.specs.declared.usage.OperationalSign.TheVariants as operational
+use Rattle.items.specs.declared.usage.Usage.TheVariants as usage
 use Rattle.station.specs.State.{Shown}
-use Rattle.source_tree.specs.State.{Stopped, Budget}
-use Rattle.code_image.specs.Points.{Point, first_point}
+use Rattle.source_tree.specs.Evaluated.{Subscript}
+use Rattle.source_tree.specs.State.{Stopped, Budget, Faulted}
+use Rattle.data_instructions.specs.declared.tables.DataTables.{DataTables}
+use Rattle.data_instructions.specs.declared.instruction.DataInstruction.TheVariants as i
+use Rattle.data_instructions.specs.Shapes.{empty}
+use Rattle.image_tables.specs.declared.fault.ImageFault.TheVariants as faults
+use Rattle.image_tables.specs.Spelling.{count_bytes, short_bytes}
+use Rattle.image_tables.specs.Reading.{byte_at, count_at, short_at, entries_at, table_at, text_at}
+use Rattle.image_tables.specs.Items.{kind_at, item_at, plain_kind_of}
+use Rattle.image_tables.specs.Tables.{data_item_at, tables_at}
+use Rattle.image_tables.specs.Instructions.{data_instruction_at, plain_instruction_of}
 use Rattle.code_image.specs.declared.code.Code.{Code}
-use Rattle.code_image.specs.declared.instruction.Instruction.TheVariants.{Tick, Show, Stop, Count, Turn}
-use Rattle.code_image.specs.declared.fault.ImageFault.TheVariants as faults
-use Rattle.code_image.specs.Spelling.{mark, count_bytes, line_bytes, instruction_bytes, literal_bytes, spelling}
-use Rattle.code_image.specs.Reading.{count_at, line_at, after_mark, after_none, after_none_twice, entries_at, table_at, literal_at, instruction_at, code_at}
+use Rattle.code_image.specs.declared.counter.CounterIndex.{CounterIndex}
+use Rattle.code_image.specs.declared.instruction.Instruction.{Instruction}
+use Rattle.code_image.specs.declared.instruction.Instruction.TheVariants.{Tick, Show, Stop, Count, Turn, Data}
+use Rattle.code_image.specs.Spelling.{mark, instruction_bytes, spelling}
+use Rattle.code_image.specs.Reading.{after_mark, instruction_at, code_at}
+use Rattle.code_image.specs.Known.{known_along}
+use Rattle.code_image.specs.Points.{Point, first_point}
 use Rattle.code_image.specs.Table.{exec_code}
 
 -- HELLO and a line feed
 abbrev hello : List ℕ
-hello = 72 ∷ 69 ∷ 76 ∷ 76 ∷ 79 ∷ 10 ∷ []
+hello = codes "HELLO" ++ 10 ∷ []
+
+-- no data but these texts
+abbrev with_texts : List (List ℕ) → DataTables
+with_texts texts = record { areas = []; items = []; numbers = []; senders = []; texts = texts }
+
+abbrev append : ℕ → Instruction
+append text = Data (i.AppendLiteral (record { number = text }))
+
+abbrev counter : ℕ → CounterIndex
+counter number = record { number = number }
 
 -- DISPLAY "HELLO" in line 5, STOP RUN in line 6, and the end of the last paragraph
 abbrev code : Code
 code = record {
-  literals = hello ∷ [];
+  tables = with_texts (hello ∷ []);
   starts = 0 ∷ [];
-  instructions = Tick 5 ∷ Show (record { number = 0 }) ∷ Tick 6 ∷ Stop ∷ Stop ∷ [];
+  instructions = Tick 5 ∷ append 0 ∷ Show ∷ Tick 6 ∷ Stop ∷ Stop ∷ [];
 }
 
 -- at the first instruction, on some day
 abbrev with_budget : Code → ℕ → Point
-with_budget code budget = first_point code (record { budget = budget; day = 50 ∷ 54 ∷ 48 ∷ 55 ∷ 51 ∷ 48 ∷ [] })
+with_budget code budget = first_point code (record { budget = budget; day = codes "620730" })
 
-budget_2 : exec_code code 4 (with_budget code 2) ≡ Some (record { events = map Shown hello; end = Stopped })
+budget_2 : exec_code code 5 (with_budget code 2) ≡ Some (record { events = map Shown hello; end = Stopped })
 budget_2 = refl
 
-budget_1 : exec_code code 3 (with_budget code 1) ≡ Some (record { events = map Shown hello; end = Budget })
+budget_1 : exec_code code 4 (with_budget code 1) ≡ Some (record { events = map Shown hello; end = Budget })
 budget_1 = refl
 
 budget_0 : exec_code code 1 (with_budget code 0) ≡ Some (record { events = []; end = Budget })
 budget_0 = refl
 
--- three instructions aren't enough for the whole run
-not_over : exec_code code 3 (with_budget code 2) ≡ None
+-- four instructions aren't enough for the whole run
+not_over : exec_code code 4 (with_budget code 2) ≡ None
 not_over = refl
 
--- a literal outside the table ends nothing
-outside : exec_code (record { literals = []; starts = []; instructions = Show (record { number = 0 }) ∷ Stop ∷ [] }) 9 (with_budget code 1) ≡ None
+-- a text outside the table ends nothing
+outside : exec_code (record { tables = with_texts []; starts = []; instructions = append 0 ∷ Stop ∷ [] }) 9 (with_budget code 1) ≡ None
 outside = refl
 
+-- neither does an instruction without its operands
+lacks_operands : exec_code (record { tables = with_texts []; starts = []; instructions = Data i.Add ∷ Stop ∷ [] }) 9 (with_budget code 1) ≡ None
+lacks_operands = refl
+
 -- code that runs out ends nothing
-runs_out : exec_code (record { literals = []; starts = []; instructions = Tick 1 ∷ [] }) 9 (with_budget code 1) ≡ None
+runs_out : exec_code (record { tables = with_texts []; starts = []; instructions = Tick 1 ∷ [] }) 9 (with_budget code 1) ≡ None
 runs_out = refl
 
 -- PERFORM 2 TIMES PERFORM 3 TIMES DISPLAY "A" NO ADVANCING END-PERFORM END-PERFORM: each PERFORM counts at the address of its
 -- `count`, and each turn has a `tick` at the line of its PERFORM
 abbrev two_by_three : Code
 two_by_three = record {
-  literals = (65 ∷ []) ∷ [];
+  tables = with_texts (codes "A" ∷ []);
   starts = 0 ∷ [];
   instructions =
-      Tick 1 ∷ Count (record { number = 1 }) 1 ∷ Tick 1
-      ∷ Tick 2 ∷ Count (record { number = 4 }) 2 ∷ Tick 2
-      ∷ Tick 3 ∷ Show (record { number = 0 })
-      ∷ Turn (record { number = 4 }) 5 ∷ Turn (record { number = 1 }) 2 ∷ Stop ∷ [];
+      Tick 1 ∷ Count (counter 1) 1 ∷ Tick 1
+      ∷ Tick 2 ∷ Count (counter 4) 2 ∷ Tick 2
+      ∷ Tick 3 ∷ append 0 ∷ Show
+      ∷ Turn (counter 4) 5 ∷ Turn (counter 1) 2 ∷ Stop ∷ [];
 }
 
-two_by_three_with_17 : exec_code two_by_three 99 (with_budget two_by_three 17) ≡ Some (record { events = map Shown (65 ∷ 65 ∷ 65 ∷ 65 ∷ 65 ∷ 65 ∷ []); end = Stopped })
+two_by_three_with_17 : exec_code two_by_three 99 (with_budget two_by_three 17) ≡ Some (record { events = map Shown (codes "AAAAAA"); end = Stopped })
 two_by_three_with_17 = refl
 
-two_by_three_with_16 : exec_code two_by_three 99 (with_budget two_by_three 16) ≡ Some (record { events = map Shown (65 ∷ 65 ∷ 65 ∷ 65 ∷ 65 ∷ []); end = Budget })
+two_by_three_with_16 : exec_code two_by_three 99 (with_budget two_by_three 16) ≡ Some (record { events = map Shown (codes "AAAAA"); end = Budget })
 two_by_three_with_16 = refl
 
-count_spelt : instruction_bytes (Count (record { number = 1 }) 258) ≡ 4 ∷ 0 ∷ 0 ∷ 0 ∷ 0 ∷ 0 ∷ 0 ∷ 0 ∷ 1 ∷ 0 ∷ 0 ∷ 0 ∷ 0 ∷ 0 ∷ 0 ∷ 1 ∷ 2 ∷ []
-unfolding count_bytes
-count_spelt = refl
+-- ---- data
 
-turn_spelt : instruction_bytes (Turn (record { number = 1 }) 2) ≡ 5 ∷ 0 ∷ 0 ∷ 0 ∷ 0 ∷ 0 ∷ 0 ∷ 0 ∷ 1 ∷ 0 ∷ 0 ∷ 0 ∷ 0 ∷ 0 ∷ 0 ∷ 0 ∷ 2 ∷ []
-unfolding count_bytes
-turn_spelt = refl
+-- three occurrences of PIC 9(2), and the number 4
+abbrev table_of_three : DataTables
+table_of_three = record {
+  areas = codes "010203" ∷ [];
+  items = record {
+    item = record { kind = kind.Numeric (record { digits = 2; scale = 0; usage = usage.Display operational.Unsigned }); length = 2 };
+    editing = None;
+    area = 0;
+    offset = 0;
+  } ∷ [];
+  numbers = record { coefficient = pos 4; scale = 0 } ∷ [];
+  senders = [];
+  texts = codes "A" ∷ [];
+}
+
+-- DISPLAY "A" NO ADVANCING in line 7, and DISPLAY N (4) NO ADVANCING in line 8
+abbrev fourth : Code
+fourth = record {
+  tables = table_of_three;
+  starts = 0 ∷ [];
+  instructions =
+      Tick 7 ∷ append 0 ∷ Show
+      ∷ Tick 8 ∷ Data (i.Place (record { number = 0 })) ∷ Data (i.Literal (record { number = 0 })) ∷ Data (i.Index 2 3) ∷ Data i.Append ∷ Show
+      ∷ Stop ∷ [];
+}
+
+-- The fault ends the run at the line of its statement, after what was shown before.
+fault : exec_code fourth 99 (with_budget fourth 9) ≡ Some (record { events = map Shown (codes "A"); end = Faulted Subscript 8 })
+fault = refl
+
+-- ---- what is known along code
+
+finds_operands : known_along code.tables code.instructions empty ≡ Some empty
+finds_operands = refl
+
+-- a statement doesn't begin with a line that wasn't shown
+line_left : known_along code.tables (append 0 ∷ Tick 1 ∷ []) empty ≡ None
+line_left = refl
+
+finds_no_number : known_along code.tables (Data i.Add ∷ []) empty ≡ None
+finds_no_number = refl
+
+-- ---- bytes of instructions
 
 tick_spelt : instruction_bytes (Tick 258) ≡ 1 ∷ 0 ∷ 0 ∷ 1 ∷ 2 ∷ []
-unfolding line_bytes
+unfolding short_bytes
 tick_spelt = refl
 
-show_spelt : instruction_bytes (Show (record { number = 7 })) ≡ 2 ∷ 0 ∷ 0 ∷ 0 ∷ 0 ∷ 0 ∷ 0 ∷ 0 ∷ 7 ∷ []
-unfolding count_bytes
+show_spelt : instruction_bytes Show ≡ 2 ∷ []
 show_spelt = refl
 
 stop_spelt : instruction_bytes Stop ≡ 3 ∷ []
 stop_spelt = refl
 
-literal_spelt : literal_bytes (65 ∷ 10 ∷ []) ≡ 0 ∷ 0 ∷ 0 ∷ 0 ∷ 0 ∷ 0 ∷ 0 ∷ 2 ∷ 65 ∷ 10 ∷ []
+count_spelt : instruction_bytes (Count (counter 1) 258) ≡ 4 ∷ 0 ∷ 0 ∷ 0 ∷ 0 ∷ 0 ∷ 0 ∷ 0 ∷ 1 ∷ 0 ∷ 0 ∷ 0 ∷ 0 ∷ 0 ∷ 0 ∷ 1 ∷ 2 ∷ []
 unfolding count_bytes
-literal_spelt = refl
+count_spelt = refl
+
+turn_spelt : instruction_bytes (Turn (counter 1) 2) ≡ 5 ∷ 0 ∷ 0 ∷ 0 ∷ 0 ∷ 0 ∷ 0 ∷ 0 ∷ 1 ∷ 0 ∷ 0 ∷ 0 ∷ 0 ∷ 0 ∷ 0 ∷ 0 ∷ 2 ∷ []
+unfolding count_bytes
+turn_spelt = refl
+
+append_spelt : instruction_bytes (append 7) ≡ 16 ∷ 0 ∷ 0 ∷ 0 ∷ 7 ∷ []
+unfolding short_bytes
+append_spelt = refl
+
+-- no instruction begins with 0 or 17
+no_instruction : instruction_at (0 ∷ []) ≡ Err faults.Value
+unfolding instruction_at data_instruction_at byte_at plain_instruction_of
+no_instruction = refl
+
+unknown : instruction_at (17 ∷ []) ≡ Err faults.Value
+unfolding instruction_at data_instruction_at byte_at plain_instruction_of
+unknown = refl
+
+-- the end of the bytes, and an instruction that they cut
+nothing_left : instruction_at [] ≡ Err faults.Length
+unfolding instruction_at
+nothing_left = refl
+
+cut_instruction : instruction_at (16 ∷ 0 ∷ 0 ∷ 0 ∷ []) ≡ Err faults.Length
+unfolding instruction_at data_instruction_at byte_at short_at
+cut_instruction = refl
+
+-- ---- images
 
 -- seven bytes are no mark
 cut_mark : code_at (take 7 mark) ≡ Err faults.Mark
@@ -96,25 +191,29 @@ cut_mark = refl
 
 -- a mark alone is too short
 mark_alone : code_at mark ≡ Err faults.Length
-unfolding code_at after_mark after_none_twice after_none count_at
+unfolding code_at after_mark tables_at table_at count_at
 mark_alone = refl
 
--- no table of areas has an entry
-one_area : code_at (mark ++ 0 ∷ 0 ∷ 0 ∷ 0 ∷ 0 ∷ 0 ∷ 0 ∷ 1 ∷ []) ≡ Err faults.Value
-unfolding code_at after_mark after_none_twice after_none count_at
-one_area = refl
+-- no area, and one item, of a kind that there isn't
+no_kind : code_at (mark ++ count_bytes 0 ++ count_bytes 1 ++ 10 ∷ []) ≡ Err faults.Value
+unfolding code_at after_mark tables_at table_at entries_at data_item_at item_at kind_at plain_kind_of byte_at count_at count_bytes
+no_kind = refl
 
--- no instruction begins with 6
-unknown : instruction_at (6 ∷ []) ≡ Err faults.Value
-unfolding instruction_at
-unknown = refl
+reading : Unit {0}
+unfolding code_at after_mark tables_at table_at entries_at text_at instruction_at data_instruction_at plain_instruction_of byte_at count_at short_at count_bytes short_bytes
+reading = tt
 
--- the code is read again from its spelling
+-- the code is read again from its spelling, of 104 bytes
 read_again : code_at (spelling code) ≡ Ok code
-unfolding code_at after_mark after_none_twice after_none count_at line_at entries_at table_at literal_at instruction_at count_bytes line_bytes
+unfolding reading
 read_again = refl
+
+-- not without the last one
+cut_short : code_at (take 103 (spelling code)) ≡ Err faults.Length
+unfolding reading
+cut_short = refl
 
 -- and not with a byte after it
 byte_after : code_at (spelling code ++ 0 ∷ []) ≡ Err faults.Length
-unfolding code_at after_mark after_none_twice after_none count_at line_at entries_at table_at literal_at instruction_at count_bytes line_bytes
+unfolding reading
 byte_after = refl

@@ -1,34 +1,32 @@
 -- The parts of an image, one after the other.
 use Rattle.std.proofs.Common.{ℕ, eqb, cond, List, length, Result, Ok, Err}
+use Rattle.data_instructions.specs.declared.tables.DataTables.{DataTables}
+use Rattle.image_tables.specs.declared.fault.ImageFault.{ImageFault}
+use Rattle.image_tables.specs.declared.fault.ImageFault.TheVariants as faults
+use Rattle.image_tables.specs.Spelling.{count_bytes, table_bytes, IsCount, AreSpelled}
+use Rattle.image_tables.specs.Reading.{◌>>=◌, count_at, table_at}
+use Rattle.image_tables.specs.Tables.{tables_at}
+use Rattle.image_tables.proofs.Forms.{IsForm}
+use Rattle.image_tables.proofs.Numbers.{count_form}
+use Rattle.image_tables.proofs.TableForms.{table_form}
 use Rattle.code_image.specs.declared.code.Code.{Code}
 use Rattle.code_image.specs.declared.instruction.Instruction.{Instruction}
-use Rattle.code_image.specs.declared.fault.ImageFault.{ImageFault}
-use Rattle.code_image.specs.declared.fault.ImageFault.TheVariants as faults
-use Rattle.code_image.specs.Spelling.{table_bytes, count_bytes, literal_bytes, instruction_bytes, IsCount, HasNumbers}
-use Rattle.code_image.specs.Reading.{◌>>=◌, after_none_twice, table_at, count_at, literal_at, instruction_at}
-use Rattle.code_image.proofs.Forms.{IsForm, AreSpelled, table_form, count_form, literal_form, instruction_form}
+use Rattle.code_image.specs.Spelling.{instruction_bytes, HasNumbers}
+use Rattle.code_image.specs.Reading.{instruction_at}
+use Rattle.code_image.proofs.Forms.{instruction_form}
 
 -- reading from each part on
-abbrev pub end_from : List (List ℕ) → List ℕ → List Instruction × List ℕ → Result Code ImageFault
-end_from literals starts x = cond (eqb (length x.1) 0) (Ok (record { literals = literals; starts = starts; instructions = x.0 })) (Err faults.Length)
+abbrev pub end_from : DataTables → List ℕ → List Instruction × List ℕ → Result Code ImageFault
+end_from tables starts x = cond (eqb (length x.1) 0) (Ok (record { tables = tables; starts = starts; instructions = x.0 })) (Err faults.Length)
 
-abbrev pub instructions_from : List (List ℕ) → List ℕ × List ℕ → Result Code ImageFault
-instructions_from literals x = table_at instruction_at x.1 >>= end_from literals x.0
+abbrev pub instructions_from : DataTables → List ℕ × List ℕ → Result Code ImageFault
+instructions_from tables x = table_at instruction_at x.1 >>= end_from tables x.0
 
-abbrev pub starts_from : List (List ℕ) → List ℕ → Result Code ImageFault
-starts_from literals bytes = table_at count_at bytes >>= instructions_from literals
-
-abbrev pub files_from : List (List ℕ) × List ℕ → Result Code ImageFault
-files_from x = after_none_twice x.1 >>= starts_from x.0
-
-abbrev pub literals_from : List ℕ → Result Code ImageFault
-literals_from bytes = table_at literal_at bytes >>= files_from
+abbrev pub starts_from : DataTables × List ℕ → Result Code ImageFault
+starts_from x = table_at count_at x.1 >>= instructions_from x.0
 
 abbrev pub tables_from : List ℕ → Result Code ImageFault
-tables_from bytes = after_none_twice bytes >>= literals_from
-
-pub literal_table : IsForm (table_at literal_at) (table_bytes literal_bytes) (AreSpelled (λ bytes. IsCount (length bytes)))
-literal_table = table_form literal_at literal_bytes (λ bytes. IsCount (length bytes)) literal_form
+tables_from bytes = tables_at bytes >>= starts_from
 
 pub start_table : IsForm (table_at count_at) (table_bytes count_bytes) (AreSpelled IsCount)
 start_table = table_form count_at count_bytes IsCount count_form

@@ -1,12 +1,11 @@
--- The parts of an image, read and spelled
-pub mod Entries
+-- The bytes of an image: how each part is read and spelled
 pub mod Forms
 pub mod Images
--- The reader is the relation of spelling, both ways
 pub mod Soundness
 pub mod Completeness
--- The machine's table: what stands where, one end of a run, and that there is one
+-- The machine's table: what stands where, what is known there, one end of a run, and that there is one
 pub mod WellFormed
+pub mod Standing
 pub mod Determinism
 pub mod Termination
 -- Definitions on small cases

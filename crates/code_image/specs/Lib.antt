@@ -1,6 +1,6 @@
-pub mod Faults
 pub mod Spelling
 pub mod Reading
+pub mod Known
 pub mod Demands
 pub mod Points
 pub mod Table

@@ -1,13 +1,14 @@
 //! Code: what a program becomes.
 
 use crate::instruction::Instruction;
+use data_instructions::DataTables;
 use sqlite_items::Items;
 
 /// The tables of a program, and its instructions, of which the first runs first.
 #[derive(Debug, Drop)]
 pub struct Code {
-    /// The bytes that instructions show.
-    pub literals: Items<Items<u8>>,
+    /// What instructions on data name.
+    pub tables: DataTables,
     /// The address at which each code paragraph starts. An address is the index of an instruction, from 0.
     pub starts: Items<usize>,
     pub instructions: Items<Instruction>,

@@ -1,15 +1,18 @@
 //! The machine's instructions.
 
-ghost use Rattle.std.specs.Prelude.{◌≡◌, ◌↔◌, ◌++◌, OnOk, IsTrue};
-ghost use Rattle.code_image.specs.Demands.{NamesLiteral, NamesCounter};
+ghost use Rattle.std.specs.Prelude.{◌≡◌, ◌↔◌, ◌++◌, ◌∷◌, IsTrue, OnOk};
+ghost use Rattle.answers.specs.Answer.{Gives};
+ghost use Rattle.image_tables.specs.Faults.{fault_of};
+ghost use Rattle.image_tables.specs.Spelling.{count_bytes, short_bytes, IsCount, IsShort};
+ghost use Rattle.code_image.specs.Demands.{NamesData, NamesCounter};
 ghost use Rattle.code_image.specs.Spelling.{instruction_bytes, HasNumbers};
-ghost use Rattle.code_image.specs.Reading.{instruction_at};
+ghost use Rattle.code_image.specs.Reading.{tick_at, count_instruction_at, turn_at, instruction_at};
 
 use crate::counter::CounterIndex;
-use crate::fault::{ImageError, ImageFault};
-use crate::literal::LiteralIndex;
-use crate::number::{put_count, put_line, read_count, read_line};
-use crate::table::TableEntry;
+use data_instructions::{DataInstruction, DataTables};
+use image_tables::{
+    ImageError, ImageFault, TableEntry, put_count, put_short, read_count, read_short,
+};
 use std::alloc::{AllocError, Global};
 
 /// One instruction.
@@ -18,24 +21,27 @@ pub enum Instruction {
     /// Uses one of the budget, or ends the run as Budget where none is left. The statement begins in this line of the
     /// source, counted from 1.
     Tick { line: u32 },
-    /// Shows the bytes of a literal.
-    Show { literal: LiteralIndex },
+    /// Shows the line that was made up, which is empty then.
+    Show,
     /// Ends the run as Stopped.
     Stop,
     /// Sets a counter to this.
     Count { counter: CounterIndex, turns: u64 },
     /// Where a counter is above 0, lowers it by one and goes to the address; else goes on.
     Turn { counter: CounterIndex, to: usize },
+    /// Works on data. A fault ends the run.
+    Data(DataInstruction),
 }
 
 impl Instruction {
-    /// A literal that it names stands in a table of so many.
-    pub(crate) fn names_literal(self, count: usize) -> bool
-        ensures { IsTrue result ↔ NamesLiteral count self }
+    /// Each entry of the tables of data that it names is there.
+    pub(crate) fn names_data(self, tables: &DataTables) -> bool
+        ensures { IsTrue result ↔ NamesData tables.now self }
     {
         match self {
-            Instruction::Show { literal } => literal.number < count,
+            Instruction::Data(one) => one.names_entries(tables),
             Instruction::Tick { .. }
+            | Instruction::Show
             | Instruction::Stop
             | Instruction::Count { .. }
             | Instruction::Turn { .. } => true,
@@ -50,12 +56,15 @@ impl Instruction {
             Instruction::Count { counter, .. } | Instruction::Turn { counter, .. } => {
                 counter.number < count
             }
-            Instruction::Tick { .. } | Instruction::Show { .. } | Instruction::Stop => true,
+            Instruction::Tick { .. }
+            | Instruction::Show
+            | Instruction::Stop
+            | Instruction::Data(_) => true,
         }
     }
 }
 
-// The first byte of each instruction in an image.
+// The first byte of each instruction in an image. Those of instructions on data are others.
 const TICK: u8 = 1;
 
 const SHOW: u8 = 2;
@@ -66,6 +75,55 @@ const COUNT: u8 = 4;
 
 const TURN: u8 = 5;
 
+fn put_tick(out: &mut Vec<u8>, line: u32) -> Result<(), AllocError>
+    ensures bytes { OnOk result (out.new.items ≡ out.old.items ++ (1 ∷ short_bytes line)) }
+    ensures fits { IsShort line }
+{
+    out.push(TICK)?;
+    put_short(out, line)
+}
+
+/// An instruction that names a counter, and the number behind it.
+fn put_counting(
+    out: &mut Vec<u8>,
+    first: u8,
+    counter: CounterIndex,
+    number: usize,
+) -> Result<(), AllocError>
+    ensures bytes { OnOk result (out.new.items ≡ out.old.items ++ (first ∷ (count_bytes counter.number ++ count_bytes number))) }
+    ensures fits { IsCount counter.number × IsCount number }
+{
+    out.push(first)?;
+    put_count(out, counter.number)?;
+    put_count(out, number)
+}
+
+fn read_tick(bytes: &[u8]) -> Result<(Instruction, &[u8]), ImageError>
+    ensures { Gives (λ x. (x.0, x.1.now)) fault_of result (tick_at bytes.now) }
+{
+    let (line, rest) = read_short(bytes)?;
+    Ok((Instruction::Tick { line }, rest))
+}
+
+fn read_count_instruction(bytes: &[u8]) -> Result<(Instruction, &[u8]), ImageError>
+    ensures { Gives (λ x. (x.0, x.1.now)) fault_of result (count_instruction_at bytes.now) }
+{
+    let (number, rest) = read_count(bytes)?;
+    let (turns, rest) = read_count(rest)?;
+    let counter = CounterIndex { number };
+    let turns = turns as u64;
+    Ok((Instruction::Count { counter, turns }, rest))
+}
+
+fn read_turn(bytes: &[u8]) -> Result<(Instruction, &[u8]), ImageError>
+    ensures { Gives (λ x. (x.0, x.1.now)) fault_of result (turn_at bytes.now) }
+{
+    let (number, rest) = read_count(bytes)?;
+    let (to, rest) = read_count(rest)?;
+    let counter = CounterIndex { number };
+    Ok((Instruction::Turn { counter, to }, rest))
+}
+
 impl TableEntry for Instruction {
     ghost spelled = { instruction_bytes };
 
@@ -75,59 +133,30 @@ impl TableEntry for Instruction {
 
     fn put(&self, out: &mut Vec<u8>) -> Result<(), AllocError> {
         match *self {
-            Instruction::Tick { line } => {
-                out.push(TICK)?;
-                put_line(out, line)
-            }
-            Instruction::Show { literal } => {
-                out.push(SHOW)?;
-                put_count(out, literal.number)
-            }
-            Instruction::Stop => {
-                out.push(STOP)?;
-                Ok(())
-            }
+            Instruction::Tick { line } => put_tick(out, line),
+            Instruction::Show => Ok(out.push(SHOW)?),
+            Instruction::Stop => Ok(out.push(STOP)?),
             Instruction::Count { counter, turns } => {
-                out.push(COUNT)?;
-                put_count(out, counter.number)?;
-                put_count(out, turns as usize)
+                put_counting(out, COUNT, counter, turns as usize)
             }
-            Instruction::Turn { counter, to } => {
-                out.push(TURN)?;
-                put_count(out, counter.number)?;
-                put_count(out, to)
-            }
+            Instruction::Turn { counter, to } => put_counting(out, TURN, counter, to),
+            Instruction::Data(one) => one.put(out),
         }
     }
 
     #[tactic(auto, unfolding(crate::specs::Reading::instruction_at))]
-    fn read(_alloc: Global, bytes: &[u8]) -> Result<(Instruction, &[u8]), ImageError> {
+    fn read(alloc: Global, bytes: &[u8]) -> Result<(Instruction, &[u8]), ImageError> {
         match bytes {
             [] => Err(ImageError::Refused(ImageFault::Length)),
-            [TICK, rest @ ..] => {
-                let (line, rest) = read_line(rest)?;
-                Ok((Instruction::Tick { line }, rest))
-            }
-            [SHOW, rest @ ..] => {
-                let (number, rest) = read_count(rest)?;
-                let literal = LiteralIndex { number };
-                Ok((Instruction::Show { literal }, rest))
-            }
+            [TICK, rest @ ..] => read_tick(rest),
+            [SHOW, rest @ ..] => Ok((Instruction::Show, rest)),
             [STOP, rest @ ..] => Ok((Instruction::Stop, rest)),
-            [COUNT, rest @ ..] => {
-                let (number, rest) = read_count(rest)?;
-                let (turns, rest) = read_count(rest)?;
-                let counter = CounterIndex { number };
-                let turns = turns as u64;
-                Ok((Instruction::Count { counter, turns }, rest))
+            [COUNT, rest @ ..] => read_count_instruction(rest),
+            [TURN, rest @ ..] => read_turn(rest),
+            [_, ..] => {
+                let (one, rest) = DataInstruction::read(alloc, bytes)?;
+                Ok((Instruction::Data(one), rest))
             }
-            [TURN, rest @ ..] => {
-                let (number, rest) = read_count(rest)?;
-                let (to, rest) = read_count(rest)?;
-                let counter = CounterIndex { number };
-                Ok((Instruction::Turn { counter, to }, rest))
-            }
-            [_, ..] => Err(ImageError::Refused(ImageFault::Value)),
         }
     }
 }

@@ -4,22 +4,18 @@
 
 mod code;
 mod counter;
-mod fault;
 mod instruction;
+mod known;
 mod laws;
-mod literal;
-mod number;
 mod reading;
-mod table;
 mod verified;
 mod writing;
 
 pub use code::Code;
 pub use counter::CounterIndex;
-pub use fault::{ImageError, ImageFault};
+pub use image_tables::{ImageError, ImageFault};
 pub use instruction::Instruction;
 pub use laws::{run_law, spelling_law};
-pub use literal::LiteralIndex;
 pub use reading::from_bytes;
 pub use verified::{Verified, verify};
 pub use writing::to_bytes;

@@ -2,16 +2,14 @@
 
 ghost use Rattle.std.specs.Prelude.{◌≡◌, Ok, IfOk};
 ghost use Rattle.answers.specs.Answer.{Gives};
+ghost use Rattle.image_tables.specs.Faults.{fault_of};
 ghost use Rattle.code_image.specs.declared.code.Code.{Code};
-ghost use Rattle.code_image.specs.Faults.{fault_of};
 ghost use Rattle.code_image.specs.Spelling.{spelling, HasSpelling};
-ghost use Rattle.code_image.specs.Reading.{after_mark, after_none, after_none_twice, code_at};
+ghost use Rattle.code_image.specs.Reading.{after_mark, code_at};
 
 use crate::code::Code;
-use crate::fault::{ImageError, ImageFault};
-use crate::number::read_count;
-use crate::table::read_table;
 use crate::writing::MARK;
+use image_tables::{ImageError, ImageFault, read_table, read_tables};
 use std::alloc::Global;
 
 #[tactic(auto, unfolding(crate::specs::Reading::after_mark))]
@@ -24,47 +22,26 @@ fn skip_mark(bytes: &[u8]) -> Result<&[u8], ImageError>
     Ok(&bytes[MARK.len()..])
 }
 
-// A table of a kind that no instruction uses yet is empty.
-#[tactic(auto, unfolding(crate::specs::Reading::after_none))]
-fn skip_none(bytes: &[u8]) -> Result<&[u8], ImageError>
-    ensures { Gives (λ x. x.now) fault_of result (after_none bytes.now) }
-{
-    let (count, rest) = read_count(bytes)?;
-    if count != 0 {
-        return Err(ImageError::Refused(ImageFault::Value));
-    }
-    Ok(rest)
-}
-
-#[tactic(auto, unfolding(crate::specs::Reading::after_none_twice))]
-fn skip_none_twice(bytes: &[u8]) -> Result<&[u8], ImageError>
-    ensures { Gives (λ x. x.now) fault_of result (after_none_twice bytes.now) }
-{
-    let rest = skip_none(bytes)?;
-    skip_none(rest)
-}
-
 #[tactic(auto, unfolding(crate::specs::Reading::code_at))]
 fn read_code(alloc: Global, bytes: &[u8]) -> Result<Code, ImageError>
     ensures { Gives (λ code. code) fault_of result (code_at bytes.now) }
 {
     let rest = skip_mark(bytes)?;
-    let rest = skip_none_twice(rest)?;
-    let (literals, rest) = read_table(alloc, rest)?;
-    let rest = skip_none_twice(rest)?;
+    let (tables, rest) = read_tables(alloc, rest)?;
     let (starts, rest) = read_table(alloc, rest)?;
     let (instructions, rest) = read_table(alloc, rest)?;
     if !rest.is_empty() {
         return Err(ImageError::Refused(ImageFault::Length));
     }
     Ok(Code {
-        literals,
+        tables,
         starts,
         instructions,
     })
 }
 
-/// The code whose spelling the bytes are.
+/// The code whose spelling the bytes are. The first fault from the left refuses them: 70 where the first eight bytes aren't the
+/// mark, 71 where the bytes end too soon or go on after the code, 72 at a value that isn't possible.
 pub fn from_bytes(alloc: Global, bytes: &[u8]) -> Result<Code, ImageError>
     // The bytes are the spelling of what is read.
     ensures found { IfOk result (λ code. bytes.now ≡ spelling code) }

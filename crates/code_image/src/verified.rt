@@ -2,11 +2,15 @@
 
 ghost use Rattle.std.specs.Prelude.{◌≡◌, ◌-◌, ◌↔◌, IsTrue, All, length, slice_get, Some, IfOk, IfErr};
 ghost use Rattle.code_image.specs.declared.instruction.Instruction.TheVariants.{Stop};
-ghost use Rattle.code_image.specs.Demands.{IsVerified, Refuses, NamesLiteral, NamesCounter, IsAddress, IsTick, LeadsBack, LeadBackToTicks};
+ghost use Rattle.code_image.specs.Demands.{IsVerified, IsWithin, HasShape, Blames, NamesData, NamesCounter, IsAddress, IsTick, LeadsBack, LeadBackToTicks};
+ghost use Rattle.image_tables.specs.Faults.{fault_of};
 
 use crate::code::Code;
-use crate::fault::ImageFault;
 use crate::instruction::Instruction;
+use crate::known::find_operands;
+use data_instructions::DataTables;
+use image_tables::{ImageError, ImageFault};
+use std::alloc::{AllocError, Global};
 use std::marker::Model;
 
 /// Code that meets the demands of a machine.
@@ -35,11 +39,11 @@ impl Verified {
     }
 }
 
-fn name_literals(instructions: &[Instruction], count: usize) -> bool
-    ensures { IsTrue result ↔ All (NamesLiteral count) instructions.now }
+fn name_data(instructions: &[Instruction], tables: &DataTables) -> bool
+    ensures { IsTrue result ↔ All (NamesData tables.now) instructions.now }
 {
     for instruction in instructions {
-        if !instruction.names_literal(count) {
+        if !instruction.names_data(tables) {
             return false;
         }
     }
@@ -101,29 +105,43 @@ fn stops_last(instructions: &[Instruction]) -> bool
     matches!(instructions.last(), Some(Instruction::Stop))
 }
 
-/// Tests that a machine can run the code: each literal that it shows, each counter and each start of a paragraph is an
-/// index in its table; each way back leads to a `tick` before it, and `stop` comes last. 73 where one of the first three
-/// demands is broken, or else 74 where one of the others is.
-pub fn verify(code: Code) -> Result<Verified, ImageFault>
-    ensures value { IfOk result (λ verified. verified ≡ code) }
-    ensures verified { IfOk result (λ _. IsVerified code) }
-    ensures refused { IfErr result (Refuses code) }
+/// Each entry that instructions name, each counter and each start of a paragraph is in its table.
+fn is_within(code: &Code) -> bool
+    ensures { IsTrue result ↔ IsWithin code.now }
 {
     let instructions = code.instructions.as_slice();
-    if !name_literals(instructions, code.literals.len()) {
-        return Err(ImageFault::Index);
+    name_data(instructions, &code.tables)
+        && name_counters(instructions, instructions.len())
+        && are_addresses(code.starts.as_slice(), instructions.len())
+}
+
+/// Each way back leads to a `tick` before it, `stop` comes last, and each instruction finds what it needs.
+fn has_shape(alloc: Global, code: &Code) -> Result<bool, AllocError>
+    ensures { IfOk result (λ has. IsTrue has ↔ HasShape code.now) }
+{
+    let instructions = code.instructions.as_slice();
+    if !lead_back_to_ticks(instructions) || !stops_last(instructions) {
+        return Ok(false);
     }
-    if !name_counters(instructions, instructions.len()) {
-        return Err(ImageFault::Index);
+    find_operands(alloc, code)
+}
+
+/// Tests that a machine can run the code: its tables are in order, else 72; each entry that it names, each counter and each
+/// start of a paragraph is an index in its table, else 73; each way back leads to a `tick` before it, `stop` comes last, and
+/// each instruction finds what it needs on the stacks, else 74.
+pub fn verify(alloc: Global, code: Code) -> Result<Verified, ImageError>
+    ensures value { IfOk result (λ verified. verified ≡ code) }
+    ensures verified { IfOk result (λ _. IsVerified code) }
+    ensures refused { IfErr result (λ e. Blames code (fault_of e)) }
+{
+    if !code.tables.are_in_order() {
+        return Err(ImageError::Refused(ImageFault::Value));
     }
-    if !are_addresses(code.starts.as_slice(), instructions.len()) {
-        return Err(ImageFault::Index);
+    if !is_within(&code) {
+        return Err(ImageError::Refused(ImageFault::Index));
     }
-    if !lead_back_to_ticks(instructions) {
-        return Err(ImageFault::Shape);
-    }
-    if !stops_last(instructions) {
-        return Err(ImageFault::Shape);
+    if !has_shape(alloc, &code)? {
+        return Err(ImageError::Refused(ImageFault::Shape));
     }
     Ok(Verified { code })
 }

@@ -13,7 +13,9 @@ use Rattle.source_tree.specs.declared.statement.Statement.TheOpen.{Statement-F}
 use Rattle.source_tree.specs.declared.statement.Statement.TheFolds.{map-Statement, fold_out-Statement, fold-roll-Statement}
 use Rattle.code_image.specs.declared.code.Code.{Code}
 use Rattle.source_tree.specs.Performing.{turns_of}
-use Rattle.codegen.specs.Layout.{Piece, joined, in_order, tick_piece, loop_begin, loop_end, times_piece, turns_piece, verb_piece, statement_layer, statement_piece}
+use Rattle.source_tree.specs.Places.{Placed}
+use Rattle.codegen.specs.Pieces.{Piece, joined, in_order}
+use Rattle.codegen.specs.Layout.{tick_piece, loop_begin, loop_end, times_piece, turns_piece, verb_piece, statement_layer, statement_piece}
 
 -- turns of pieces that are the same
 module _ (line : ℕ) (body other : Piece) (same : (before : Code) → body before ≡ other before) where
@@ -27,33 +29,34 @@ module _ (line : ℕ) (body other : Piece) (same : (before : Code) → body befo
   turns_map Once before = same before
   turns_map (Times count) before = times_map (turns_of count) before
 
-module _ {A B : Type 0} (f : A → B) (g : B → Piece) where
+module _ (items : List Placed) {A B : Type 0} (f : A → B) (g : B → Piece) where
   in_order_map : (all : List A) (before : Code) → in_order g (map f all) before ≡ in_order (λ a. g (f a)) all before
   in_order_map [] before = refl
   in_order_map (one ∷ more) before = ap (joined (g (f one) before)) (in_order_map more (joined before (g (f one) before)))
 
   performing_map : (place : Place) (often : Turns) (what : Performed A) (before : Code)
-      → verb_piece g place.line (map-Statement A B f (record { place = place; verb = verb.Performing (record { performed = what; turns = often }) })).verb before
-      ≡ verb_piece (λ a. g (f a)) place.line (verb.Performing (record { performed = what; turns = often })) before
+      → verb_piece items g place.line (map-Statement A B f (record { place = place; verb = verb.Performing (record { performed = what; turns = often }) })).verb before
+      ≡ verb_piece items (λ a. g (f a)) place.line (verb.Performing (record { performed = what; turns = often })) before
   performing_map place often (Statements inside) before =
       ap (joined (tick_piece place.line before))
       (turns_map place.line (in_order g (map f inside)) (in_order (λ a. g (f a)) inside) (in_order_map inside) often (joined before (tick_piece place.line before)))
 
   pub verb_map : (place : Place) (one : Verb A) (before : Code)
-      → verb_piece g place.line (map-Statement A B f (record { place = place; verb = one })).verb before ≡ verb_piece (λ a. g (f a)) place.line one before
+      → verb_piece items g place.line (map-Statement A B f (record { place = place; verb = one })).verb before ≡ verb_piece items (λ a. g (f a)) place.line one before
+  verb_map place (verb.Moving one) before = refl
   verb_map place (verb.Performing one) before = performing_map place one.turns one.performed before
   verb_map place (verb.Text one) before = refl
   verb_map place (verb.Ending one) before = refl
 
 -- one layer of a statement's code
-pub statement_is : (one : Statement) (before : Code) → statement_piece one before ≡ verb_piece statement_piece (out-Statement one).place.line (out-Statement one).verb before
+pub statement_is : (items : List Placed) (one : Statement) (before : Code) → statement_piece items one before ≡ verb_piece items (statement_piece items) (out-Statement one).place.line (out-Statement one).verb before
 unfolding statement_piece
-statement_is one before =
-    ap (λ (p : Piece). p before) (fold_out-Statement Piece statement_layer one)
-    ∙ verb_map statement_piece (λ (p : Piece). p) (out-Statement one).place (out-Statement one).verb before
+statement_is items one before =
+    ap (λ (p : Piece). p before) (fold_out-Statement Piece (statement_layer items) one)
+    ∙ verb_map items (statement_piece items) (λ (p : Piece). p) (out-Statement one).place (out-Statement one).verb before
 
-pub rolled_is : (l : Statement-F Statement) (before : Code) → statement_piece (roll-Statement l) before ≡ verb_piece statement_piece l.place.line l.verb before
+pub rolled_is : (items : List Placed) (l : Statement-F Statement) (before : Code) → statement_piece items (roll-Statement l) before ≡ verb_piece items (statement_piece items) l.place.line l.verb before
 unfolding statement_piece
-rolled_is l before =
-    ap (λ (p : Piece). p before) (fold-roll-Statement Piece statement_layer l)
-    ∙ verb_map statement_piece (λ (p : Piece). p) l.place l.verb before
+rolled_is items l before =
+    ap (λ (p : Piece). p before) (fold-roll-Statement Piece (statement_layer items) l)
+    ∙ verb_map items (statement_piece items) (λ (p : Piece). p) l.place l.verb before

@@ -1,21 +1,39 @@
 -- Pieces of code one after the other.
 use Rattle.std.proofs.Common.{◌≡◌, ℕ, ◌+◌, ◌<◌, ◌≤◌, List, [], ◌∷◌, ◌++◌, length, drop, get_or, refl, sym, ap, ◌∙◌, append_assoc}
 use Rattle.std.proofs.lemmas.List.{append-nil, drop_more, drop_all}
+use Rattle.decimal18.specs.Fraction.{Fraction}
 use Rattle.source_tree.specs.declared.program.Section.{Section}
 use Rattle.source_tree.specs.Meaning.{paragraphs_in}
+use Rattle.source_tree.specs.Places.{Placed}
+use Rattle.data_instructions.specs.declared.tables.DataItem.{DataItem}
+use Rattle.data_instructions.specs.declared.tables.LiteralSender.{LiteralSender}
+use Rattle.data_instructions.specs.declared.tables.DataTables.{DataTables}
 use Rattle.code_image.specs.declared.code.Code.{Code}
 use Rattle.code_image.specs.declared.instruction.Instruction.{Instruction}
-use Rattle.codegen.specs.Layout.{Piece, nothing, joined, in_order, paragraph_piece, section_piece}
+use Rattle.codegen.specs.Pieces.{Piece, no_tables, nothing, joined_tables, joined, both, in_order}
+use Rattle.codegen.specs.Layout.{paragraph_piece, section_piece}
 
-made_same : (l m : List (List ℕ)) (s t : List ℕ) (i j : List Instruction) → l ≡ m → s ≡ t → i ≡ j
-    → (let a : Code = record { literals = l; starts = s; instructions = i } in let b : Code = record { literals = m; starts = t; instructions = j } in a ≡ b)
-made_same l m s t i j p q r = cc
+made_tables : (a b : List (List ℕ)) (c d : List DataItem) (e f : List Fraction) (g h : List LiteralSender) (i j : List (List ℕ)) → a ≡ b → c ≡ d → e ≡ f → g ≡ h → i ≡ j
+    → (let x : DataTables = record { areas = a; items = c; numbers = e; senders = g; texts = i } in let y : DataTables = record { areas = b; items = d; numbers = f; senders = h; texts = j } in x ≡ y)
+made_tables a b c d e f g h i j p q r s t = cc
+
+made_code : (a b : DataTables) (s t : List ℕ) (i j : List Instruction) → a ≡ b → s ≡ t → i ≡ j
+    → (let x : Code = record { tables = a; starts = s; instructions = i } in let y : Code = record { tables = b; starts = t; instructions = j } in x ≡ y)
+made_code a b s t i j p q r = cc
+
+pub tables_assoc : (a b c : DataTables) → joined_tables (joined_tables a b) c ≡ joined_tables a (joined_tables b c)
+tables_assoc a b c =
+    made_tables _ _ _ _ _ _ _ _ _ _ (append_assoc a.areas b.areas c.areas) (append_assoc a.items b.items c.items) (append_assoc a.numbers b.numbers c.numbers)
+    (append_assoc a.senders b.senders c.senders) (append_assoc a.texts b.texts c.texts)
+
+pub tables_nothing : (a : DataTables) → joined_tables a no_tables ≡ a
+tables_nothing a = made_tables _ _ _ _ _ _ _ _ _ _ (append-nil a.areas) (append-nil a.items) (append-nil a.numbers) (append-nil a.senders) (append-nil a.texts)
 
 pub joined_assoc : (a b c : Code) → joined (joined a b) c ≡ joined a (joined b c)
-joined_assoc a b c = made_same _ _ _ _ _ _ (append_assoc a.literals b.literals c.literals) (append_assoc a.starts b.starts c.starts) (append_assoc a.instructions b.instructions c.instructions)
+joined_assoc a b c = made_code _ _ _ _ _ _ (tables_assoc a.tables b.tables c.tables) (append_assoc a.starts b.starts c.starts) (append_assoc a.instructions b.instructions c.instructions)
 
 pub joined_nothing : (a : Code) → joined a nothing ≡ a
-joined_nothing a = made_same _ _ _ _ _ _ (append-nil a.literals) (append-nil a.starts) (append-nil a.instructions)
+joined_nothing a = made_code _ _ _ _ _ _ (tables_nothing a.tables) (append-nil a.starts) (append-nil a.instructions)
 
 -- what is there, with what is still to come, is the whole
 module _ {A : Type 0} (piece : A → Piece) where
@@ -41,9 +59,13 @@ module _ {A : Type 0} (piece : A → Piece) where
       ap (joined one) (in_order-append xs ys (joined before one) ∙ ap (λ (c : Code). joined more (in_order piece ys c)) (joined_assoc before one more))
       ∙ sym (joined_assoc one more (in_order piece ys (joined before (joined one more))))
 
+-- one piece after another, behind code that has the first already
+pub both_joined : (first second : Piece) (before : Code) → joined before (both first second before) ≡ joined (joined before (first before)) (second (joined before (first before)))
+both_joined first second before = sym (joined_assoc before (first before) (second (joined before (first before))))
+
 -- sections one after the other are their paragraphs
-pub flat : (sections : List Section) (before : Code) → in_order section_piece sections before ≡ in_order paragraph_piece (paragraphs_in sections) before
-flat [] before = refl
-flat (one ∷ more) before =
-    let first = section_piece one before in
-    ap (joined first) (flat more (joined before first)) ∙ sym (in_order-append paragraph_piece one.paragraphs (paragraphs_in more) before)
+pub flat : (items : List Placed) (sections : List Section) (before : Code) → in_order (section_piece items) sections before ≡ in_order (paragraph_piece items) (paragraphs_in sections) before
+flat items [] before = refl
+flat items (one ∷ more) before =
+    let first = section_piece items one before in
+    ap (joined first) (flat items more (joined before first)) ∙ sym (in_order-append (paragraph_piece items) one.paragraphs (paragraphs_in more) before)

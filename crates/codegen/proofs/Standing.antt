@@ -1,11 +1,15 @@
 -- A part that stands in a whole code.
-use Rattle.std.proofs.Common.{◌≡◌, ℕ, ◌+◌, List, [], ◌∷◌, ◌++◌, length, Some, sym, ap, ◌∙◌, append_assoc, length-append, arith}
+use Rattle.std.proofs.Common.{◌≡◌, ℕ, zero, suc, ◌+◌, List, [], ◌∷◌, ◌++◌, length, map, Some, refl, sym, ap, subst, ◌∙◌, append_assoc, length-append, arith}
 use Rattle.std.specs.Prelude.{slice_get}
 use Rattle.std.proofs.Math.Seq.{get_or-append_seam}
 use Rattle.std.proofs.lemmas.Option.{slice_get-get_or}
+use Rattle.decimal18.specs.Fraction.{Fraction}
+use Rattle.data_instructions.specs.declared.tables.LiteralSender.{LiteralSender}
+use Rattle.data_instructions.specs.declared.instruction.DataInstruction.{DataInstruction}
 use Rattle.code_image.specs.declared.code.Code.{Code}
 use Rattle.code_image.specs.declared.instruction.Instruction.{Instruction}
-use Rattle.codegen.specs.Layout.{joined}
+use Rattle.code_image.specs.declared.instruction.Instruction.TheVariants.{Data}
+use Rattle.codegen.specs.Pieces.{joined}
 use Rattle.codegen.proofs.Pieces.{joined_assoc}
 
 -- The part stands in the whole right after the code before it.
@@ -22,13 +26,16 @@ back whole before a b st = record { rest = st.rest; is = st.is ∙ ap (λ (c : C
 pub at_seam : {A : Type 0} (pre : List A) (x : A) (post : List A) → slice_get (pre ++ x ∷ post) (length pre) ≡ Some x
 at_seam pre x post = slice_get-get_or (pre ++ x ∷ post) (length pre) x (omega (arith, length-append pre (x ∷ post))) ∙ ap Some (get_or-append_seam pre x post x)
 
--- what stands first in the part, and second
+-- what stands first in a part, and second
+in_part : {A : Type 0} (whole pre part rest more : List A) (x : A) → whole ≡ (pre ++ part) ++ rest → part ≡ x ∷ more → slice_get whole (length pre) ≡ Some x
+in_part whole pre part rest more x is first =
+    ap (λ l. slice_get l (length pre)) is
+    ∙ ap (λ l. slice_get ((pre ++ l) ++ rest) (length pre)) first
+    ∙ ap (λ l. slice_get l (length pre)) (append_assoc pre (x ∷ more) rest)
+    ∙ at_seam pre x (more ++ rest)
+
 pub first_stands : (whole before part : Code) (one : Instruction) (more : List Instruction) → part.instructions ≡ one ∷ more → Stands whole before part → slice_get whole.instructions (length before.instructions) ≡ Some one
-first_stands whole before part one more is st =
-    ap (λ (c : Code). slice_get c.instructions (length before.instructions)) st.is
-    ∙ ap (λ (l : List Instruction). slice_get ((before.instructions ++ l) ++ st.rest.instructions) (length before.instructions)) is
-    ∙ ap (λ (l : List Instruction). slice_get l (length before.instructions)) (append_assoc before.instructions (one ∷ more) st.rest.instructions)
-    ∙ at_seam before.instructions one (more ++ st.rest.instructions)
+first_stands whole before part one more is st = in_part whole.instructions before.instructions part.instructions st.rest.instructions more one (ap (λ (c : Code). c.instructions) st.is) is
 
 pub second_stands : (whole before part : Code) (one two : Instruction) (more : List Instruction) → part.instructions ≡ one ∷ two ∷ more → Stands whole before part → slice_get whole.instructions (length before.instructions + 1) ≡ Some two
 second_stands whole before part one two more is st =
@@ -41,9 +48,41 @@ second_stands whole before part one two more is st =
     ∙ sym (append_assoc before.instructions (one ∷ []) (two ∷ (more ++ st.rest.instructions))) in
     ap (slice_get whole.instructions) n ∙ ap (λ (l : List Instruction). slice_get l (length pre)) same ∙ at_seam pre two (more ++ st.rest.instructions)
 
-pub literal_stands : (whole before part : Code) (bytes : List ℕ) (more : List (List ℕ)) → part.literals ≡ bytes ∷ more → Stands whole before part → slice_get whole.literals (length before.literals) ≡ Some bytes
-literal_stands whole before part bytes more is st =
-    ap (λ (c : Code). slice_get c.literals (length before.literals)) st.is
-    ∙ ap (λ (l : List (List ℕ)). slice_get ((before.literals ++ l) ++ st.rest.literals) (length before.literals)) is
-    ∙ ap (λ (l : List (List ℕ)). slice_get l (length before.literals)) (append_assoc before.literals (bytes ∷ more) st.rest.literals)
-    ∙ at_seam before.literals bytes (more ++ st.rest.literals)
+-- the first entry that a part adds to a table
+pub number_stands : (whole before part : Code) (x : Fraction) (more : List Fraction) → part.tables.numbers ≡ x ∷ more → Stands whole before part → slice_get whole.tables.numbers (length before.tables.numbers) ≡ Some x
+number_stands whole before part x more is st = in_part whole.tables.numbers before.tables.numbers part.tables.numbers st.rest.tables.numbers more x (ap (λ (c : Code). c.tables.numbers) st.is) is
+
+pub sender_stands : (whole before part : Code) (x : LiteralSender) (more : List LiteralSender) → part.tables.senders ≡ x ∷ more → Stands whole before part → slice_get whole.tables.senders (length before.tables.senders) ≡ Some x
+sender_stands whole before part x more is st = in_part whole.tables.senders before.tables.senders part.tables.senders st.rest.tables.senders more x (ap (λ (c : Code). c.tables.senders) st.is) is
+
+pub text_stands : (whole before part : Code) (x : List ℕ) (more : List (List ℕ)) → part.tables.texts ≡ x ∷ more → Stands whole before part → slice_get whole.tables.texts (length before.tables.texts) ≡ Some x
+text_stands whole before part x more is st = in_part whole.tables.texts before.tables.texts part.tables.texts st.rest.tables.texts more x (ap (λ (c : Code). c.tables.texts) st.is) is
+
+-- Instructions on data stand at an address.
+pub record CodeStands (whole : Code) (address : ℕ) (code : List DataInstruction) : Type 0 where
+  pub pre : List Instruction
+  pub post : List Instruction
+  pub is : whole.instructions ≡ pre ++ (map Data code ++ post)
+  pub at : length pre ≡ address
+
+pub code_stands : (whole before part : Code) (code : List DataInstruction) → part.instructions ≡ map Data code → Stands whole before part → CodeStands whole (length before.instructions) code
+code_stands whole before part code is st = record {
+  pre = before.instructions;
+  post = st.rest.instructions;
+  is = ap (λ (c : Code). c.instructions) st.is
+      ∙ append_assoc before.instructions part.instructions st.rest.instructions
+      ∙ ap (λ (l : List Instruction). before.instructions ++ (l ++ st.rest.instructions)) is;
+  at = refl;
+}
+
+pub code_here : (whole : Code) (address : ℕ) (one : DataInstruction) (more : List DataInstruction) → CodeStands whole address (one ∷ more) → slice_get whole.instructions address ≡ Some (Data one)
+code_here whole address one more st =
+    ap (slice_get whole.instructions) (sym st.at) ∙ ap (λ (l : List Instruction). slice_get l (length st.pre)) st.is ∙ at_seam st.pre (Data one) (map Data more ++ st.post)
+
+pub code_next : (whole : Code) (address : ℕ) (one : DataInstruction) (more : List DataInstruction) → CodeStands whole address (one ∷ more) → CodeStands whole (address + 1) more
+code_next whole address one more st = record {
+  pre = st.pre ++ Data one ∷ [];
+  post = st.post;
+  is = st.is ∙ sym (append_assoc st.pre (Data one ∷ []) (map Data more ++ st.post));
+  at = omega (arith, length-append st.pre (Data one ∷ []), st.at);
+}

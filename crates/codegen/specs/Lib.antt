@@ -1,1 +1,3 @@
+pub mod Pieces
+pub mod DataCode
 pub mod Layout

@@ -1,9 +1,10 @@
-//! The bytes that a DISPLAY shows.
+//! The bytes that a DISPLAY shows of literals.
 
-ghost use Rattle.std.specs.Prelude.{◌≡◌, ◌++◌, OnOk, IfOk};
-ghost use Rattle.source_tree.specs.Display.{shown_sign, shown_decimals, shown_number, figurative_byte, shown_literal, shown_operands, shown_display};
+ghost use Rattle.std.specs.Prelude.{◌≡◌, ◌++◌, true, OnOk, IfOk};
+ghost use Rattle.source_tree.specs.Display.{shown_sign, shown_decimals, shown_number, figurative_byte, shown_literal};
+ghost use Rattle.source_tree.specs.Display as spec;
 
-use source_tree::{Figurative, Literal, LiteralValue, NumericLiteral, Sign};
+use source_tree::{Figurative, LiteralValue, NumericLiteral, Sign};
 use sqlite_items::Items;
 use std::alloc::{AllocError, Global};
 
@@ -70,27 +71,18 @@ fn put_literal(out: &mut Vec<u8>, value: &LiteralValue) -> Result<(), AllocError
     }
 }
 
-fn put_operands(out: &mut Vec<u8>, operands: &[Literal]) -> Result<(), AllocError>
-    ensures { OnOk result (out.new.items ≡ out.old.items ++ shown_operands operands.now) }
-{
-    for operand in operands {
-        put_literal(out, &operand.value)?;
-    }
-    Ok(())
-}
-
-/// All that a DISPLAY shows, with the end of its line where it ends one.
-pub(crate) fn display_bytes(
-    alloc: Global,
-    operands: &[Literal],
-    advancing: bool,
-) -> Result<Items<u8>, AllocError>
-    ensures { IfOk result (λ bytes. bytes ≡ shown_display operands.now advancing) }
+/// What a DISPLAY shows of a literal.
+pub(crate) fn literal_text(alloc: Global, value: &LiteralValue) -> Result<Items<u8>, AllocError>
+    ensures { IfOk result (λ bytes. bytes ≡ shown_literal value.now) }
 {
     let mut out = Vec::new(alloc);
-    put_operands(&mut out, operands)?;
-    if advancing {
-        out.push(LINE_FEED)?;
-    }
+    put_literal(&mut out, value)?;
     Ok(Items::from_vec(out))
+}
+
+/// The end of a line that is shown.
+pub(crate) fn line_end(alloc: Global) -> Result<Items<u8>, AllocError>
+    ensures { IfOk result (λ bytes. bytes ≡ spec.line_end true) }
+{
+    Items::from_slice(alloc, &[LINE_FEED])
 }

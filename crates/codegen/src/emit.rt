@@ -1,46 +1,20 @@
 //! The code of each part of a program, added to the code that stands before it.
 
-ghost use Rattle.std.specs.Prelude.{◌≡◌, ◌+◌, length, OnOk, IfOk};
-ghost use Rattle.source_tree.specs.Display.{shown_display};
+ghost use Rattle.std.specs.Prelude.{◌≡◌, ◌+◌, [], length, OnOk, IfOk};
+ghost use Rattle.source_tree.specs.Broken.{each};
+ghost use Rattle.source_tree.specs.Rules as rules;
 ghost use Rattle.source_tree.specs.Performing.{turns_of};
-ghost use Rattle.codegen.specs.Layout.{joined, display_piece, text_piece, stop_run_piece, tick_piece, loop_begin, loop_end, times_piece, turns_piece, performing_piece, statement_piece, sentence_piece, start_piece, paragraph_piece, section_piece, in_order, end_piece};
+ghost use Rattle.check_rules.specs.Named.{IsDeclared, items_in};
+ghost use Rattle.codegen.specs.Pieces.{joined, both, in_order};
+ghost use Rattle.codegen.specs.Layout.{moving_piece, texts_piece, stop_run_piece, tick_piece, ending_piece, loop_begin, loop_end, times_piece, performing_piece, statement_piece, sentence_piece, start_piece, paragraph_piece, section_piece, end_piece};
 
-use crate::display::display_bytes;
-use code_image::{Code, CounterIndex, Instruction, LiteralIndex};
+use crate::emitter::Emitter;
+use code_image::{Code, CounterIndex, Instruction};
 use source_tree::{
-    Ending, Integer, Literal, Paragraph, Performed, Performing, Section, Sentence, Statement, Text,
+    Ending, Integer, Moving, Paragraph, Performed, Performing, Section, Sentence, Statement, Text,
     Turns, Verb,
 };
-use std::alloc::{AllocError, Global};
-
-fn emit_display(
-    alloc: Global,
-    code: &mut Code,
-    line: u32,
-    operands: &[Literal],
-    advancing: bool,
-) -> Result<(), AllocError>
-    ensures { OnOk result (code.new ≡ joined code.old (display_piece line (shown_display operands.now advancing) code.old)) }
-{
-    let number = code.literals.len();
-    let bytes = display_bytes(alloc, operands, advancing)?;
-    code.literals.push(bytes)?;
-    code.instructions.push(Instruction::Tick { line })?;
-    let literal = LiteralIndex { number };
-    code.instructions.push(Instruction::Show { literal })?;
-    Ok(())
-}
-
-fn emit_text(alloc: Global, code: &mut Code, line: u32, text: &Text) -> Result<(), AllocError>
-    ensures { OnOk result (code.new ≡ joined code.old (text_piece line text.now code.old)) }
-{
-    match text {
-        Text::Display {
-            operands,
-            advancing,
-        } => emit_display(alloc, code, line, operands.as_slice(), *advancing),
-    }
-}
+use std::alloc::AllocError;
 
 fn emit_stop_run(code: &mut Code, line: u32) -> Result<(), AllocError>
     ensures { OnOk result (code.new ≡ joined code.old (stop_run_piece line code.old)) }
@@ -96,88 +70,13 @@ fn emit_loop_end(code: &mut Code, begin: usize, turn: usize) -> Result<(), Alloc
     Ok(())
 }
 
-#[cycle(statement)]
-#[tactic(auto, using(crate::proofs::Layers::statement_is))]
-fn emit_statement(alloc: Global, code: &mut Code, statement: &Statement) -> Result<(), AllocError>
-    ensures { OnOk result (code.new ≡ joined code.old (statement_piece statement.now code.old)) }
+fn emit_ending(code: &mut Code, line: u32, one: Ending) -> Result<(), AllocError>
+    ensures { OnOk result (code.new ≡ joined code.old (ending_piece line one code.old)) }
 {
-    let line = statement.place.line;
-    match &statement.verb {
-        Verb::Performing(
-            Performing {
-                performed: Performed::Statements(inside),
-                turns,
-            },
-        ) => emit_performing(alloc, code, line, turns, inside.as_slice()),
-        Verb::Text(text) => emit_text(alloc, code, line, text),
-        Verb::Ending(Ending::StopRun) => emit_stop_run(code, line),
-        Verb::Ending(Ending::Continue) => emit_tick(code, line),
+    match one {
+        Ending::StopRun => emit_stop_run(code, line),
+        Ending::Continue => emit_tick(code, line),
     }
-}
-
-#[cycle(statement)]
-fn emit_performing(
-    alloc: Global,
-    code: &mut Code,
-    line: u32,
-    turns: &Turns,
-    inside: &[Statement],
-) -> Result<(), AllocError>
-    ensures { OnOk result (code.new ≡ joined code.old (performing_piece statement_piece line (record { performed = Performed.Statements inside.now; turns = turns.now }) code.old)) }
-{
-    emit_tick(code, line)?;
-    match turns {
-        Turns::Once => emit_statements(alloc, code, inside),
-        Turns::Times(count) => emit_times(alloc, code, line, count_of(count), inside),
-    }
-}
-
-#[cycle(statement)]
-fn emit_times(
-    alloc: Global,
-    code: &mut Code,
-    line: u32,
-    count: u64,
-    inside: &[Statement],
-) -> Result<(), AllocError>
-    ensures { OnOk result (code.new ≡ joined code.old (times_piece line count (in_order statement_piece inside.now) code.old)) }
-{
-    if count == 0 {
-        return Ok(());
-    }
-    let begin = code.instructions.len();
-    let turn = emit_loop_begin(code, line, count - 1)?;
-    emit_statements(alloc, code, inside)?;
-    emit_loop_end(code, begin, turn)
-}
-
-#[cycle(statement)]
-fn emit_statements(
-    alloc: Global,
-    code: &mut Code,
-    statements: &[Statement],
-) -> Result<(), AllocError>
-    ensures { OnOk result (code.new ≡ joined code.old (in_order statement_piece statements.now code.old)) }
-{
-    for statement in statements {
-        emit_statement(alloc, code, statement)?;
-    }
-    Ok(())
-}
-
-fn emit_sentence(alloc: Global, code: &mut Code, sentence: &Sentence) -> Result<(), AllocError>
-    ensures { OnOk result (code.new ≡ joined code.old (sentence_piece sentence.now code.old)) }
-{
-    emit_statements(alloc, code, sentence.statements.as_slice())
-}
-
-fn emit_sentences(alloc: Global, code: &mut Code, sentences: &[Sentence]) -> Result<(), AllocError>
-    ensures { OnOk result (code.new ≡ joined code.old (in_order sentence_piece sentences.now code.old)) }
-{
-    for sentence in sentences {
-        emit_sentence(alloc, code, sentence)?;
-    }
-    Ok(())
 }
 
 fn emit_start(code: &mut Code) -> Result<(), AllocError>
@@ -188,39 +87,175 @@ fn emit_start(code: &mut Code) -> Result<(), AllocError>
     Ok(())
 }
 
-fn emit_paragraph(alloc: Global, code: &mut Code, paragraph: &Paragraph) -> Result<(), AllocError>
-    ensures { OnOk result (code.new ≡ joined code.old (paragraph_piece paragraph.now code.old)) }
-{
-    emit_start(code)?;
-    emit_sentences(alloc, code, paragraph.sentences.as_slice())
-}
-
-fn emit_section(alloc: Global, code: &mut Code, section: &Section) -> Result<(), AllocError>
-    ensures { OnOk result (code.new ≡ joined code.old (section_piece section.now code.old)) }
-{
-    for paragraph in section.paragraphs.as_slice() {
-        emit_paragraph(alloc, code, paragraph)?;
-    }
-    Ok(())
-}
-
-pub(crate) fn emit_sections(
-    alloc: Global,
-    code: &mut Code,
-    sections: &[Section],
-) -> Result<(), AllocError>
-    ensures { OnOk result (code.new ≡ joined code.old (in_order section_piece sections.now code.old)) }
-{
-    for section in sections {
-        emit_section(alloc, code, section)?;
-    }
-    Ok(())
-}
-
 // The end of the last paragraph.
 pub(crate) fn emit_end(code: &mut Code) -> Result<(), AllocError>
     ensures { OnOk result (code.new ≡ joined code.old end_piece) }
 {
     code.instructions.push(Instruction::Stop)?;
     Ok(())
+}
+
+impl<'a> Emitter<'a> {
+    /// A statement that moves, with its `tick`.
+    fn emit_moving(&self, code: &mut Code, line: u32, one: &Moving) -> Result<(), AllocError>
+        requires declared { IsDeclared self.now.declarations.now }
+        requires rules { rules.moving_rules (items_in self.now.declarations.now) one.now ≡ [] }
+        ensures { OnOk result (code.new ≡ joined code.old (both (tick_piece line) (moving_piece (items_in self.now.declarations.now) one.now) code.old)) }
+    {
+        emit_tick(code, line)?;
+        match one {
+            Moving::Move { sender, receivers } => {
+                self.emit_move(code, sender, receivers.as_slice())
+            }
+        }
+    }
+
+    /// A statement on texts, with its `tick`.
+    fn emit_texts(&self, code: &mut Code, line: u32, one: &Text) -> Result<(), AllocError>
+        requires declared { IsDeclared self.now.declarations.now }
+        requires rules { rules.text_rules (items_in self.now.declarations.now) one.now ≡ [] }
+        ensures { OnOk result (code.new ≡ joined code.old (both (tick_piece line) (texts_piece (items_in self.now.declarations.now) one.now) code.old)) }
+    {
+        emit_tick(code, line)?;
+        match one {
+            Text::Display {
+                operands,
+                advancing,
+            } => self.emit_display(code, operands.as_slice(), *advancing),
+        }
+    }
+
+    /// A statement, with those in it.
+    #[cycle(statement)]
+    #[tactic(auto, using(crate::proofs::Layers::statement_is))]
+    fn emit_statement(&self, code: &mut Code, one: &Statement) -> Result<(), AllocError>
+        requires declared { IsDeclared self.now.declarations.now }
+        requires rules { rules.statement_rules (items_in self.now.declarations.now) one.now ≡ [] }
+        ensures { OnOk result (code.new ≡ joined code.old (statement_piece (items_in self.now.declarations.now) one.now code.old)) }
+    {
+        let line = one.place.line;
+        match &one.verb {
+            Verb::Moving(moving) => self.emit_moving(code, line, moving),
+            Verb::Performing(
+                Performing {
+                    performed: Performed::Statements(inside),
+                    turns,
+                },
+            ) => self.emit_performing(code, line, turns, inside.as_slice()),
+            Verb::Text(text) => self.emit_texts(code, line, text),
+            Verb::Ending(ending) => emit_ending(code, line, *ending),
+        }
+    }
+
+    #[cycle(statement)]
+    fn emit_performing(
+        &self,
+        code: &mut Code,
+        line: u32,
+        turns: &Turns,
+        inside: &[Statement],
+    ) -> Result<(), AllocError>
+        requires declared { IsDeclared self.now.declarations.now }
+        requires rules { each (rules.statement_rules (items_in self.now.declarations.now)) inside.now ≡ [] }
+        ensures { OnOk result (code.new ≡ joined code.old (performing_piece (items_in self.now.declarations.now) (statement_piece (items_in self.now.declarations.now)) line (record { performed = Performed.Statements inside.now; turns = turns.now }) code.old)) }
+    {
+        emit_tick(code, line)?;
+        match turns {
+            Turns::Once => self.emit_statements(code, inside),
+            Turns::Times(count) => self.emit_times(code, line, count_of(count), inside),
+        }
+    }
+
+    #[cycle(statement)]
+    fn emit_times(
+        &self,
+        code: &mut Code,
+        line: u32,
+        count: u64,
+        inside: &[Statement],
+    ) -> Result<(), AllocError>
+        requires declared { IsDeclared self.now.declarations.now }
+        requires rules { each (rules.statement_rules (items_in self.now.declarations.now)) inside.now ≡ [] }
+        ensures { OnOk result (code.new ≡ joined code.old (times_piece line count (in_order (statement_piece (items_in self.now.declarations.now)) inside.now) code.old)) }
+    {
+        if count == 0 {
+            return Ok(());
+        }
+        let begin = code.instructions.len();
+        let turn = emit_loop_begin(code, line, count - 1)?;
+        self.emit_statements(code, inside)?;
+        emit_loop_end(code, begin, turn)
+    }
+
+    /// Statements, in order.
+    #[cycle(statement)]
+    fn emit_statements(&self, code: &mut Code, all: &[Statement]) -> Result<(), AllocError>
+        requires declared { IsDeclared self.now.declarations.now }
+        requires rules { each (rules.statement_rules (items_in self.now.declarations.now)) all.now ≡ [] }
+        ensures { OnOk result (code.new ≡ joined code.old (in_order (statement_piece (items_in self.now.declarations.now)) all.now code.old)) }
+    {
+        for one in all {
+            self.emit_statement(code, one)?;
+        }
+        Ok(())
+    }
+
+    fn emit_sentence(&self, code: &mut Code, one: &Sentence) -> Result<(), AllocError>
+        requires declared { IsDeclared self.now.declarations.now }
+        requires rules { rules.sentence_rules (items_in self.now.declarations.now) one.now ≡ [] }
+        ensures { OnOk result (code.new ≡ joined code.old (sentence_piece (items_in self.now.declarations.now) one.now code.old)) }
+    {
+        self.emit_statements(code, one.statements.as_slice())
+    }
+
+    fn emit_sentences(&self, code: &mut Code, all: &[Sentence]) -> Result<(), AllocError>
+        requires declared { IsDeclared self.now.declarations.now }
+        requires rules { each (rules.sentence_rules (items_in self.now.declarations.now)) all.now ≡ [] }
+        ensures { OnOk result (code.new ≡ joined code.old (in_order (sentence_piece (items_in self.now.declarations.now)) all.now code.old)) }
+    {
+        for one in all {
+            self.emit_sentence(code, one)?;
+        }
+        Ok(())
+    }
+
+    fn emit_paragraph(&self, code: &mut Code, one: &Paragraph) -> Result<(), AllocError>
+        requires declared { IsDeclared self.now.declarations.now }
+        requires rules { rules.paragraph_rules (items_in self.now.declarations.now) one.now ≡ [] }
+        ensures { OnOk result (code.new ≡ joined code.old (paragraph_piece (items_in self.now.declarations.now) one.now code.old)) }
+    {
+        emit_start(code)?;
+        self.emit_sentences(code, one.sentences.as_slice())
+    }
+
+    fn emit_paragraphs(&self, code: &mut Code, all: &[Paragraph]) -> Result<(), AllocError>
+        requires declared { IsDeclared self.now.declarations.now }
+        requires rules { each (rules.paragraph_rules (items_in self.now.declarations.now)) all.now ≡ [] }
+        ensures { OnOk result (code.new ≡ joined code.old (in_order (paragraph_piece (items_in self.now.declarations.now)) all.now code.old)) }
+    {
+        for one in all {
+            self.emit_paragraph(code, one)?;
+        }
+        Ok(())
+    }
+
+    fn emit_section(&self, code: &mut Code, one: &Section) -> Result<(), AllocError>
+        requires declared { IsDeclared self.now.declarations.now }
+        requires rules { rules.section_rules (items_in self.now.declarations.now) one.now ≡ [] }
+        ensures { OnOk result (code.new ≡ joined code.old (section_piece (items_in self.now.declarations.now) one.now code.old)) }
+    {
+        self.emit_paragraphs(code, one.paragraphs.as_slice())
+    }
+
+    /// Sections, in order.
+    pub(crate) fn emit_sections(&self, code: &mut Code, all: &[Section]) -> Result<(), AllocError>
+        requires declared { IsDeclared self.now.declarations.now }
+        requires rules { rules.sections_rules (items_in self.now.declarations.now) all.now ≡ [] }
+        ensures { OnOk result (code.new ≡ joined code.old (in_order (section_piece (items_in self.now.declarations.now)) all.now code.old)) }
+    {
+        for one in all {
+            self.emit_section(code, one)?;
+        }
+        Ok(())
+    }
 }

@@ -3,6 +3,11 @@
 
 mod display;
 mod emit;
+mod emitter;
+mod moving;
 mod program;
+mod references;
+mod storage;
+mod text;
 
 pub use program::generate;

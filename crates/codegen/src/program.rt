@@ -7,28 +7,31 @@ ghost use Rattle.code_image.specs.Demands.{IsVerified};
 ghost use Rattle.code_image.specs.Table.{Runs};
 ghost use Rattle.codegen.specs.Layout.{code_of};
 
-use crate::emit::{emit_end, emit_sections};
+use crate::emit::emit_end;
+use crate::emitter::Emitter;
+use crate::storage::storage_code;
+use check_rules::Checked;
 use code_image::Code;
-use source_tree::Program;
-use sqlite_items::Items;
 use std::alloc::{AllocError, Global};
 
-/// The code of a program. It is refused for want of memory alone.
-pub fn generate(alloc: Global, program: &Program) -> Result<Code, AllocError>
-    ensures layout { IfOk result (λ code. code ≡ code_of program.now) }
+/// The code of a program that keeps the rules. It is refused for want of memory alone.
+pub fn generate(alloc: Global, checked: &Checked<'_>) -> Result<Code, AllocError>
+    ensures layout { IfOk result (λ code. code ≡ code_of checked.now) }
     // Whatever it is given, the code's run is what the tree means,
-    ensures ends { IfOk result (λ code. (given : Given) → Runs code given (meaning program.now given)) }
+    ensures ends { IfOk result (λ code. (given : Given) → Runs code given (meaning checked.now given)) }
     // and nothing else is.
-    ensures ends_only { IfOk result (λ code. (given : Given) (run : Run) → Runs code given run → run ≡ meaning program.now given) }
+    ensures ends_only { IfOk result (λ code. (given : Given) (run : Run) → Runs code given run → run ≡ meaning checked.now given) }
     // A machine can run it.
     ensures verified { IfOk result (λ code. IsVerified code) }
 {
-    let mut code = Code {
-        literals: Items::new(alloc),
-        starts: Items::new(alloc),
-        instructions: Items::new(alloc),
+    let program = checked.program();
+    let declarations = checked.declarations();
+    let mut code = storage_code(alloc, declarations)?;
+    let emitter = Emitter {
+        alloc,
+        declarations,
     };
-    emit_sections(alloc, &mut code, program.sections.as_slice())?;
+    emitter.emit_sections(&mut code, program.sections.as_slice())?;
     emit_end(&mut code)?;
     Ok(code)
 }

@@ -16,7 +16,11 @@ use Rattle.source_tree.proofs.Examples.{display, stop_run, hello, hello_bytes}
 use Rattle.tokens.specs.Reserved.{same_word}
 use Rattle.grammar.specs.Reading as read
 use Rattle.expressions.specs.Literals as literals
+use Rattle.expressions.specs.Subscripts as subscripts
+use Rattle.expressions.specs.References as references
+use Rattle.expressions.specs.Operands as operands
 use Rattle.statements.specs.Display as display_rule
+use Rattle.statements.specs.Moving as moving_rule
 use Rattle.statements.specs.StopRun as stop_run_rule
 use Rattle.statements.specs.Reading as statements
 use Rattle.data_division.specs.Division as division
@@ -27,19 +31,19 @@ use Rattle.divisions.specs.Faults.{parse_of}
 use Rattle.divisions.specs.declared.fault.FaultKind.TheVariants.{UnexpectedToken}
 
 -- a token at a line and column; where its characters stand in their list is of no account here
-abbrev at : ℕ → ℕ → Kind → Token
+abbrev pub at : ℕ → ℕ → Kind → Token
 at line column kind = record { kind = kind; span = record { start = 0; end = 0 }; place = record { line = line; column = column } }
 
-abbrev word : ℕ → ℕ → Reserved → Token
+abbrev pub word : ℕ → ℕ → Reserved → Token
 word line column one = at line column (k.Reserved one)
 
-abbrev period : ℕ → ℕ → Token
+abbrev pub period : ℕ → ℕ → Token
 period line column = at line column k.Period
 
 abbrev main_para : List ℕ
 main_para = 77 ∷ 65 ∷ 73 ∷ 78 ∷ 45 ∷ 80 ∷ 65 ∷ 82 ∷ 65 ∷ []
 
-abbrev identified : List Token → List Token
+abbrev pub identified : List Token → List Token
 identified more =
     word 1 8 w.Identification ∷ word 1 23 w.Division ∷ period 1 31
     ∷ word 2 8 w.ProgramId ∷ period 2 18 ∷ at 2 20 (k.Word hello_bytes) ∷ period 2 25
@@ -59,8 +63,8 @@ show_tokens line =
     ∷ at line 17 (k.Numeric (record { sign = sign.Unsigned; whole = 49 ∷ []; decimals = [] })) ∷ period line 18 ∷ []
 
 -- every step of reading, so that a program's tree is computed
-unfoldable computing : Unit {0}
-unfolding r.program r.identification r.procedure r.all_sections r.outer_body r.after_body r.following r.sections r.section r.section_paragraphs environment.environment_reader environment.configuration_reader environment.computer_reader environment.description_reader environment.some_description environment.past_description division.data_division_reader division.division_reader division.working_storage_reader division.section_reader division.entries_reader forms.first_formless r.body r.opening r.sentences r.any_sentences r.paragraph r.paragraphs r.any_paragraphs r.ending r.end_program same_word read.after_word read.past_word read.expect read.skip read.left_out read.period read.heading read.nothing read.here read.one_token read.name literals.literal_reader literals.all_literal_reader read.several_from read.several read.any display_rule.after_no_advancing display_rule.display_reader stop_run_rule.stop_run_reader statements.statements statements.verb statements.line statements.statement statements.sentence
+unfoldable pub computing : Unit {0}
+unfolding r.program r.identification r.procedure r.all_sections r.outer_body r.after_body r.following r.sections r.section r.section_paragraphs environment.environment_reader environment.configuration_reader environment.computer_reader environment.description_reader environment.some_description environment.past_description division.data_division_reader division.division_reader division.working_storage_reader division.section_reader division.entries_reader forms.first_formless r.body r.opening r.sentences r.any_sentences r.paragraph r.paragraphs r.any_paragraphs r.ending r.end_program same_word read.after_word read.past_word read.expect read.skip read.left_out read.period read.heading read.nothing read.here read.one_token read.name literals.literal_reader literals.all_literal_reader subscripts.qualifier_reader subscripts.qualified_reader subscripts.integer_reader subscripts.literal_subscript_reader subscripts.item_subscript_reader subscripts.adjustment_reader subscripts.subscript_reader references.enclosed_subscripts_reader references.subscripts_reader references.reference_reader operands.item_reader operands.literal_operand_reader operands.operand_reader read.several_from read.several read.any display_rule.after_no_advancing display_rule.display_reader moving_rule.moving_reader stop_run_rule.stop_run_reader statements.statements statements.verb statements.line statements.statement statements.sentence
 computing = tt
 
 -- the six lines of HELLO
@@ -84,7 +88,7 @@ abbrev end_program : List ℕ → List Token
 end_program name = word 7 8 w.End ∷ word 7 12 w.Program ∷ at 7 20 (k.Word name) ∷ period 7 25 ∷ []
 
 -- a program of HELLO's name with these paragraphs
-abbrev of : List Paragraph → Program
+abbrev pub of : List Paragraph → Program
 of paragraphs = record { name = hello.name; storage = []; sections = record { name = None; paragraphs = paragraphs } ∷ [] }
 
 -- STOP RUN. at column 12 of a line
@@ -101,7 +105,7 @@ p_tokens line = at line 8 (k.Word (80 ∷ [])) ∷ period line 9 ∷ []
 abbrev p_with : ℕ → List Sentence → Paragraph
 p_with line sentences = record { name = Some (record { characters = 80 ∷ []; place = record { line = line; column = 8 } }); sentences = sentences }
 
-abbrev unnamed : List Sentence → Paragraph
+abbrev pub unnamed : List Sentence → Paragraph
 unnamed sentences = record { name = None; sentences = sentences }
 
 -- A 12.50 it's, in line 4

@@ -9,6 +9,8 @@ use Rattle.entry_rules.specs.declared.rule.CheckError.{CheckError}
 use Rattle.entry_rules.specs.declared.rule.CheckError.TheVariants.{Memory, Refused}
 
 abbrev pub number_of : Rule → ℕ
+number_of rule.NumericLiteral = 17
+number_of rule.NonnumericLiteral = 18
 number_of rule.UnknownName = 40
 number_of rule.AmbiguousName = 41
 number_of rule.LevelOrder = 43

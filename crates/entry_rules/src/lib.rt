@@ -14,5 +14,6 @@ mod storage;
 mod value;
 mod walk;
 
+pub use literal::{has_form, is_integer};
 pub use rule::{BrokenRule, CheckError, Rule};
 pub use storage::check_entries;

@@ -5,11 +5,12 @@ ghost use Rattle.std.specs.Char.{is_ascii_digit};
 ghost use Rattle.std.specs.List.{list_all};
 ghost use Rattle.decimal18.specs.Digits.{digits_behind};
 ghost use Rattle.source_tree.specs.Literals as literals;
+ghost use Rattle.source_tree.specs.NameRules as names;
 ghost use Rattle.source_tree.specs.ValueRules as spec;
 ghost use Rattle.source_tree.specs.declared.literal.LiteralValue.TheVariants as literal;
 
 use decimal18::{Dec, number_behind};
-use source_tree::{LiteralValue, NumericLiteral, Sign};
+use source_tree::{Integer, LiteralValue, NumericLiteral, Sign};
 
 /// The most digits of a numeric literal.
 const MOST_DIGITS: usize = 18;
@@ -55,4 +56,30 @@ pub fn is_text(bytes: &[u8]) -> bool
     ensures { result ≡ spec.are_some spec.most_literal_characters (length bytes.now) }
 {
     1 <= bytes.len() && bytes.len() <= MOST_CHARACTERS
+}
+
+/// A literal has its form: a numeric one 1 to 18 digits, a nonnumeric one, and that of ALL, 1 to 160 characters.
+pub fn has_form(value: &LiteralValue) -> bool
+    ensures { result ≡ spec.has_form value.now }
+{
+    match value {
+        LiteralValue::Numeric(one) => literal_number(one).is_some(),
+        LiteralValue::Nonnumeric(bytes) => is_text(bytes.as_slice()),
+        LiteralValue::Figurative(_) => true,
+        LiteralValue::All(bytes) => is_text(bytes.as_slice()),
+    }
+}
+
+fn are_digits(bytes: &[u8]) -> bool
+    ensures { result ≡ list_all is_ascii_digit bytes.now }
+{
+    bytes.iter().all(|byte| byte.is_ascii_digit())
+}
+
+/// An integer has its form: 1 to 18 digits.
+pub fn is_integer(one: &Integer) -> bool
+    ensures { result ≡ names.is_integer one.now }
+{
+    let digits = one.digits.as_slice();
+    are_digits(digits) && 1 <= digits.len() && digits.len() <= MOST_DIGITS
 }

@@ -8,9 +8,13 @@ use source_tree::Place;
 use std::alloc::{AllocError, AllocFailed};
 use thiserror::Error;
 
-/// A rule that entries or references can break.
+/// A rule that entries, references or literals can break.
 #[derive(Clone, Copy, Debug, PartialEq, Eq)]
 pub enum Rule {
+    /// The form of a numeric literal, or of an integer.
+    NumericLiteral,
+    /// The form of a nonnumeric literal.
+    NonnumericLiteral,
     /// A name that names nothing, or a thing of another kind.
     UnknownName,
     /// A name that names several things.
@@ -46,6 +50,8 @@ impl Rule {
         ensures { result ≡ number_of self }
     {
         match self {
+            Rule::NumericLiteral => 17,
+            Rule::NonnumericLiteral => 18,
             Rule::UnknownName => 40,
             Rule::AmbiguousName => 41,
             Rule::LevelOrder => 43,

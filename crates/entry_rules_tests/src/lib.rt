@@ -12,6 +12,8 @@ mod layout_rows;
 #[cfg(test)]
 mod level_rows;
 #[cfg(test)]
+mod literal_rows;
+#[cfg(test)]
 mod redefinition_rows;
 #[cfg(test)]
 mod rows;

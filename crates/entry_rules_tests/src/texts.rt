@@ -29,7 +29,7 @@ fn characters(rt: &impl Abort, alloc: Global, text: &str) -> Items<u8> {
     }
 }
 
-fn integer(rt: &impl Abort, alloc: Global, line: u32, column: u8, digits: &str) -> Integer {
+pub fn integer(rt: &impl Abort, alloc: Global, line: u32, column: u8, digits: &str) -> Integer {
     let digits = characters(rt, alloc, digits);
     let place = Place { line, column };
     Integer { digits, place }
@@ -74,7 +74,7 @@ fn written(rt: &impl Abort, alloc: Global, text: &str) -> LiteralValue {
     numeral(rt, alloc, Sign::Unsigned, text)
 }
 
-fn literal(rt: &impl Abort, alloc: Global, line: u32, column: u8, text: &str) -> Literal {
+pub fn literal(rt: &impl Abort, alloc: Global, line: u32, column: u8, text: &str) -> Literal {
     let place = Place { line, column };
     let value = match text {
         "ZERO" => LiteralValue::Figurative(Figurative::Zero),

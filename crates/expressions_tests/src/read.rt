@@ -1,9 +1,12 @@
 //! What is read of a text: the shape of the tree, how many tokens are left, and where reading halted.
 
-use crate::shape::{DEEPEST, push_condition, push_expression, push_operand, push_reference};
+use crate::shape::{
+    DEEPEST, push_condition, push_expression, push_operand, push_operands, push_reference,
+    push_references,
+};
 use conditions::condition;
-use expressions::{expression, number_operand, operand, reference};
-use grammar::{Halt, ReadFault, Tokens};
+use expressions::{Operands, References, expression, number_operand, operand, reference};
+use grammar::{Halt, ReadFault, Tokens, several};
 use source_lines::logical;
 use sqlite_items::Items;
 use std::alloc::{AllocError, Global};
@@ -13,7 +16,9 @@ use tokens::{Token, scan};
 #[derive(Clone, Copy, Debug, PartialEq, Eq)]
 pub enum Notion {
     Reference,
+    References,
     Operand,
+    Operands,
     NumberOperand,
     Expression,
     Condition,
@@ -56,7 +61,11 @@ fn push_read(
 ) -> Result<Result<(), AllocError>, ReadFault> {
     Ok(match notion {
         Notion::Reference => push_reference(to, &reference(alloc, tokens)?),
+        Notion::References => {
+            push_references(to, several(&References, alloc, tokens)?.as_slice())
+        }
         Notion::Operand => push_operand(to, &operand(alloc, tokens)?),
+        Notion::Operands => push_operands(to, several(&Operands, alloc, tokens)?.as_slice()),
         Notion::NumberOperand => push_operand(to, &number_operand(alloc, tokens)?),
         Notion::Expression => push_expression(to, &expression(alloc, tokens, depth)?, DEEPEST),
         Notion::Condition => push_condition(to, &condition(alloc, tokens, depth)?, DEEPEST),

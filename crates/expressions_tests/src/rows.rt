@@ -67,6 +67,27 @@ const OPERANDS: [(&str, &str); 10] = [
     ("A (I)", "A[I]"),
 ];
 
+/// A list, what is read of it, and how many tokens are left after it.
+const LISTS: [(Notion, &str, &str, usize); 6] = [
+    (
+        Notion::Operands,
+        "A 'B' C OF D (1) ZERO",
+        " A 'B' C.D[1] ZERO",
+        0,
+    ),
+    (
+        Notion::Operands,
+        "A, 1; B (I) ALL '*'",
+        " A 1. B[I] ALL *",
+        0,
+    ),
+    // up to where no operand can begin
+    (Notion::Operands, "A 1 TO B", " A 1.", 2),
+    (Notion::References, "A B (I + 1) C OF D", " A B[I+1] C.D", 0),
+    (Notion::References, "A, B; C. D", " A B C", 2),
+    (Notion::References, "A (1) 2 B", " A[1]", 2),
+];
+
 #[test]
 fn expressions_are_read(rt: HostRuntime) {
     for (text, expected) in EXPRESSIONS.iter() {
@@ -148,5 +169,34 @@ fn numbers_are_read(rt: HostRuntime) {
         "A OF B (I)",
         DEPTH,
         "A.B[I]",
+    );
+}
+
+#[test]
+fn lists_are_read(rt: HostRuntime) {
+    for (notion, text, expected, left) in LISTS.iter() {
+        ends(&rt, rt.alloc(), *notion, text, DEPTH, expected, *left);
+    }
+}
+
+#[test]
+fn lists_have_one_at_least(rt: HostRuntime) {
+    halts(&rt, rt.alloc(), Notion::Operands, "TO A", DEPTH, (false, 2));
+    halts(
+        &rt,
+        rt.alloc(),
+        Notion::References,
+        "1 A",
+        DEPTH,
+        (false, 2),
+    );
+    // ALL begins an operand of the list
+    halts(
+        &rt,
+        rt.alloc(),
+        Notion::Operands,
+        "A ALL SPACE",
+        DEPTH,
+        (false, 1),
     );
 }

@@ -99,6 +99,24 @@ pub fn push_operand(to: &mut String, operand: &Operand) -> Result<(), AllocError
     }
 }
 
+/// Each behind a space.
+pub fn push_references(to: &mut String, references: &[Reference]) -> Result<(), AllocError> {
+    for one in references {
+        to.push_str(" ")?;
+        push_reference(to, one)?;
+    }
+    Ok(())
+}
+
+/// Each behind a space.
+pub fn push_operands(to: &mut String, operands: &[Operand]) -> Result<(), AllocError> {
+    for one in operands {
+        to.push_str(" ")?;
+        push_operand(to, one)?;
+    }
+    Ok(())
+}
+
 fn operator(operator: Operator) -> &'static str {
     match operator {
         Operator::Add => "+",

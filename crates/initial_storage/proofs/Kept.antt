@@ -152,13 +152,15 @@ of_forest at last (Tree one conditions inner next) levels e =
 
 -- ---- all of working storage
 
-pub rule_parts : (entries : List Entry) → entry_rules entries ≡ [] → (each level_rules entries ≡ []) × (forest_rules (outermost false) None (nested entries) ≡ [])
+pub rule_parts : (entries : List Entry) → entry_rules entries ≡ []
+    → (each level_rules entries ≡ []) × (forest_rules (outermost false) None (nested entries) ≡ []) × (storage_rules 0 (nested entries) ≡ [])
 rule_parts entries e =
     let counted = back_nil (each excess (drop most_entries entries)) (each level_rules entries ++ (each homeless (leading entries) ++ (forest_rules (outermost false) None (nested entries) ++ storage_rules 0 (nested entries)))) e in
     let rest = back_nil (each homeless (leading entries)) (forest_rules (outermost false) None (nested entries) ++ storage_rules 0 (nested entries))
     (back_nil (each level_rules entries) (each homeless (leading entries) ++ (forest_rules (outermost false) None (nested entries) ++ storage_rules 0 (nested entries))) counted) in (
       front_nil (each level_rules entries) (each homeless (leading entries) ++ (forest_rules (outermost false) None (nested entries) ++ storage_rules 0 (nested entries))) counted,
       front_nil (forest_rules (outermost false) None (nested entries)) (storage_rules 0 (nested entries)) rest,
+      back_nil (forest_rules (outermost false) None (nested entries)) (storage_rules 0 (nested entries)) rest,
     )
 
 pub fits : (entries : List Entry) → entry_rules entries ≡ [] → AreTold (nested entries) → Fits nothing_around (nested entries)

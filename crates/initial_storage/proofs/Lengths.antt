@@ -8,7 +8,7 @@ use Rattle.source_tree.specs.Clauses.{nothing_around}
 use Rattle.source_tree.specs.Rooms.{redefines, area_length, area_lengths}
 use Rattle.source_tree.specs.Starts.{start, areas_from}
 
-length-padded : (size : ℕ) (text : List ℕ) → length (padded size text) ≡ size
+pub length-padded : (size : ℕ) (text : List ℕ) → length (padded size text) ≡ size
 length-padded size text = omega (arith, length-append (take size text) (replicate (size - length text) 32), length-take size text, length-replicate {A = ℕ} (size - length text) 32)
 
 either : (b : Bool) (one two : List (List ℕ)) (lengths more : List ℕ) → map length one ≡ lengths → map length two ≡ more

@@ -1,9 +1,12 @@
+pub mod Areas
 pub mod Elementary
 mod Examples
+pub mod Formed
 pub mod Groups
 pub mod Inner
 pub mod Kept
 pub mod Lengths
+pub mod Pictures
 pub mod Places
 pub mod Records
 pub mod Repeats

@@ -32,7 +32,7 @@ Records some (Tree one conditions inner next) =
 
 -- ---- by the rules
 
-redefines_some : (is_record : Bool) (one : ItemEntry) (bytes : ℕ) (object : Option Name) (last : Option Redefinable)
+pub redefines_some : (is_record : Bool) (one : ItemEntry) (bytes : ℕ) (object : Option Name) (last : Option Redefinable)
     → redefinition_rules is_record one bytes object last ≡ [] → is_some object ≡ true → is_some last ≡ true
 redefines_some is_record one bytes None last e so = cc
 redefines_some is_record one bytes (Some name) None e so =

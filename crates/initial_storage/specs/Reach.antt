@@ -1,5 +1,5 @@
 -- Items and their areas.
-use Rattle.std.specs.Prelude.{ℕ, ◌+◌, ◌-◌, ◌*◌, ◌≤◌, List, [], ◌∷◌, slice_index}
+use Rattle.std.specs.Prelude.{◌≡◌, ℕ, ◌+◌, ◌-◌, ◌*◌, ◌≤◌, List, [], ◌∷◌, length, Some, slice_get, slice_index}
 use Rattle.source_tree.specs.declared.table.Dimension.{Dimension}
 use Rattle.source_tree.specs.Places.{Placed}
 
@@ -11,3 +11,14 @@ reach (one ∷ more) = (one.count - 1) * one.stride + reach more
 -- All occurrences of an item lie within its area, the areas having these lengths.
 abbrev pub IsWithin : List ℕ → Placed → Type 0
 IsWithin lengths one = one.offset + reach one.dimensions + one.item.length ≤ slice_index lengths one.area
+
+-- The offset of the last occurrence, from that of the first.
+abbrev pub last_offset : ℕ → List Dimension → ℕ
+last_offset offset [] = offset
+last_offset offset (one ∷ more) = last_offset (offset + (one.count - 1) * one.stride) more
+
+-- There is an area for the item, and its last occurrence ends within it, the areas holding these bytes.
+pub record Lies (areas : List (List ℕ)) (one : Placed) : Type 0 where
+  pub area : List ℕ
+  pub here : slice_get areas one.area ≡ Some area
+  pub within : last_offset one.offset one.dimensions + one.item.length ≤ length area

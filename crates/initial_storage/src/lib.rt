@@ -7,5 +7,5 @@ mod repeat;
 mod storage;
 mod value;
 
-pub use laws::items_lie_within_areas;
+pub use laws::{areas_are_small, items_have_their_form, items_lie_within_areas};
 pub use storage::InitialStorage;

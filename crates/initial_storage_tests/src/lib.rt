@@ -7,6 +7,8 @@ mod area_rows;
 #[cfg(test)]
 mod asserted;
 #[cfg(test)]
+mod laws;
+#[cfg(test)]
 mod literal_rows;
 #[cfg(test)]
 mod texts;

@@ -1,2 +1,4 @@
+pub mod Rooms
+pub mod Standing
 pub mod Ends
 pub mod Progress

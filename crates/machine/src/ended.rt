@@ -3,6 +3,7 @@
 ghost use Rattle.std.specs.Prelude.{◌≡◌};
 ghost use Rattle.machine.specs.Ends.{number_of};
 
+use data_instructions::ProgramFault;
 use station::DeviceError;
 use thiserror::Error;
 
@@ -45,6 +46,8 @@ pub enum Ended {
     Stopped,
     /// A statement was to begin, and the budget was used up.
     Budget,
+    /// The statement that began in this line of the source did something wrong.
+    Faulted { fault: ProgramFault, line: u32 },
     /// The run was given up.
     Refused(Refusal),
 }

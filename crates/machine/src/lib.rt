@@ -5,6 +5,8 @@
 mod ended;
 mod loaded;
 mod machine;
+mod registers;
+mod room;
 mod show;
 
 pub use ended::{Ended, Refusal};

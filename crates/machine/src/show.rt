@@ -4,12 +4,16 @@ ghost use Rattle.std.specs.Prelude.{◌≡◌, ◌↔◌, OnOk};
 ghost use Rattle.station.specs.State.{shown};
 ghost use Rattle.station.specs.History.{Through, Telling};
 ghost use Rattle.station.specs.Failures.{CountsFailure};
+ghost use Rattle.data_instructions.specs.Table.{after_showing};
+ghost use Rattle.run_time_data.specs.Data.{scratch_of};
+ghost use Rattle.run_time_data.specs.Comes.{Keeps};
 
 use crate::ended::Refusal;
+use run_time_data::Data;
 use station::Station;
 
 /// Shows bytes. Where that fails, some of them may have been shown.
-pub(crate) fn show<S: Station>(station: &mut S, bytes: &[u8]) -> Result<(), Refusal>
+fn show<S: Station>(station: &mut S, bytes: &[u8]) -> Result<(), Refusal>
     ensures sectors { S.sectors station.new ≡ S.sectors station.old }
     ensures honest { S.is_honest station.old ↔ S.is_honest station.new }
     ensures failures { CountsFailure result (S.failures station.old) (S.failures station.new) }
@@ -18,5 +22,21 @@ pub(crate) fn show<S: Station>(station: &mut S, bytes: &[u8]) -> Result<(), Refu
         Through (S.history station.old) (S.history station.new) (S.state station.new) (Telling (S.state station.old) bytes.now) }
 {
     station.show(bytes)?;
+    Ok(())
+}
+
+/// Shows the line, which is empty then. Where that fails, some of it may have been shown.
+pub(crate) fn show_line<S: Station>(station: &mut S, scratch: &mut Data) -> Result<(), Refusal>
+    ensures sectors { S.sectors station.new ≡ S.sectors station.old }
+    ensures honest { S.is_honest station.old ↔ S.is_honest station.new }
+    ensures failures { CountsFailure result (S.failures station.old) (S.failures station.new) }
+    ensures shown { S.is_honest station.old → OnOk result (S.state station.new ≡ shown (S.state station.old) scratch.old.line.bytes) }
+    ensures moments { S.is_honest station.old →
+        Through (S.history station.old) (S.history station.new) (S.state station.new) (Telling (S.state station.old) scratch.old.line.bytes) }
+    ensures empty { OnOk result (scratch_of scratch.new ≡ after_showing (scratch_of scratch.old)) }
+    ensures keeps { OnOk result (Keeps scratch.old scratch.new) }
+{
+    show(station, scratch.line.bytes())?;
+    scratch.end_line();
     Ok(())
 }

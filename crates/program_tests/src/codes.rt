@@ -1,12 +1,14 @@
 //! Rows of code, its images and its runs: HELLO at each budget, failing shows, images cut and changed.
 
 use crate::asserted::{same, same_in};
-use code_image::{Code, ImageError, Instruction, LiteralIndex, from_bytes, to_bytes, verify};
+use check_rules::check;
+use code_image::{Code, ImageError, Instruction, from_bytes, to_bytes, verify};
 use codegen::generate;
+use data_instructions::{DataInstruction, DataTables, ItemIndex, TextIndex};
 use machine::{Ended, Machine, Refusal};
 use source_tree::{
-    Ending, Figurative, Literal, LiteralValue, Name, NumericLiteral, Paragraph, Place, Program,
-    Section, Sentence, Sign, Statement, Text, Verb,
+    Ending, Figurative, Literal, LiteralValue, Name, NumericLiteral, Operand, Paragraph, Place,
+    Program, Section, Sentence, Sign, Statement, Text, Verb,
 };
 use sqlite_items::Items;
 use station::MemoryStation;
@@ -16,7 +18,7 @@ use std::test::Fail;
 const DAY: [u8; 6] = *b"000000";
 
 /// No run of these rows needs more.
-const ENOUGH: u64 = 1000;
+pub(crate) const ENOUGH: u64 = 1000;
 
 pub(crate) fn place(line: u32) -> Place {
     Place { line, column: 12 }
@@ -28,22 +30,25 @@ pub(crate) fn list<T: Drop>(alloc: Global, item: T) -> Result<Items<T>, AllocErr
     Ok(items)
 }
 
-pub(crate) fn text(alloc: Global, line: u32, bytes: &[u8]) -> Result<Literal, AllocError> {
-    Ok(Literal {
-        value: LiteralValue::Nonnumeric(Items::from_slice(alloc, bytes)?),
+fn literal(line: u32, value: LiteralValue) -> Operand {
+    Operand::Literal(Literal {
+        value,
         place: place(line),
     })
 }
 
-fn number(alloc: Global, sign: Sign, whole: &[u8], decimals: &[u8]) -> Result<Literal, AllocError> {
-    Ok(Literal {
-        value: LiteralValue::Numeric(NumericLiteral {
-            sign,
-            whole: Items::from_slice(alloc, whole)?,
-            decimals: Items::from_slice(alloc, decimals)?,
-        }),
-        place: place(1),
-    })
+pub(crate) fn text(alloc: Global, line: u32, bytes: &[u8]) -> Result<Operand, AllocError> {
+    let value = LiteralValue::Nonnumeric(Items::from_slice(alloc, bytes)?);
+    Ok(literal(line, value))
+}
+
+fn number(alloc: Global, sign: Sign, whole: &[u8], decimals: &[u8]) -> Result<Operand, AllocError> {
+    let value = LiteralValue::Numeric(NumericLiteral {
+        sign,
+        whole: Items::from_slice(alloc, whole)?,
+        decimals: Items::from_slice(alloc, decimals)?,
+    });
+    Ok(literal(5, value))
 }
 
 pub(crate) fn display(alloc: Global, line: u32, bytes: &[u8]) -> Result<Statement, AllocError> {
@@ -57,7 +62,7 @@ pub(crate) fn display(alloc: Global, line: u32, bytes: &[u8]) -> Result<Statemen
 }
 
 /// DISPLAY with NO ADVANCING.
-pub(crate) fn unended(operands: Items<Literal>) -> Statement {
+pub(crate) fn unended(operands: Items<Operand>) -> Statement {
     Statement {
         place: place(5),
         verb: Verb::Text(Text::Display {
@@ -94,20 +99,26 @@ pub(crate) fn program(alloc: Global, statements: Items<Statement>) -> Result<Pro
     })
 }
 
+/// The code of a program that keeps the rules.
+pub(crate) fn code_of(alloc: Global, program: &Program) -> Result<Code, Fail> {
+    let checked = check(alloc, program)?;
+    Ok(generate(alloc, &checked)?)
+}
+
 /// DISPLAY "HELLO". STOP RUN.
-fn hello(alloc: Global) -> Result<Code, AllocError> {
+fn hello(alloc: Global) -> Result<Code, Fail> {
     let mut statements = list(alloc, display(alloc, 5, b"HELLO")?)?;
     statements.push(stop_run(6))?;
-    generate(alloc, &program(alloc, statements)?)
+    code_of(alloc, &program(alloc, statements)?)
 }
 
 /// DISPLAY "A". DISPLAY "BC". DISPLAY "D". STOP RUN.
-fn three_shows(alloc: Global) -> Result<Code, AllocError> {
+fn three_shows(alloc: Global) -> Result<Code, Fail> {
     let mut statements = list(alloc, display(alloc, 5, b"A")?)?;
     statements.push(display(alloc, 6, b"BC")?)?;
     statements.push(display(alloc, 7, b"D")?)?;
     statements.push(stop_run(8))?;
-    generate(alloc, &program(alloc, statements)?)
+    code_of(alloc, &program(alloc, statements)?)
 }
 
 pub(crate) fn new_station(alloc: Global) -> Result<MemoryStation, AllocError> {
@@ -121,7 +132,7 @@ pub(crate) fn run_on(
     code: Code,
     budget: u64,
 ) -> Result<(Ended, Vec<u8>), Fail> {
-    let machine = Machine::new(alloc, verify(code)?, DAY)?;
+    let machine = Machine::new(alloc, verify(alloc, code)?, DAY)?;
     let ended = machine.run(station, budget);
     Ok((ended, station.shown()?))
 }
@@ -150,7 +161,7 @@ fn hello_at_each_budget(rt: HostRuntime) -> Result<(), Fail> {
 fn the_last_paragraph_ends_without_budget(rt: HostRuntime) -> Result<(), Fail> {
     let alloc = rt.alloc();
     let statements = list(alloc, display(alloc, 5, b"HELLO")?)?;
-    let code = generate(alloc, &program(alloc, statements)?)?;
+    let code = code_of(alloc, &program(alloc, statements)?)?;
     let (ended, shown) = run(alloc, code, 1)?;
     same(&rt, ended, Ended::Stopped);
     same(&rt, shown.as_slice(), b"HELLO\n".as_slice());
@@ -166,7 +177,7 @@ fn literals_are_shown_as_written(rt: HostRuntime) -> Result<(), Fail> {
     operands.push(number(alloc, Sign::Minus, b"007", b"")?)?;
     operands.push(number(alloc, Sign::Plus, b"", b"5")?)?;
     let statement = unended(operands);
-    let code = generate(alloc, &program(alloc, list(alloc, statement)?)?)?;
+    let code = code_of(alloc, &program(alloc, list(alloc, statement)?)?)?;
     let (ended, shown) = run(alloc, code, 1)?;
     same(&rt, ended, Ended::Stopped);
     same(&rt, shown.as_slice(), b"A12.50it's-007+.5".as_slice());
@@ -185,12 +196,9 @@ fn figurative_constants_are_shown_once(rt: HostRuntime) -> Result<(), Fail> {
         (Figurative::Quote, b"\""),
     ];
     for (constant, bytes) in rows.iter() {
-        let operand = Literal {
-            value: LiteralValue::Figurative(*constant),
-            place: place(5),
-        };
+        let operand = literal(5, LiteralValue::Figurative(*constant));
         let statement = unended(list(alloc, operand)?);
-        let code = generate(alloc, &program(alloc, list(alloc, statement)?)?)?;
+        let code = code_of(alloc, &program(alloc, list(alloc, statement)?)?)?;
         let (_, shown) = run(alloc, code, 1)?;
         same(&rt, shown.as_slice(), *bytes);
     }
@@ -217,20 +225,27 @@ fn a_failing_show_is_refused(rt: HostRuntime) -> Result<(), Fail> {
     Ok(())
 }
 
+/// Counts of an image: each has eight bytes, the highest first.
+fn put_counts(image: &mut Vec<u8>, counts: &[u8]) -> Result<(), AllocError> {
+    for count in counts {
+        image.extend_from_slice(&[0, 0, 0, 0, 0, 0, 0, *count])?;
+    }
+    Ok(())
+}
+
 /// HELLO's image, byte by byte from the layout.
 fn hello_image(alloc: Global) -> Result<Vec<u8>, AllocError> {
     let mut image = b"COBIMG01".to_vec(alloc)?;
-    // no areas, no items, one literal of six bytes
-    for count in [0, 0, 1, 6] {
-        image.extend_from_slice(&[0, 0, 0, 0, 0, 0, 0, count])?;
-    }
-    image.extend_from_slice(b"HELLO\n")?;
-    // no pictures, no files, one code paragraph that starts at 0, five instructions
-    for count in [0, 0, 1, 0, 5] {
-        image.extend_from_slice(&[0, 0, 0, 0, 0, 0, 0, count])?;
-    }
+    // no areas, items, numbers and senders, and two texts: what is shown, and the end of the line
+    put_counts(&mut image, &[0, 0, 0, 0, 2, 5])?;
+    image.extend_from_slice(b"HELLO")?;
+    put_counts(&mut image, &[1])?;
+    image.extend_from_slice(b"\n")?;
+    // one code paragraph that starts at 0, and seven instructions
+    put_counts(&mut image, &[1, 0, 7])?;
     image.extend_from_slice(&[1, 0, 0, 0, 5])?;
-    image.extend_from_slice(&[2, 0, 0, 0, 0, 0, 0, 0, 0])?;
+    image.extend_from_slice(&[16, 0, 0, 0, 0])?;
+    image.extend_from_slice(&[16, 0, 0, 0, 1, 2])?;
     image.extend_from_slice(&[1, 0, 0, 0, 6])?;
     image.extend_from_slice(&[3, 3])?;
     Ok(image)
@@ -277,8 +292,9 @@ fn is_harmless(alloc: Global, image: &[u8]) -> Result<bool, Fail> {
         Err(ImageError::Refused(fault)) => return Ok((70..=72).contains(&fault.number())),
         Err(ImageError::Memory) => return Ok(false),
     };
-    match verify(code) {
-        Err(fault) => Ok(fault.number() == 73 || fault.number() == 74),
+    match verify(alloc, code) {
+        Err(ImageError::Refused(fault)) => Ok((72..=74).contains(&fault.number())),
+        Err(ImageError::Memory) => Ok(false),
         Ok(verified) => {
             let mut station = new_station(alloc)?;
             let ended = Machine::new(alloc, verified, DAY)?.run(&mut station, ENOUGH);
@@ -316,60 +332,80 @@ fn an_image_with_one_byte_changed(rt: HostRuntime) -> Result<(), Fail> {
     Ok(())
 }
 
+/// Tables with a text alone.
+fn tables(alloc: Global) -> Result<DataTables, AllocError> {
+    Ok(DataTables {
+        areas: Items::new(alloc),
+        items: Items::new(alloc),
+        numbers: Items::new(alloc),
+        senders: Items::new(alloc),
+        texts: list(alloc, Items::from_slice(alloc, b"A")?)?,
+    })
+}
+
 pub(crate) fn code(
     alloc: Global,
     instructions: &[Instruction],
     starts: &[usize],
 ) -> Result<Code, AllocError> {
     Ok(Code {
-        literals: list(alloc, Items::from_slice(alloc, b"A")?)?,
+        tables: tables(alloc)?,
         starts: Items::from_slice(alloc, starts)?,
         instructions: Items::from_slice(alloc, instructions)?,
     })
 }
 
-pub(crate) fn verdict(code: Code) -> u8 {
-    match verify(code) {
+pub(crate) fn verdict(alloc: Global, code: Code) -> u8 {
+    match verify(alloc, code) {
         Ok(_) => 0,
-        Err(fault) => fault.number(),
+        Err(ImageError::Refused(fault)) => fault.number(),
+        Err(ImageError::Memory) => 83,
     }
 }
 
+const TICK: Instruction = Instruction::Tick { line: 1 };
+
+const SHOW: Instruction = Instruction::Show;
+
+const STOP: Instruction = Instruction::Stop;
+
+const FIRST: Instruction = Instruction::Data(DataInstruction::AppendLiteral {
+    text: TextIndex { number: 0 },
+});
+
+const SECOND: Instruction = Instruction::Data(DataInstruction::AppendLiteral {
+    text: TextIndex { number: 1 },
+});
+
+const PLACE: Instruction = Instruction::Data(DataInstruction::Place {
+    item: ItemIndex { number: 0 },
+});
+
+const PUSH: Instruction = Instruction::Data(DataInstruction::Push);
+
+/// Instructions, where paragraphs start, and the number of the refusal, 0 where a machine takes them.
+const VERDICTS: [(&[Instruction], &[usize], u8); 9] = [
+    (&[TICK, FIRST, SHOW, STOP], &[0, 3], 0),
+    (&[STOP], &[], 0),
+    // the second text of one, and the first item of none
+    (&[TICK, SECOND, SHOW, STOP], &[0], 73),
+    (&[TICK, PLACE, STOP], &[0], 73),
+    // a paragraph that starts after the code
+    (&[TICK, FIRST, SHOW, STOP], &[4], 73),
+    // stop isn't last, or there is no instruction
+    (&[TICK, STOP, SHOW], &[0], 74),
+    (&[], &[], 74),
+    // a line that isn't shown before the next statement, and no place where one is taken
+    (&[TICK, FIRST, TICK, STOP], &[0], 74),
+    (&[TICK, PUSH, STOP], &[0], 74),
+];
+
 #[test]
 fn code_that_a_machine_refuses(rt: HostRuntime) -> Result<(), Fail> {
-    let alloc = rt.alloc();
-    let tick = Instruction::Tick { line: 1 };
-    let first = Instruction::Show {
-        literal: LiteralIndex { number: 0 },
-    };
-    let second = Instruction::Show {
-        literal: LiteralIndex { number: 1 },
-    };
-    same(
-        &rt,
-        verdict(code(alloc, &[tick, first, Instruction::Stop], &[0, 2])?),
-        0,
-    );
-    same(&rt, verdict(code(alloc, &[Instruction::Stop], &[])?), 0);
-    // the second literal of one
-    same(
-        &rt,
-        verdict(code(alloc, &[tick, second, Instruction::Stop], &[0])?),
-        73,
-    );
-    // a paragraph that starts after the code
-    same(
-        &rt,
-        verdict(code(alloc, &[tick, first, Instruction::Stop], &[3])?),
-        73,
-    );
-    // stop isn't last, or there is no instruction
-    same(
-        &rt,
-        verdict(code(alloc, &[tick, Instruction::Stop, first], &[0])?),
-        74,
-    );
-    same(&rt, verdict(code(alloc, &[], &[])?), 74);
+    for (instructions, starts, number) in VERDICTS.iter() {
+        let told = verdict(rt.alloc(), code(rt.alloc(), instructions, starts)?);
+        same_in(&rt, &(*instructions, *starts), told, *number);
+    }
     Ok(())
 }
 
@@ -379,14 +415,44 @@ fn bytes_that_are_no_image(rt: HostRuntime) -> Result<(), Fail> {
     same(&rt, fault(alloc, b""), 70);
     same(&rt, fault(alloc, b"COBIMG02"), 70);
     same(&rt, fault(alloc, b"COBIMG01"), 71);
-    // an entry in the table of areas
-    same(&rt, fault(alloc, b"COBIMG01\0\0\0\0\0\0\0\x01"), 72);
-    // an instruction of an unknown kind
-    for kind in [0, 6, 255] {
+    // an instruction of an unknown kind, and one whose item is missing
+    for (kind, number) in [(0, 72), (17, 72), (255, 72), (6, 71)] {
         let mut image = hello_image(alloc)?;
         image.pop();
         image.push(kind)?;
-        same_in(&rt, &kind, fault(alloc, &image), 72);
+        same_in(&rt, &kind, fault(alloc, &image), number);
+    }
+    Ok(())
+}
+
+/// Counts behind the mark, the bytes that follow them, and the number of the refusal.
+const TABLES: [(&[u8], &[u8], u8); 9] = [
+    // an area that is missing, and one that is too short
+    (&[1], b"", 71),
+    (&[1, 2], b"A", 71),
+    // an item of an unknown kind, and one without its length
+    (&[0, 1], b"\x0a", 72),
+    (&[0, 1], b"\x01\0\0\0", 71),
+    // a number: a flag, a negative zero, 39 digits, a scale above 18
+    (&[0, 0, 1], b"\x02", 72),
+    (&[0, 0, 1], b"\x01\0\0\0\0\0\0\0\0\0\0\0\0\0\0\0\0\0", 72),
+    (
+        &[0, 0, 1],
+        b"\0\xff\xff\xff\xff\xff\xff\xff\xff\xff\xff\xff\xff\xff\xff\xff\xff\0",
+        72,
+    ),
+    (&[0, 0, 1], b"\0\0\0\0\0\0\0\0\0\0\0\0\0\0\0\0\x01\x13", 72),
+    // a sender of an unknown kind
+    (&[0, 0, 0, 1], b"\x08", 72),
+];
+
+#[test]
+fn bytes_that_are_no_tables(rt: HostRuntime) -> Result<(), Fail> {
+    for (counts, bytes, number) in TABLES.iter() {
+        let mut image = b"COBIMG01".to_vec(rt.alloc())?;
+        put_counts(&mut image, counts)?;
+        image.extend_from_slice(bytes)?;
+        same_in(&rt, &(*counts, *bytes), fault(rt.alloc(), &image), *number);
     }
     Ok(())
 }

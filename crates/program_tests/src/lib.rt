@@ -7,6 +7,8 @@ mod asserted;
 #[cfg(test)]
 mod codes;
 #[cfg(test)]
+mod moves;
+#[cfg(test)]
 mod trees;
 #[cfg(test)]
 mod turns;

@@ -3,7 +3,9 @@
 use crate::asserted::{same, same_in};
 use divisions::{ParseError, parse};
 use source_lines::logical;
-use source_tree::{Ending, Name, Performed, Performing, Program, Statement, Text, Turns, Verb};
+use source_tree::{
+    Ending, Moving, Name, Operand, Performed, Performing, Program, Statement, Text, Turns, Verb,
+};
 use std::alloc::{AllocError, Global};
 use std::test::Fail;
 use tokens::scan;
@@ -12,7 +14,7 @@ const HEADER: &str =
     "       IDENTIFICATION DIVISION.\n       PROGRAM-ID. HELLO.\n       PROCEDURE DIVISION.\n";
 
 /// What comes after the three lines of `HEADER`, and its tree as `shape` writes it.
-const TREES: [(&str, &str); 30] = [
+const TREES: [(&str, &str); 34] = [
     // HELLO in its six lines, with END PROGRAM, and with another name there
     (
         "       MAIN-PARA.\n           DISPLAY \"HELLO\".\n           STOP RUN.\n",
@@ -69,6 +71,18 @@ const TREES: [(&str, &str); 30] = [
     (
         "           display 1 no advancing stop run.\n",
         "HELLO|.D1-@4:12S@4:35",
+    ),
+    // a word in the next line is an operand, wherever it begins
+    ("           DISPLAY 1\n       A.\n", "HELLO|.D2+@4:12"),
+    // MOVE to one item and to several, with qualifiers and subscripts
+    ("           MOVE 1 TO A.\n", "HELLO|.M1@4:12"),
+    (
+        "           MOVE ALL \"AB\" TO A B IN C (1) D (I - 1, 2) STOP RUN.\n",
+        "HELLO|.M3@4:12S@4:55",
+    ),
+    (
+        "           PERFORM MOVE A TO B C DISPLAY B END-PERFORM.\n",
+        "HELLO|.P(M2@4:20D1+@4:34)@4:12",
     ),
     // figurative constants, in singular and plural, and ALL with a literal
     (
@@ -135,18 +149,22 @@ const TREES: [(&str, &str); 30] = [
 ];
 
 /// What comes after the three lines of `HEADER`, and the fault's number, line and column.
-const FAULTS: [(&str, u8, u32, u8); 37] = [
+const FAULTS: [(&str, u8, u32, u8); 40] = [
     // nothing after PROCEDURE DIVISION. : at the last token
     ("", 30, 3, 26),
     // a missing period at the end
     ("           STOP RUN\n", 30, 4, 17),
-    // an unknown verb, alone, after a sentence and in one; a verb of a later form of the language
+    // an unknown verb, alone, after a sentence and in one
     ("           SHOW 1.\n", 30, 4, 12),
     ("           STOP RUN.\n           SHOW 1.\n", 30, 5, 12),
     ("           STOP RUN\n           SHOW 1.\n", 30, 5, 12),
     // a paragraph's name without its period
     ("       A\n           STOP RUN.\n", 30, 4, 8),
-    ("           MOVE 1.\n", 30, 4, 12),
+    // a MOVE without TO, without a receiver, without a sender, and to a literal
+    ("           MOVE 1.\n", 30, 4, 18),
+    ("           MOVE 1 TO.\n", 30, 4, 21),
+    ("           MOVE TO A.\n", 30, 4, 17),
+    ("           MOVE A TO 1.\n", 30, 4, 22),
     // what is no statement
     ("           RUN.\n", 30, 4, 12),
     ("           DISPLAY.\n", 30, 4, 19),
@@ -156,7 +174,7 @@ const FAULTS: [(&str, u8, u32, u8); 37] = [
     ("           DISPLAY 1 WITH.\n", 30, 4, 22),
     ("           DISPLAY 1 NO.\n", 30, 4, 22),
     // a period that is missing between sentences and a paragraph, and one too many
-    ("           DISPLAY 1\n       A.\n", 30, 5, 8),
+    ("           CONTINUE\n       A.\n", 30, 5, 8),
     ("           DISPLAY 1. .\n", 30, 4, 23),
     // a section without its period, after a paragraph, and after sentences and one
     ("       A SECTION\n           STOP RUN.\n", 30, 5, 12),
@@ -330,7 +348,7 @@ const TEXTS: [(&str, u8, u32, u8); 5] = [
     ),
 ];
 
-fn tree(alloc: Global, source: &str) -> Result<Result<Program, ParseError>, Fail> {
+pub(crate) fn tree(alloc: Global, source: &str) -> Result<Result<Program, ParseError>, Fail> {
     let tokens = scan(alloc, &logical(alloc, source.as_bytes())?)?;
     Ok(parse(alloc, tokens.as_slice()))
 }
@@ -356,6 +374,9 @@ fn push_statement(to: &mut String, alloc: Global, statement: &Statement) -> Resu
         ) => {
             let end = if *advancing { "+" } else { "-" };
             to.push_str(format!(in alloc; "D{}{end}", operands.len())?.as_str())?;
+        }
+        Verb::Moving(Moving::Move { receivers, .. }) => {
+            to.push_str(format!(in alloc; "M{}", receivers.len())?.as_str())?;
         }
         Verb::Performing(
             Performing {
@@ -386,7 +407,7 @@ fn push_name(to: &mut String, alloc: Global, mark: &str, name: &Name) -> Result<
 
 /// The program's name; where it has entries `^` and their number; for each section `#`, its name and place; for each paragraph
 /// `|`, its name and place; for each sentence `.` and its statements: `D`, the number of operands and `+`, or `-` for NO ADVANCING;
-/// `S` for STOP RUN, `C` for CONTINUE, `P` for PERFORM with its integer and the statements in it; each with its place.
+/// `M` for MOVE and the number of receivers; `S` for STOP RUN, `C` for CONTINUE, `P` for PERFORM with its integer and the statements in it; each with its place.
 fn shape(alloc: Global, program: &Program) -> Result<String, AllocError> {
     let mut shape = String::new(alloc);
     push_text(&mut shape, program.name.characters.as_slice())?;
@@ -520,25 +541,65 @@ fn levels_of_statements(rt: HostRuntime) -> Result<(), Fail> {
     Ok(())
 }
 
-/// The operands of a DISPLAY keep their order.
-#[test]
-fn operands_in_order(rt: HostRuntime) -> Result<(), Fail> {
-    let source = format!(in rt.alloc(); "{HEADER}           DISPLAY \"A\" \"B\" \"C\".\n")?;
-    let program = tree(rt.alloc(), source.as_str())??;
-    let mut columns = Vec::new(rt.alloc());
-    for section in program.sections.as_slice() {
-        for paragraph in section.paragraphs.as_slice() {
-            for sentence in paragraph.sentences.as_slice() {
-                for statement in sentence.statements.as_slice() {
-                    if let Verb::Text(Text::Display { operands, .. }) = &statement.verb {
-                        for operand in operands.as_slice() {
-                            columns.push(operand.place.column)?;
-                        }
-                    }
-                }
+/// A literal as a mark, an item as its name, each with its place.
+fn push_operand(to: &mut String, alloc: Global, operand: &Operand) -> Result<(), AllocError> {
+    match operand {
+        Operand::Literal(literal) => {
+            let place = literal.place;
+            to.push_str(format!(in alloc; "'@{}:{}", place.line, place.column)?.as_str())
+        }
+        Operand::Item(reference) => push_name(to, alloc, "", &reference.item.name),
+    }
+}
+
+/// The operands of each DISPLAY, in order.
+fn push_operands(
+    to: &mut String,
+    alloc: Global,
+    statements: &[Statement],
+) -> Result<(), AllocError> {
+    for statement in statements {
+        if let Verb::Text(Text::Display { operands, .. }) = &statement.verb {
+            for operand in operands.as_slice() {
+                push_operand(to, alloc, operand)?;
             }
         }
     }
-    same(&rt, columns.as_slice(), [20, 24, 28].as_slice());
+    Ok(())
+}
+
+fn operands(alloc: Global, program: &Program) -> Result<String, AllocError> {
+    let mut operands = String::new(alloc);
+    for section in program.sections.as_slice() {
+        for paragraph in section.paragraphs.as_slice() {
+            for sentence in paragraph.sentences.as_slice() {
+                push_operands(&mut operands, alloc, sentence.statements.as_slice())?;
+            }
+        }
+    }
+    Ok(operands)
+}
+
+/// The operands of a DISPLAY keep their order.
+#[test]
+fn operands_in_order(rt: HostRuntime) -> Result<(), Fail> {
+    let rows = [
+        (
+            "           DISPLAY \"A\" \"B\" \"C\".\n",
+            "'@4:20'@4:24'@4:28",
+        ),
+        ("           DISPLAY \"A\" B C.\n", "'@4:20B@4:24C@4:26"),
+        ("           DISPLAY 1\n       A.\n", "'@4:20A@5:8"),
+    ];
+    for (body, expected) in rows.iter() {
+        let source = format!(in rt.alloc(); "{HEADER}{body}")?;
+        let program = tree(rt.alloc(), source.as_str())??;
+        same_in(
+            &rt,
+            body,
+            operands(rt.alloc(), &program)?.as_str(),
+            *expected,
+        );
+    }
     Ok(())
 }

@@ -1,9 +1,8 @@
 //! Rows of turns: PERFORM TIMES at each budget, its code, and code with ways back that a machine refuses.
 
 use crate::asserted::{same, same_in};
-use crate::codes::{code, list, place, program, run, text, unended, verdict};
-use code_image::{CounterIndex, Instruction, LiteralIndex, from_bytes, to_bytes};
-use codegen::generate;
+use crate::codes::{code, code_of, list, place, program, run, text, unended, verdict};
+use code_image::{CounterIndex, Instruction, from_bytes, to_bytes};
 use machine::Ended;
 use source_tree::{Ending, Integer, Performed, Performing, Program, Statement, Turns, Verb};
 use sqlite_items::Items;
@@ -44,7 +43,7 @@ fn nested(alloc: Global, counts: &[&[u8]]) -> Result<Program, AllocError> {
 
 /// How the program ends with this budget, and how many bytes it shows.
 fn end_with(alloc: Global, counts: &[&[u8]], budget: u64) -> Result<(Ended, usize), Fail> {
-    let code = generate(alloc, &nested(alloc, counts)?)?;
+    let code = code_of(alloc, &nested(alloc, counts)?)?;
     let (ended, shown) = run(alloc, code, budget)?;
     Ok((ended, shown.len()))
 }
@@ -111,7 +110,7 @@ fn more_turns_than_any_budget(rt: HostRuntime) -> Result<(), Fail> {
 #[test]
 fn images_of_turns(rt: HostRuntime) -> Result<(), Fail> {
     let alloc = rt.alloc();
-    let image = to_bytes(alloc, &generate(alloc, &nested(alloc, &[b"3", b"2"])?)?)?;
+    let image = to_bytes(alloc, &code_of(alloc, &nested(alloc, &[b"3", b"2"])?)?)?;
     let (ended, shown) = run(alloc, from_bytes(alloc, &image)?, 18)?;
     same(&rt, ended, Ended::Stopped);
     same(&rt, shown.as_slice(), b"AAAAAA".as_slice());
@@ -122,16 +121,17 @@ fn images_of_turns(rt: HostRuntime) -> Result<(), Fail> {
 #[test]
 fn the_bytes_of_a_loop(rt: HostRuntime) -> Result<(), Fail> {
     let alloc = rt.alloc();
-    let image = to_bytes(alloc, &generate(alloc, &nested(alloc, &[b"258"])?)?)?;
+    let image = to_bytes(alloc, &code_of(alloc, &nested(alloc, &[b"258"])?)?)?;
     let mut expected = Vec::new(alloc);
-    // nine instructions, a tick for the statement
-    expected.extend_from_slice(&[0, 0, 0, 0, 0, 0, 0, 9])?;
+    // ten instructions, a tick for the statement
+    expected.extend_from_slice(&[0, 0, 0, 0, 0, 0, 0, 10])?;
     expected.extend_from_slice(&[1, 0, 0, 0, 4])?;
     // count: the counter of this address, and the turns after the first
     expected.extend_from_slice(&[4, 0, 0, 0, 0, 0, 0, 0, 1, 0, 0, 0, 0, 0, 0, 1, 1])?;
     expected.extend_from_slice(&[1, 0, 0, 0, 4])?;
     expected.extend_from_slice(&[1, 0, 0, 0, 5])?;
-    expected.extend_from_slice(&[2, 0, 0, 0, 0, 0, 0, 0, 0])?;
+    // the text is added to the line, which is shown
+    expected.extend_from_slice(&[16, 0, 0, 0, 0, 2])?;
     // turn: back to the tick
     expected.extend_from_slice(&[5, 0, 0, 0, 0, 0, 0, 0, 1, 0, 0, 0, 0, 0, 0, 0, 2])?;
     expected.extend_from_slice(&[1, 0, 0, 0, 9, 3, 3])?;
@@ -156,10 +156,9 @@ fn count(counter: usize) -> Instruction {
 /// The fault of `count; tick; show; turn; stop` with these in the places of `count` and `turn`.
 fn verdict_of(alloc: Global, first: Instruction, last: Instruction) -> Result<u8, AllocError> {
     let tick = Instruction::Tick { line: 1 };
-    let show = Instruction::Show {
-        literal: LiteralIndex { number: 0 },
-    };
-    Ok(verdict(code(alloc, &[first, tick, show, last, Instruction::Stop], &[0])?))
+    let show = Instruction::Show;
+    let code = code(alloc, &[first, tick, show, last, Instruction::Stop], &[0])?;
+    Ok(verdict(alloc, code))
 }
 
 #[test]

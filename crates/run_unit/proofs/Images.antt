@@ -8,8 +8,8 @@ use Rattle.source_tree.specs.declared.program.Program.{Program}
 use Rattle.source_tree.specs.Given.{Given, given_on}
 use Rattle.source_tree.specs.Meaning.{meaning}
 use Rattle.code_image.specs.Demands.{IsVerified, Refuses}
-use Rattle.code_image.specs.declared.fault.ImageFault.{ImageFault}
-use Rattle.code_image.specs.declared.fault.ImageFault.TheVariants as in_image
+use Rattle.image_tables.specs.declared.fault.ImageFault.{ImageFault}
+use Rattle.image_tables.specs.declared.fault.ImageFault.TheVariants as in_image
 use Rattle.machine.specs.declared.ended.Ended.{Ended as MachineEnded}
 use Rattle.machine.specs.declared.ended.Ended.TheVariants as machine
 use Rattle.machine.specs.declared.ended.Refusal.TheVariants as refused
@@ -19,7 +19,7 @@ use Rattle.machine.specs.declared.machine.Machine.{Machine}
 use Rattle.run_unit.specs.Ends.{EndsAs, ForImage, IfUnbegun, IsEndOfImage, ended_of}
 use Rattle.run_unit.specs.declared.ended.Refusal.TheVariants.{Image, Device, Memory}
 use Rattle.run_unit.specs.declared.ended.Ended.{Ended}
-use Rattle.run_unit.specs.declared.ended.Ended.TheVariants.{Stopped, Budget, Refused}
+use Rattle.run_unit.specs.declared.ended.Ended.TheVariants.{Stopped, Budget, Faulted, Refused}
 use Rattle.source_tree.specs.Meaning.{Run}
 use Rattle.code_image.specs.declared.code.Code.{Code}
 use Rattle.code_image.specs.Spelling.{spelling, HasSpelling}
@@ -39,8 +39,8 @@ read_again spelt image code is = ap code_at is.bytes ∙ spelt code is.spelt
 keeps_demands : (code : Code) (fault : ImageFault) → IsVerified code → Refuses code fault → ⊥
 keeps_demands code in_image.Mark verified refuses = refuses
 keeps_demands code in_image.Length verified refuses = refuses
-keeps_demands code in_image.Value verified refuses = refuses
-keeps_demands code in_image.Index verified refuses = refuses verified.within
+keeps_demands code in_image.Value verified refuses = refuses verified.tables
+keeps_demands code in_image.Index verified refuses = refuses.1 verified.within
 keeps_demands code in_image.Shape verified refuses = refuses.1 verified.shape
 
 err_not_ok : (r : Result Code ImageFault) (fault : ImageFault) (code : Code) → r ≡ Err fault → r ≡ Ok code → ⊥
@@ -56,6 +56,7 @@ never_refused spelt image code fault is (inr refused) =
 pub end_of_image : OneSpelling → (image : List ℕ) (ended : Ended) → IsImage image → ForImage ended image → IsEndOfImage ended
 end_of_image spelt image Stopped is for = tt
 end_of_image spelt image Budget is for = tt
+end_of_image spelt image (Faulted fault line) is for = tt
 end_of_image spelt image (Refused (Image fault)) is for = never_refused spelt image is.0 fault is.1 for
 end_of_image spelt image (Refused Device) is for = tt
 end_of_image spelt image (Refused Memory) is for = tt
@@ -64,12 +65,14 @@ end_of_image spelt image (Refused Memory) is for = tt
 pub for_image : (image : List ℕ) (ended : MachineEnded) → IsImage image → ForImage (ended_of ended) image
 for_image image machine.Stopped is = is
 for_image image machine.Budget is = is
+for_image image (machine.Faulted fault line) is = is
 for_image image (machine.Refused refused.Device) is = is
 
 -- a machine's run has begun
 pub begun : (fact : Type 0) (ended : MachineEnded) → IfUnbegun (ended_of ended) fact
 begun fact machine.Stopped = tt
 begun fact machine.Budget = tt
+begun fact (machine.Faulted fault line) = tt
 begun fact (machine.Refused refused.Device) = tt
 
 -- what is written of a tree's code is an image that means the same
@@ -90,4 +93,5 @@ runs_as budget run state machine day code same_code same_day runs =
 pub ends_as : (all : Run) (old now : State) (ended : MachineEnded) → run.EndsAs all old ended now → EndsAs all old (ended_of ended) now
 ends_as all old now machine.Stopped ends = ends
 ends_as all old now machine.Budget ends = ends
+ends_as all old now (machine.Faulted fault line) ends = ends
 ends_as all old now (machine.Refused refused.Device) ends = tt

@@ -21,10 +21,10 @@ use Rattle.source_tree.specs.Broken.{Broken}
 use Rattle.entry_rules.specs.Checks as rules
 use Rattle.entry_rules.specs.Checks.{first_or}
 use Rattle.entry_rules.specs.declared.rule.CheckError.{CheckError}
-use Rattle.entry_rules.specs.declared.rule.CheckError.TheVariants as in_entries
+use Rattle.entry_rules.specs.declared.rule.CheckError.TheVariants as in_rules
 use Rattle.run_unit.specs.Faults as compiling
-use Rattle.run_unit.specs.Faults.{OfLines, OfTokens, OfTree, OfEntries, from_tokens, from_tree, from_entries}
-use Rattle.run_unit.specs.Trees.{IsTreeOf, IsTreeAnswer, broken_rules, then_read, tree_by, tree_with_rules, tree_in_tokens, tree_in_characters, tree_of}
+use Rattle.run_unit.specs.Faults.{OfLines, OfTokens, OfTree, OfRules, from_tokens, from_tree, from_rules}
+use Rattle.run_unit.specs.Trees.{IsReadFrom, IsTreeAnswer, broken_rules, then_read, tree_by, tree_with_rules, tree_in_tokens, tree_in_characters, tree_of}
 use Rattle.run_unit.specs.Images.{IsImageAnswer}
 use Rattle.run_unit.specs.declared.fault.CompileError.{CompileError}
 use Rattle.run_unit.specs.declared.fault.CompileError.TheVariants.{Memory, Refused}
@@ -48,7 +48,7 @@ abbrev pub OneScan : Type 0
 OneScan = (characters : List Character) (found : List Token) → TokensOf characters found → tokens characters ≡ Ok found
 
 -- the tokens of a source text with this tree spell it
-pub spelled_by : OneFormat → OneScan → (source : List ℕ) (tree : Program) → IsTreeOf source tree
+pub spelled_by : OneFormat → OneScan → (source : List ℕ) (tree : Program) → IsReadFrom source tree
     → (characters : List Character) (found : List Token) → characters_of source ≡ Ok characters → tokens characters ≡ Ok found → Spells max_nesting tree found
 spelled_by format scan source tree is characters found read scanned =
     let same_characters : is.characters ≡ characters = value (format source is.characters is.format) read in
@@ -60,7 +60,7 @@ clash : {A F : Type 0} {r : Result A F} {a : A} {f : F} → r ≡ Ok a → r ≡
 clash is fails = cc
 
 -- where a source text has a tree, only memory refuses its tokens
-pub tokens_refusal : OneFormat → OneScan → (source : List ℕ) (tree : Program) → IsTreeOf source tree
+pub tokens_refusal : OneFormat → OneScan → (source : List ℕ) (tree : Program) → IsReadFrom source tree
     → (characters : List Character) → characters_of source ≡ Ok characters → (e : TokenError) → Fails (fault_of e) (tokens characters) → IsTreeAnswer tree (Err (from_tokens e))
 tokens_refusal format scan source tree is characters read in_tokens.Memory fails = tt
 tokens_refusal format scan source tree is characters read (in_tokens.Refused fault) fails =
@@ -83,25 +83,27 @@ fails_not is fails = cc
 abbrev pub none_broken : List Broken → Result (Unit {0}) Broken
 none_broken rules = first_or tt rules
 
--- where the entries keep the rules, only memory refuses them
-pub rules_refusal : (tree : Program) → broken_rules tree ≡ [] → (e : CheckError) → Fails (rules.fault_of e) (none_broken (broken_rules tree)) → IsTreeAnswer tree (Err (from_entries e))
-rules_refusal tree kept in_entries.Memory fails = tt
-rules_refusal tree kept (in_entries.Refused broken) fails = absurd (fails_not (ap none_broken kept) fails)
+-- where the tree keeps the rules, only memory refuses it
+pub rules_refusal : (tree : Program) → broken_rules tree ≡ [] → (e : CheckError) → Fails (rules.fault_of e) (none_broken (broken_rules tree)) → IsImageAnswer tree (Err (from_rules e))
+rules_refusal tree kept in_rules.Memory fails = tt
+rules_refusal tree kept (in_rules.Refused broken) fails = absurd (fails_not (ap none_broken kept) fails)
 
-by_first : (tree : Program) (rules : List Broken) (broken : Broken) → none_broken rules ≡ Err broken → tree_by tree rules ≡ Err (OfEntries broken)
+by_first : (tree : Program) (rules : List Broken) (broken : Broken) → none_broken rules ≡ Err broken → tree_by tree rules ≡ Err (OfRules broken)
 by_first tree [] broken e = cc
 by_first tree (one ∷ more) broken e = cc
 
--- the first rule that is broken is the source text's first fault
-pub rules_fault : (source : List ℕ) (characters : List Character) (found : List Token) (tree : Program)
-    → characters_of source ≡ Ok characters → tokens characters ≡ Ok found → parse_of found ≡ Ok tree
-    → (e : CheckError) → Fails (rules.fault_of e) (none_broken (broken_rules tree)) → Fails (compiling.fault_of (from_entries e)) (tree_of source)
-rules_fault source characters found tree read scanned parsed in_entries.Memory fails = tt
-rules_fault source characters found tree read scanned parsed (in_entries.Refused broken) fails =
+-- the first rule that is broken is what is told of the tree
+pub rules_fault : (tree : Program) (e : CheckError) → Fails (rules.fault_of e) (none_broken (broken_rules tree)) → Fails (compiling.fault_of (from_rules e)) (tree_with_rules tree)
+rules_fault tree in_rules.Memory fails = tt
+rules_fault tree (in_rules.Refused broken) fails = by_first tree (broken_rules tree) (rules.broken_of broken) fails
+
+-- a tree that was read is the source text's, if it keeps the rules
+pub rules_left : (source : List ℕ) (characters : List Character) (found : List Token) (tree : Program)
+    → characters_of source ≡ Ok characters → tokens characters ≡ Ok found → parse_of found ≡ Ok tree → tree_of source ≡ tree_with_rules tree
+rules_left source characters found tree read scanned parsed =
     ap (λ r. then_read r OfLines tree_in_characters) read
     ∙ ap (λ r. then_read r OfTokens tree_in_tokens) scanned
     ∙ ap (λ r. then_read r OfTree tree_with_rules) parsed
-    ∙ by_first tree (broken_rules tree) (rules.broken_of broken) fails
 
 pub image_refusal : (tree : Program) (e : CompileError) → IsTreeAnswer tree (Err e) → IsImageAnswer tree (Err e)
 image_refusal tree Memory allowed = tt

@@ -19,9 +19,10 @@ OneTree = (depth depth' : ℕ) (tree tree' : Program) (found : List Token) → S
 
 pub one_tree : OneFormat → OneScan → OneTree → (source : List ℕ) (tree other : Program) → IsTreeOf source tree → IsTreeOf source other → tree ≡ other
 one_tree format scan spelling source tree other a b =
-    spelling max_nesting max_nesting tree other b.tokens
-    (spelled_by format scan source tree a b.characters b.tokens (format source b.characters b.format) (scan b.characters b.tokens b.scanned))
-    b.spelled
+    let other_read = b.read in
+    spelling max_nesting max_nesting tree other other_read.tokens
+    (spelled_by format scan source tree a.read other_read.characters other_read.tokens (format source other_read.characters other_read.format) (scan other_read.characters other_read.tokens other_read.scanned))
+    other_read.spelled
 
 -- an image is of one code
 pub one_code : OneSpelling → (image : List ℕ) (code other : Code) → IsImageOf image code → IsImageOf image other → code ≡ other

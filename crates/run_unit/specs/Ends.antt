@@ -4,9 +4,10 @@ use Rattle.station.specs.State.{State}
 use Rattle.station.specs.Failures.{Blames}
 use Rattle.source_tree.specs.State as end
 use Rattle.source_tree.specs.Meaning.{Run}
-use Rattle.code_image.specs.Faults as image
-use Rattle.code_image.specs.declared.fault.ImageError.{ImageError}
-use Rattle.code_image.specs.declared.fault.ImageError.TheVariants as in_image
+use Rattle.data_instructions.specs.Faults as program
+use Rattle.image_tables.specs.Faults as image
+use Rattle.image_tables.specs.declared.fault.ImageError.{ImageError}
+use Rattle.image_tables.specs.declared.fault.ImageError.TheVariants as in_image
 use Rattle.machine.specs.declared.ended.Ended.{Ended as MachineEnded}
 use Rattle.machine.specs.declared.ended.Ended.TheVariants as machine
 use Rattle.machine.specs.declared.ended.Refusal.TheVariants as refused
@@ -19,7 +20,7 @@ use Rattle.run_unit.specs.declared.fault.CompileError.{CompileError}
 use Rattle.run_unit.specs.declared.ended.Refusal.{Refusal}
 use Rattle.run_unit.specs.declared.ended.Refusal.TheVariants.{Image, Device, Memory}
 use Rattle.run_unit.specs.declared.ended.Ended.{Ended}
-use Rattle.run_unit.specs.declared.ended.Ended.TheVariants.{Stopped, Budget, Refused}
+use Rattle.run_unit.specs.declared.ended.Ended.TheVariants.{Stopped, Budget, Faulted, Refused}
 
 -- the number that the product prints (own choice)
 abbrev pub number_of : Refusal → ℕ
@@ -36,6 +37,7 @@ from_image (in_image.Refused fault) = Image fault
 abbrev pub ended_of : MachineEnded → Ended
 ended_of machine.Stopped = Stopped
 ended_of machine.Budget = Budget
+ended_of (machine.Faulted fault line) = Faulted fault line
 ended_of (machine.Refused refused.Device) = Refused Device
 
 -- What is so after each end, where this is the run. Its image is never refused, and want of memory comes before anything was
@@ -43,6 +45,7 @@ ended_of (machine.Refused refused.Device) = Refused Device
 abbrev pub EndsAs : Run → State → Ended → State → Type 0
 EndsAs run old Stopped now = Finished run end.Stopped old now
 EndsAs run old Budget now = Finished run end.Budget old now
+EndsAs run old (Faulted fault line) now = Finished run (end.Faulted (program.fault_of fault) line) old now
 EndsAs run old (Refused (Image fault)) now = ⊥
 EndsAs run old (Refused Memory) now = now ≡ old
 EndsAs run old (Refused Device) now = Unit {0}
@@ -61,6 +64,7 @@ IsCauseOf Memory image = Unit {0}
 abbrev pub ForImage : Ended → List ℕ → Type 0
 ForImage Stopped image = IsImage image
 ForImage Budget image = IsImage image
+ForImage (Faulted fault line) image = IsImage image
 ForImage (Refused (Image fault)) image = RefusesImage image fault
 ForImage (Refused Device) image = IsImage image
 ForImage (Refused Memory) image = Unit {0}
@@ -69,6 +73,7 @@ ForImage (Refused Memory) image = Unit {0}
 abbrev pub IfUnbegun : Ended → Type 0 → Type 0
 IfUnbegun Stopped fact = Unit {0}
 IfUnbegun Budget fact = Unit {0}
+IfUnbegun (Faulted fault line) fact = Unit {0}
 IfUnbegun (Refused (Image fault)) fact = fact
 IfUnbegun (Refused Device) fact = Unit {0}
 IfUnbegun (Refused Memory) fact = fact
@@ -77,6 +82,7 @@ IfUnbegun (Refused Memory) fact = fact
 abbrev pub IsEndOfImage : Ended → Type 0
 IsEndOfImage Stopped = Unit {0}
 IsEndOfImage Budget = Unit {0}
+IsEndOfImage (Faulted fault line) = Unit {0}
 IsEndOfImage (Refused (Image fault)) = ⊥
 IsEndOfImage (Refused Device) = Unit {0}
 IsEndOfImage (Refused Memory) = Unit {0}

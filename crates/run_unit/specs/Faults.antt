@@ -16,9 +16,9 @@ use Rattle.divisions.specs.declared.fault.ParseFault.{ParseFault}
 use Rattle.source_tree.specs.Broken.{Broken}
 use Rattle.entry_rules.specs.Checks as rules
 use Rattle.entry_rules.specs.declared.rule.CheckError.{CheckError}
-use Rattle.entry_rules.specs.declared.rule.CheckError.TheVariants as in_entries
+use Rattle.entry_rules.specs.declared.rule.CheckError.TheVariants as in_rules
 use Rattle.run_unit.specs.declared.fault.CompileFault.{CompileFault}
-use Rattle.run_unit.specs.declared.fault.CompileFault.TheVariants.{Lines, Tokens, Tree, Entries}
+use Rattle.run_unit.specs.declared.fault.CompileFault.TheVariants.{Lines, Tokens, Tree, Rules}
 use Rattle.run_unit.specs.declared.fault.CompileError.{CompileError}
 use Rattle.run_unit.specs.declared.fault.CompileError.TheVariants.{Memory, Refused}
 
@@ -26,26 +26,26 @@ abbrev pub number_of : CompileFault → ℕ
 number_of (Lines fault) = lines.number_of fault.kind
 number_of (Tokens fault) = tokens.number_of fault.kind
 number_of (Tree fault) = trees.number_of fault.kind
-number_of (Entries broken) = rules.number_of broken.rule
+number_of (Rules broken) = rules.number_of broken.rule
 
 abbrev pub place_of : CompileFault → Place
 place_of (Lines fault) = fault.place
 place_of (Tokens fault) = fault.place
 place_of (Tree fault) = fault.place
-place_of (Entries broken) = broken.place
+place_of (Rules broken) = broken.place
 
 -- What a stage says of a source text that it refuses.
 pub data StageFault : Type 0 where
   OfLines : SourceFault → StageFault
   OfTokens : TokenFault → StageFault
   OfTree : ParseFault → StageFault
-  OfEntries : Broken → StageFault
+  OfRules : Broken → StageFault
 
 abbrev pub stage_fault : CompileFault → StageFault
 stage_fault (Lines fault) = OfLines fault
 stage_fault (Tokens fault) = OfTokens fault
 stage_fault (Tree fault) = OfTree fault
-stage_fault (Entries broken) = OfEntries (rules.broken_of broken)
+stage_fault (Rules broken) = OfRules (rules.broken_of broken)
 
 -- the fault of an error, or none where memory ran out
 abbrev pub fault_of : CompileError → Option StageFault
@@ -65,6 +65,6 @@ abbrev pub from_tree : ParseError → CompileError
 from_tree in_tree.Memory = Memory
 from_tree (in_tree.Refused fault) = Refused (Tree fault)
 
-abbrev pub from_entries : CheckError → CompileError
-from_entries in_entries.Memory = Memory
-from_entries (in_entries.Refused broken) = Refused (Entries broken)
+abbrev pub from_rules : CheckError → CompileError
+from_rules in_rules.Memory = Memory
+from_rules (in_rules.Refused broken) = Refused (Rules broken)

@@ -8,28 +8,32 @@ use Rattle.tokens.specs.Tokens.{TokensOf}
 use Rattle.tokens.specs.Scanning.{tokens}
 use Rattle.source_tree.specs.declared.program.Program.{Program}
 use Rattle.source_tree.specs.Broken.{Broken}
-use Rattle.source_tree.specs.EntryRules.{entry_rules}
+use Rattle.source_tree.specs.Rules.{program_rules}
 use Rattle.statements.specs.Spelling.{max_nesting}
 use Rattle.data_division.specs.Forms.{HasForms}
 use Rattle.divisions.specs.Spelling.{Spells}
 use Rattle.divisions.specs.Faults.{parse_of}
-use Rattle.run_unit.specs.Faults.{StageFault, OfLines, OfTokens, OfTree, OfEntries}
+use Rattle.run_unit.specs.Faults.{StageFault, OfLines, OfTokens, OfTree, OfRules}
 use Rattle.run_unit.specs.declared.fault.CompileError.{CompileError}
 use Rattle.run_unit.specs.declared.fault.CompileError.TheVariants.{Memory, Refused}
 
--- the rules that the tree's entries break, in the order in which they are looked for
+-- the rules that the tree breaks, in the order in which they are looked for
 unfoldable pub broken_rules : Program → List Broken
-broken_rules tree = entry_rules tree.storage
+broken_rules tree = program_rules tree
 
--- The tree spells the tokens that the characters of the source text have. Its statements nest at most 64 deep, each of its
--- pictures has a form, and its entries keep the rules of entries.
-pub record IsTreeOf (source : List ℕ) (tree : Program) : Type 0 where
+-- The tree spells the tokens that the characters of the source text have. Its statements nest at most 64 deep, and each of its
+-- pictures has a form.
+pub record IsReadFrom (source : List ℕ) (tree : Program) : Type 0 where
   pub characters : List Character
   pub tokens : List Token
   pub format : HasCharacters source characters
   pub scanned : TokensOf characters tokens
   pub spelled : Spells max_nesting tree tokens
   pub formed : HasForms tree.storage
+
+-- And it keeps the rules.
+pub record IsTreeOf (source : List ℕ) (tree : Program) : Type 0 where
+  pub read : IsReadFrom source tree
   pub kept : broken_rules tree ≡ []
 
 -- ---- the same as a function, by the stages in order
@@ -38,10 +42,10 @@ abbrev pub then_read : {A B F : Type 0} → Result A F → (F → StageFault) �
 then_read (Ok a) fault next = next a
 then_read (Err e) fault next = Err (fault e)
 
--- the tree, unless its entries break a rule; then the first one
+-- the tree, unless it breaks a rule; then the first one
 abbrev pub tree_by : Program → List Broken → Result Program StageFault
 tree_by tree [] = Ok tree
-tree_by tree (one ∷ more) = Err (OfEntries one)
+tree_by tree (one ∷ more) = Err (OfRules one)
 
 abbrev pub tree_with_rules : Program → Result Program StageFault
 tree_with_rules tree = tree_by tree (broken_rules tree)

@@ -6,32 +6,24 @@ ghost use Rattle.source_tree.specs.declared.program.Program.{Program};
 ghost use Rattle.source_tree.specs.Meaning.{meaning};
 ghost use Rattle.entry_rules.specs.Checks as rules;
 ghost use Rattle.run_unit.specs.Faults.{fault_of};
-ghost use Rattle.run_unit.specs.Trees.{IsTreeOf, IsTreeAnswer, broken_rules, tree_of};
+ghost use Rattle.run_unit.specs.Trees.{IsReadFrom, IsTreeOf, IsTreeAnswer, broken_rules, tree_with_rules, tree_of};
 ghost use Rattle.run_unit.specs.Images.{MeansAs, IsImageAnswer};
 
 use crate::fault::CompileError;
+use check_rules::{CheckError, Checked, check};
 use code_image::to_bytes;
 use codegen::generate;
 use divisions::parse;
-use entry_rules::{CheckError, check_entries};
 use source_lines::{logical, reference_format};
 use source_tree::Program;
 use std::alloc::{AllocError, Global};
 use tokens::{laws, scan};
 
-/// The entries of the tree keep the rules of entries.
-#[tactic(auto, unfolding(crate::specs::Trees::broken_rules))]
-fn check_tree(alloc: Global, tree: &Program) -> Result<(), CheckError>
-    ensures kept { OnOk result (broken_rules tree.now ≡ []) }
-    ensures exact { Gives (λ value. value) rules.fault_of result (rules.first_or tt (broken_rules tree.now)) }
-{
-    check_entries(alloc, tree.storage.as_slice())
-}
-
-/// The tree of a source text, by the stages in order.
+/// The tree that a source text spells, by the stages in order. Its rules come later.
 fn read_tree(alloc: Global, source: &[u8]) -> Result<Program, CompileError>
-    ensures tree { IfOk result (λ tree. IsTreeOf source.now tree) }
-    ensures only { (tree : Program) → IsTreeOf source.now tree → IsTreeAnswer tree result }
+    ensures tree { IfOk result (λ tree. IsReadFrom source.now tree) }
+    ensures rules { IfOk result (λ tree. tree_of source.now ≡ tree_with_rules tree) }
+    ensures only { (tree : Program) → IsReadFrom source.now tree → IsTreeAnswer tree result }
     ensures fault { IfErr result (λ e. Fails (fault_of e) (tree_of source.now)) }
 {
     reference_format();
@@ -39,22 +31,43 @@ fn read_tree(alloc: Global, source: &[u8]) -> Result<Program, CompileError>
     let lines = logical(alloc, source)?;
     let tokens = scan(alloc, &lines)?;
     let tree = parse(alloc, tokens.as_slice())?;
-    check_tree(alloc, &tree)?;
     Ok(tree)
 }
 
-/// The image of a tree. It is refused for want of memory alone.
-fn make_image(alloc: Global, tree: &Program) -> Result<Vec<u8>, AllocError>
-    ensures { IfOk result (λ image. MeansAs tree.now image.items) }
+/// The tree keeps the rules.
+#[tactic(auto, unfolding(crate::specs::Trees::broken_rules))]
+fn check_tree(alloc: Global, tree: &Program) -> Result<Checked<'_>, CheckError>
+    ensures tree { IfOk result (λ checked. checked ≡ tree.now) }
+    ensures kept { OnOk result (broken_rules tree.now ≡ []) }
+    ensures exact { Gives (λ checked. tt {0}) rules.fault_of result (rules.first_or (tt {0}) (broken_rules tree.now)) }
 {
-    let code = generate(alloc, tree)?;
+    check(alloc, tree)
+}
+
+/// The image of a tree that keeps the rules. It is refused for want of memory alone.
+fn make_image(alloc: Global, checked: &Checked<'_>) -> Result<Vec<u8>, AllocError>
+    ensures { IfOk result (λ image. MeansAs checked.now image.items) }
+{
+    let code = generate(alloc, checked)?;
     to_bytes(alloc, &code)
+}
+
+/// The image of a tree, if it keeps the rules; else the first one that it breaks.
+fn image_of_tree(alloc: Global, tree: &Program) -> Result<Vec<u8>, CompileError>
+    ensures kept { OnOk result (broken_rules tree.now ≡ []) }
+    ensures image { IfOk result (λ image. MeansAs tree.now image.items) }
+    ensures only { broken_rules tree.now ≡ [] → IsImageAnswer tree.now result }
+    ensures fault { IfErr result (λ e. Fails (fault_of e) (tree_with_rules tree.now)) }
+{
+    let checked = check_tree(alloc, tree)?;
+    Ok(make_image(alloc, &checked)?)
 }
 
 /// The image of a source text.
 ///
 /// `Refused` with the first fault that a stage meets: 10 to 14 for its lines, 15 to 18 for its tokens, 30, 31 and 20
-/// for its tree, 43 to 48, 55 and 69 for the rules of its entries.
+/// for its tree, 43 to 48, 55 and 69 for the rules of its entries, 17, 18, 40, 41, 49 to 51 and 67 for those of its
+/// statements.
 pub fn compile(alloc: Global, source: &[u8]) -> Result<Vec<u8>, CompileError>
     // What is answered is an image of the source text's tree: whatever it is given, its run is what the tree means.
     ensures image { IfOk result (λ image. (tree : Program) × IsTreeOf source.now tree × MeansAs tree image.items) }
@@ -64,5 +77,5 @@ pub fn compile(alloc: Global, source: &[u8]) -> Result<Vec<u8>, CompileError>
     ensures fault { IfErr result (λ e. Fails (fault_of e) (tree_of source.now)) }
 {
     let tree = read_tree(alloc, source)?;
-    Ok(make_image(alloc, &tree)?)
+    image_of_tree(alloc, &tree)
 }

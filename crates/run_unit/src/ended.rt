@@ -4,6 +4,7 @@ ghost use Rattle.std.specs.Prelude.{◌≡◌};
 ghost use Rattle.run_unit.specs.Ends.{number_of, ended_of};
 
 use code_image::{ImageError, ImageFault};
+use data_instructions::ProgramFault;
 use std::alloc::AllocError;
 use thiserror::Error;
 
@@ -51,17 +52,6 @@ impl From<ImageError> for Refusal {
     }
 }
 
-impl From<ImageFault> for Refusal {
-    ghost use Rattle.std.specs.Prelude.{◌≡◌};
-    ghost use Rattle.run_unit.specs.declared.ended.Refusal.TheVariants.{Image};
-
-    ghost from_gives = { λ fault refusal. refusal ≡ Image fault };
-
-    fn from(fault: ImageFault) -> Refusal {
-        Refusal::Image(fault)
-    }
-}
-
 impl From<AllocError> for Refusal {
     ghost use Rattle.std.specs.Prelude.{◌≡◌};
     ghost use Rattle.run_unit.specs.declared.ended.Refusal.TheVariants.{Memory};
@@ -80,6 +70,8 @@ pub enum Ended {
     Stopped,
     /// A statement was to begin, and the budget was used up.
     Budget,
+    /// 90 or 91: the statement that began in this line of the source did something wrong.
+    Faulted { fault: ProgramFault, line: u32 },
     /// The run was given up, or never began.
     Refused(Refusal),
 }
@@ -92,6 +84,7 @@ impl Ended {
         match ended {
             machine::Ended::Stopped => Ended::Stopped,
             machine::Ended::Budget => Ended::Budget,
+            machine::Ended::Faulted { fault, line } => Ended::Faulted { fault, line },
             machine::Ended::Refused(machine::Refusal::Device) => Ended::Refused(Refusal::Device),
         }
     }

@@ -1,10 +1,10 @@
 //! Why a source text isn't compiled.
 
 ghost use Rattle.std.specs.Prelude.{◌≡◌};
-ghost use Rattle.run_unit.specs.Faults.{number_of, place_of, from_lines, from_tokens, from_tree, from_entries};
+ghost use Rattle.run_unit.specs.Faults.{number_of, place_of, from_lines, from_tokens, from_tree, from_rules};
 
+use check_rules::CheckError;
 use divisions::ParseError;
-use entry_rules::CheckError;
 use lexical::Place;
 use source_lines::SourceError;
 use std::alloc::AllocError;
@@ -20,8 +20,8 @@ pub enum CompileFault {
     Tokens(tokens::TokenFault),
     /// 20, 30 and 31.
     Tree(divisions::ParseFault),
-    /// 43 to 48, 55 and 69.
-    Entries(entry_rules::BrokenRule),
+    /// 17, 18, 40, 41, 43 to 51, 55, 67 and 69.
+    Rules(check_rules::BrokenRule),
 }
 
 impl CompileFault {
@@ -33,7 +33,7 @@ impl CompileFault {
             CompileFault::Lines(fault) => fault.kind.number(),
             CompileFault::Tokens(fault) => fault.kind.number(),
             CompileFault::Tree(fault) => fault.kind.number(),
-            CompileFault::Entries(broken) => broken.rule.number(),
+            CompileFault::Rules(broken) => broken.rule.number(),
         }
     }
 
@@ -45,7 +45,7 @@ impl CompileFault {
             CompileFault::Lines(fault) => fault.place,
             CompileFault::Tokens(fault) => fault.place,
             CompileFault::Tree(fault) => fault.place,
-            CompileFault::Entries(broken) => broken.place,
+            CompileFault::Rules(broken) => broken.place,
         }
     }
 }
@@ -103,14 +103,14 @@ impl From<ParseError> for CompileError {
 
 impl From<CheckError> for CompileError {
     ghost use Rattle.std.specs.Prelude.{◌≡◌};
-    ghost use Rattle.run_unit.specs.Faults.{from_entries};
+    ghost use Rattle.run_unit.specs.Faults.{from_rules};
 
-    ghost from_gives = { λ fault e. e ≡ from_entries fault };
+    ghost from_gives = { λ fault e. e ≡ from_rules fault };
 
     fn from(fault: CheckError) -> CompileError {
         match fault {
             CheckError::Memory => CompileError::Memory,
-            CheckError::Refused(broken) => CompileError::Refused(CompileFault::Entries(broken)),
+            CheckError::Refused(broken) => CompileError::Refused(CompileFault::Rules(broken)),
         }
     }
 }

@@ -24,7 +24,7 @@ fn load(alloc: Global, image: &[u8], day: [u8; 6]) -> Result<Machine, Refusal>
     ensures cause { IfErr result (λ refusal. IsCauseOf refusal image.now) }
 {
     let code = from_bytes(alloc, image)?;
-    let verified = verify(code)?;
+    let verified = verify(alloc, code)?;
     Ok(Machine::new(alloc, verified, day)?)
 }
 

@@ -11,6 +11,7 @@ mod laws;
 mod source;
 
 pub use compiling::compile;
+pub use data_instructions::ProgramFault;
 pub use ended::{Ended, Refusal};
 pub use fault::{CompileError, CompileFault};
 pub use image::run_image;

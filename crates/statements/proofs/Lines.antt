@@ -2,6 +2,7 @@
 use Rattle.std.proofs.Common.{◌≡◌, ℕ, List, length, Option, None, Some, sym, ap, ◌∙◌, subst, arith}
 use Rattle.std.specs.Prelude.{Ok, is_some}
 use Rattle.tokens.specs.declared.token.Token.{Token}
+use Rattle.source_tree.specs.declared.moving.Moving.TheVariants.{Move}
 use Rattle.source_tree.specs.declared.text.Text.TheVariants as text
 use Rattle.source_tree.specs.declared.ending.Ending.TheVariants as ending
 use Rattle.source_tree.specs.declared.statement.Verb.{Verb}
@@ -21,6 +22,7 @@ use Rattle.statements.specs.Spelling as g
 use Rattle.statements.specs.Reading as r
 use Rattle.statements.proofs.Verbs.Continuing.{continuing_shrinks, continuing_stands, continuing_complete, continuing_sound}
 use Rattle.statements.proofs.Verbs.Display.{display_shrinks, display_stands, display_complete, display_sound}
+use Rattle.statements.proofs.Verbs.Moving.{moving_shrinks, moving_stands, moving_complete, moving_sound}
 use Rattle.statements.proofs.StatementLists.{statements_shrink, statements_complete}
 use Rattle.statements.proofs.Verbs.Performing.{performing_shrinks, performing_stands, performing_complete, performing_sound}
 use Rattle.statements.proofs.Verbs.StopRun.{stop_run_shrinks, stop_run_stands, stop_run_complete, stop_run_sound}
@@ -29,6 +31,7 @@ use Rattle.statements.proofs.Verbs.StopRun.{stop_run_shrinks, stop_run_stands, s
 
 module _ (depth : ℕ) (p : Statement → Part) where
   verb_shrinks : Shrinks p → Shrinks (g.verb_line depth p)
+  verb_shrinks fewer (verb.Moving (Move sender receivers)) i rest s = moving_shrinks sender receivers i rest s
   verb_shrinks fewer (verb.Performing one) i rest s = performing_shrinks (g.statements p) (statements_shrink p fewer) one i rest s
   verb_shrinks fewer (verb.Text (text.Display operands advancing)) i rest s = display_shrinks operands advancing i rest s
   verb_shrinks fewer (verb.Ending ending.StopRun) i rest s = stop_run_shrinks i rest s
@@ -39,12 +42,14 @@ module _ (depth : ℕ) (p : Statement → Part) where
 
   -- the verb that a line begins with
   abbrev word_of : Verb Statement → VerbWord
+  word_of (verb.Moving (Move sender receivers)) = v.Move
   word_of (verb.Performing one) = v.Perform
   word_of (verb.Text (text.Display operands advancing)) = v.Display
   word_of (verb.Ending ending.StopRun) = v.Stop
   word_of (verb.Ending ending.Continue) = v.Continue
 
   verb_stands : (x : Verb Statement) (i rest : List Token) → g.verb_line depth p x i rest → verb_at i ≡ Some (word_of x)
+  verb_stands (verb.Moving (Move sender receivers)) i rest s = moving_stands sender receivers i rest s
   verb_stands (verb.Performing one) i rest s = performing_stands (g.statements p) one i rest s
   verb_stands (verb.Text (text.Display operands advancing)) i rest s = display_stands operands advancing i rest s
   verb_stands (verb.Ending ending.StopRun) i rest s = stop_run_stands i rest s
@@ -60,6 +65,7 @@ module _ (depth : ℕ) (p : Statement → Part) where
     by_verb_sound None x i rest e = cc
     by_verb_sound (Some v.Continue) x i rest e = continuing_sound depth p x i rest e
     by_verb_sound (Some v.Display) x i rest e = display_sound depth p x i rest e
+    by_verb_sound (Some v.Move) x i rest e = moving_sound depth p x i rest e
     by_verb_sound (Some v.Perform) x i rest e = performing_sound depth p nested each x i rest e
     by_verb_sound (Some v.Stop) x i rest e = stop_run_sound depth p x i rest e
 
@@ -79,6 +85,7 @@ module _ (depth : ℕ) (p : Statement → Part) where
 
 module _ (Allowed : Halt → Type 0) (depth depth' : ℕ) (p : Statement → Part) (nested : Parser Statement) (each : Complete Allowed p nested) (fewer : Shrinks p) (begins : Starts begins_statement p) where
   by_verb_complete : (x : Verb Statement) (i rest : List Token) → g.verb_line depth' p x i rest → Answers Allowed (r.by_verb depth nested (Some (word_of depth' p x)) i) x rest
+  by_verb_complete (verb.Moving (Move sender receivers)) i rest s = moving_complete sender receivers i rest s
   by_verb_complete (verb.Performing one) i rest s =
       performing_complete (g.statements p) (r.statements nested) (statements_complete Allowed p nested each fewer begins) one.turns one.performed i rest s
   by_verb_complete (verb.Text (text.Display operands advancing)) i rest s = display_complete operands advancing i rest s

@@ -1,6 +1,7 @@
 pub mod Verbs
 pub mod Continuing
 pub mod Display
+pub mod Moving
 pub mod Performing
 pub mod StopRun
 pub mod Spelling

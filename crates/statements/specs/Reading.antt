@@ -10,6 +10,7 @@ use Rattle.statements.specs.declared.verb.VerbWord.TheVariants as v
 use Rattle.statements.specs.Verbs.{verb_at, begins_statement}
 use Rattle.statements.specs.Continuing.{continuing_reader}
 use Rattle.statements.specs.Display.{display_reader}
+use Rattle.statements.specs.Moving.{moving_reader}
 use Rattle.statements.specs.Performing.{performing_reader}
 use Rattle.statements.specs.StopRun.{stop_run_reader}
 
@@ -22,6 +23,7 @@ module _ (depth : ℕ) (statement : Parser Statement) where
   by_verb None = refuse
   by_verb (Some v.Continue) = continuing_reader
   by_verb (Some v.Display) = display_reader
+  by_verb (Some v.Move) = moving_reader
   by_verb (Some v.Perform) = performing_reader (statements statement)
   by_verb (Some v.Stop) = stop_run_reader
 

@@ -1,5 +1,7 @@
 -- Which tokens spell which statement: one line for each verb, whose rule stands in a file of its own.
 use Rattle.std.specs.Prelude.{ℕ, zero, suc, List}
+use Rattle.source_tree.specs.declared.moving.Moving.{Moving}
+use Rattle.source_tree.specs.declared.moving.Moving.TheVariants.{Move}
 use Rattle.source_tree.specs.declared.text.Text.{Text}
 use Rattle.source_tree.specs.declared.text.Text.TheVariants as text
 use Rattle.source_tree.specs.declared.ending.Ending.{Ending}
@@ -12,12 +14,16 @@ use Rattle.grammar.specs.Parts.{Part, ◌then◌, several, tested, here, period}
 use Rattle.statements.specs.Verbs.{begins_statement}
 use Rattle.statements.specs.Continuing.{continuing}
 use Rattle.statements.specs.Display.{display}
+use Rattle.statements.specs.Moving.{moving}
 use Rattle.statements.specs.Performing.{performing}
 use Rattle.statements.specs.StopRun.{stop_run}
 
 -- how many statements may stand in one another, the outermost among them (own choice)
 abbrev pub max_nesting : ℕ
 max_nesting = 64
+
+abbrev pub moving_line : Moving → Part
+moving_line (Move sender receivers) = moving sender receivers
 
 abbrev pub text_line : Text → Part
 text_line (text.Display operands advancing) = display operands advancing
@@ -34,6 +40,7 @@ module _ (depth : ℕ) (statement : Statement → Part) where
   -- Each optional part is left out only where its words do not stand, and each list ends only where no more of it can
   -- begin, so that what stands belongs to the innermost statement that can take it (COBOL-85, Nucleus, "Statements").
   abbrev pub verb_line : Verb Statement → Part
+  verb_line (verb.Moving one) = moving_line one
   verb_line (verb.Performing one) = performing (statements statement) one
   verb_line (verb.Text one) = text_line one
   verb_line (verb.Ending one) = ending_line one

@@ -12,6 +12,7 @@ use Rattle.statements.specs.declared.verb.VerbWord.TheVariants as v
 abbrev pub verb_of : Reserved → Option VerbWord
 verb_of w.Continue = Some v.Continue
 verb_of w.Display = Some v.Display
+verb_of w.Move = Some v.Move
 verb_of w.Perform = Some v.Perform
 verb_of w.Stop = Some v.Stop
 verb_of _ = None

@@ -4,6 +4,7 @@
 
 mod continuing;
 mod display;
+mod moving;
 mod nesting;
 mod performing;
 mod sentences;

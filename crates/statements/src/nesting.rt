@@ -8,6 +8,7 @@ ghost use Rattle.statements.specs.Nests.{Nests};
 
 use crate::continuing::continuing;
 use crate::display::display;
+use crate::moving::moving;
 use crate::stop_run::stop_run;
 use crate::verb::{VerbWord, begins_statement, verb_at};
 use grammar::{Halt, Part, ReadFault, Tokens, several};
@@ -64,6 +65,7 @@ impl<F: Fn(Global, &mut Tokens<'_>, usize) -> Result<Statement, ReadFault>> Nest
         match verb_at(tokens) {
             Some(VerbWord::Continue) => continuing(tokens),
             Some(VerbWord::Display) => display(self.alloc, tokens),
+            Some(VerbWord::Move) => moving(self.alloc, tokens),
             Some(VerbWord::Perform) => self.performing(tokens),
             Some(VerbWord::Stop) => stop_run(tokens),
             None => Err(tokens.refuse()),

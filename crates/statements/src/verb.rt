@@ -11,6 +11,7 @@ use tokens::{Kind, Reserved};
 pub enum VerbWord {
     Continue,
     Display,
+    Move,
     Perform,
     Stop,
 }
@@ -22,6 +23,7 @@ pub fn verb_of(word: Reserved) -> Option<VerbWord>
     match word {
         Reserved::Continue => Some(VerbWord::Continue),
         Reserved::Display => Some(VerbWord::Display),
+        Reserved::Move => Some(VerbWord::Move),
         Reserved::Perform => Some(VerbWord::Perform),
         Reserved::Stop => Some(VerbWord::Stop),
         _ => None,

@@ -45,7 +45,6 @@ computing = tt
 
 -- ---- phrases
 
-
 size_error : after_opened SizeError (word w.Size ∷ word w.Error ∷ a ∷ []) ≡ Some (a ∷ [])
 unfolding computing
 size_error = refl

@@ -9,9 +9,12 @@ use Rattle.source_tree.specs.declared.literal.Literal.{Literal}
 use Rattle.source_tree.specs.declared.expression.Operand.{Operand}
 use Rattle.source_tree.specs.declared.expression.Operand.TheVariants as operand_as
 use Rattle.grammar.specs.declared.fault.Halt.{Halt}
-use Rattle.grammar.specs.Parts.{begins_name, name_in}
+use Rattle.grammar.specs.Parts.{begins_name, name_in, several, tested}
+use Rattle.grammar.specs.Reading as read
 use Rattle.grammar.specs.Reading.{one_token}
 use Rattle.grammar.proofs.Outcomes.{Reached, step, unstep, value, last}
+use Rattle.grammar.proofs.Looking.{tests_tested}
+use Rattle.grammar.proofs.Lists as lists
 use Rattle.grammar.proofs.Lists.{Sound, Complete, Shrinks, Starts}
 use Rattle.grammar.proofs.Parts.{one_token_sound, one_token_complete, telling_shrinks}
 use Rattle.expressions.specs.Marks.{left_in, sign_in, begins_left, begins_sign}
@@ -60,6 +63,18 @@ operand_shrinks (operand_as.Literal one) i rest s = literal_shrinks one i rest s
 pub operand_starts : Starts g.begins_operand g.operand
 operand_starts (operand_as.Item one) i rest s = ap (λ b. b || begins_literal i) (reference_starts one i rest s)
 operand_starts (operand_as.Literal one) i rest s = either (begins_name i) (begins_literal i) (literal_starts one i rest s)
+
+-- ---- operands in a list
+
+pub operands_sound : Sound (several g.operand (tested g.begins_operand)) (read.several g.operand_reader g.begins_operand)
+operands_sound = lists.several_sound g.operand g.operand_reader (tested g.begins_operand) g.begins_operand (tests_tested g.begins_operand) operand_sound
+
+pub operands_complete : {Allowed : Halt → Type 0} → Complete Allowed (several g.operand (tested g.begins_operand)) (read.several g.operand_reader g.begins_operand)
+operands_complete {Allowed = Allowed} =
+    lists.several_complete g.operand g.operand_reader (tested g.begins_operand) g.begins_operand (tests_tested g.begins_operand) Allowed (operand_complete {Allowed = Allowed}) operand_shrinks operand_starts
+
+pub operands_shrink : Shrinks (several g.operand (tested g.begins_operand))
+operands_shrink = lists.several_shrinks g.operand (tested g.begins_operand) operand_shrinks
 
 -- ---- where a number is wanted
 

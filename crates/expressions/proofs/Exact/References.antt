@@ -91,3 +91,15 @@ reference_shrinks x i rest (i1, item, found) =
 
 pub reference_starts : Starts parts.begins_name g.reference
 reference_starts x i rest (i1, item, found) = qualified_starts x.item i i1 item
+
+-- ---- references in a list
+
+pub references_sound : Sound (several g.reference (tested parts.begins_name)) (read.several g.reference_reader parts.begins_name)
+references_sound = lists.several_sound g.reference g.reference_reader (tested parts.begins_name) parts.begins_name (tests_tested parts.begins_name) reference_sound
+
+pub references_complete : {Allowed : Halt → Type 0} → Complete Allowed (several g.reference (tested parts.begins_name)) (read.several g.reference_reader parts.begins_name)
+references_complete {Allowed = Allowed} =
+    lists.several_complete g.reference g.reference_reader (tested parts.begins_name) parts.begins_name (tests_tested parts.begins_name) Allowed (reference_complete {Allowed = Allowed}) reference_shrinks reference_starts
+
+pub references_shrink : Shrinks (several g.reference (tested parts.begins_name))
+references_shrink = lists.several_shrinks g.reference (tested parts.begins_name) reference_shrinks

@@ -1,27 +1,49 @@
-use Rattle.std.proofs.Common.{rules, ◌≡◌, sym, subst, arith}
+use Rattle.std.proofs.Common.{rules, ◌≡◌, List, [], ap, sym, subst, ◌∙◌, arith}
 use Rattle.std.proofs.lemmas.Grind.{common_steps}
+use Rattle.source_tree.specs.declared.entry.Entry.{Entry}
+use Rattle.source_tree.specs.declared.program.Program.{Program}
+use Rattle.source_tree.specs.EntryRules.{entry_rules}
+use Rattle.source_tree.specs.Places.{items_of}
+use Rattle.source_tree.specs.Rules.{sections_rules}
+use Rattle.check_rules.specs.Named.{items_in}
+use Rattle.codegen.proofs.Kept.{front_kept, back_kept}
 use Rattle.source_tree.specs.Meaning.{meaning}
+use Rattle.source_tree.specs.Rules.{program_rules}
 use Rattle.code_image.specs.declared.code.Code.{Code}
 use Rattle.code_image.specs.Demands.{IsVerified}
 use Rattle.code_image.specs.Table.{Runs}
 use Rattle.code_image.proofs.Determinism.{one_run}
 use Rattle.codegen.specs.Layout.{code_of}
-use Rattle.codegen.proofs.Simulation.{runs}
-use Rattle.codegen.proofs.Demands.{verified}
+use Rattle.codegen.proofs.Verified.{verified, runs}
 use Rattle.codegen.proofs.program.generate.Goals as goal
+
+pub storage_code-requires-clause-rules : goal.storage_code-requires-clause-rules
+storage_code-requires-clause-rules c =
+    let program = c.args.checked.now in
+    ap entry_rules c.declarations-declarations.ensures.entries ∙ front_kept (entry_rules program.storage) (sections_rules (items_of program.storage) program.sections) c.program-program.ensures.kept
+
+pub emit_sections-requires-clause-rules : goal.emit_sections-requires-clause-rules
+emit_sections-requires-clause-rules c =
+    let program = c.args.checked.now in
+    ap (sections_rules (items_in c.declarations-declarations.result.now)) (c.as_slice.ensures ∙ ap (λ (p : Program). p.sections) c.program-program.ensures.same)
+    ∙ ap (λ (l : List Entry). sections_rules (items_of l) program.sections) c.declarations-declarations.ensures.entries
+    ∙ back_kept (entry_rules program.storage) (sections_rules (items_of program.storage) program.sections) c.program-program.ensures.kept
 
 pub returns-clause-ends : goal.returns-clause-ends
 returns-clause-ends c =
-    let e : c.emit_end.new.code ≡ code_of c.args.program.now = first_of (search rules, grind (arith, common_steps)) in
-    λ given. subst (λ (code : Code). Runs code given (meaning c.args.program.now given)) (sym e) (runs c.args.program.now given)
+    let e : c.emit_end.new.code ≡ code_of c.args.checked.now = first_of (search rules, grind (arith, common_steps)) in
+    let keep : program_rules c.args.checked.now ≡ [] = c.program-program.ensures.kept in
+    λ given. subst (λ (code : Code). Runs code given (meaning c.args.checked.now given)) (sym e) (runs c.args.checked.now keep given)
 
 pub returns-clause-ends_only : goal.returns-clause-ends_only
 returns-clause-ends_only c =
-    let e : c.emit_end.new.code ≡ code_of c.args.program.now = first_of (search rules, grind (arith, common_steps)) in
-    λ given run r. one_run c.emit_end.new.code given run (meaning c.args.program.now given) r
-    (subst (λ (code : Code). Runs code given (meaning c.args.program.now given)) (sym e) (runs c.args.program.now given))
+    let e : c.emit_end.new.code ≡ code_of c.args.checked.now = first_of (search rules, grind (arith, common_steps)) in
+    let keep : program_rules c.args.checked.now ≡ [] = c.program-program.ensures.kept in
+    λ given run r. one_run c.emit_end.new.code given run (meaning c.args.checked.now given) r
+    (subst (λ (code : Code). Runs code given (meaning c.args.checked.now given)) (sym e) (runs c.args.checked.now keep given))
 
 pub returns-clause-verified : goal.returns-clause-verified
 returns-clause-verified c =
-    let e : c.emit_end.new.code ≡ code_of c.args.program.now = first_of (search rules, grind (arith, common_steps)) in
-    subst IsVerified (sym e) (verified c.args.program.now)
+    let e : c.emit_end.new.code ≡ code_of c.args.checked.now = first_of (search rules, grind (arith, common_steps)) in
+    let keep : program_rules c.args.checked.now ≡ [] = c.program-program.ensures.kept in
+    subst IsVerified (sym e) (verified c.args.checked.now keep)

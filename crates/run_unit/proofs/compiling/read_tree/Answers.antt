@@ -4,10 +4,7 @@ use Rattle.tokens.specs.Tokens.{TokensOf}
 use Rattle.statements.specs.Spelling.{max_nesting}
 use Rattle.divisions.specs.Spelling.{Spells}
 use Rattle.divisions.specs.Faults.{parse_of}
-use Rattle.answers.specs.Answer.{Fails}
-use Rattle.entry_rules.specs.Checks as rules
-use Rattle.run_unit.specs.Trees.{broken_rules}
-use Rattle.run_unit.proofs.Stages.{spelled_by, tokens_refusal, tree_refusal, rules_refusal, rules_fault, none_broken}
+use Rattle.run_unit.proofs.Stages.{spelled_by, tokens_refusal, tree_refusal, rules_left}
 use Rattle.run_unit.proofs.compiling.read_tree.Goals as goal
 
 pub returns-in_err-tokens-clause-only : goal.returns-in_err-tokens-clause-only
@@ -23,22 +20,6 @@ returns-in_err-tree-clause-only c =
     (subst (λ t. Spells max_nesting tree t) (sym c.as_slice.ensures)
     (spelled_by c.reference_format.ensures.only c.laws.ensures.only c.args.source.now tree is c.in_ok-lines.lines c.in_ok-tokens.tokens c.in_ok-lines.ensures c.in_ok-tokens.ensures))))
 
-pub returns-in_err-check_tree-clause-only : goal.returns-in_err-check_tree-clause-only
-returns-in_err-check_tree-clause-only c =
-    let p = err_from_is_err_and c.from_residual-in_err-check_tree.result c.from_residual-in_err-check_tree.ensures.1 in
-    rw (p.1, p.2) (λ tree is.
-    let same = c.in_ok-tree.ensures.only max_nesting tree
-    (subst (λ t. Spells max_nesting tree t) (sym c.as_slice.ensures)
-    (spelled_by c.reference_format.ensures.only c.laws.ensures.only c.args.source.now tree is c.in_ok-lines.lines c.in_ok-tokens.tokens c.in_ok-lines.ensures c.in_ok-tokens.ensures)) in
-    rules_refusal tree is.kept c.in_err-check_tree.field-0.0
-    (subst (λ t. Fails (rules.fault_of c.in_err-check_tree.field-0.0) (none_broken (broken_rules t))) same c.in_err-check_tree.ensures.exact))
-
-pub returns-in_err-check_tree-clause-fault : goal.returns-in_err-check_tree-clause-fault
-returns-in_err-check_tree-clause-fault c =
-    let p = err_from_is_err_and c.from_residual-in_err-check_tree.result c.from_residual-in_err-check_tree.ensures.1 in
-    rw (p.1, p.2) (rules_fault c.args.source.now c.in_ok-lines.lines c.in_ok-tokens.tokens c.in_ok-tree.tree c.in_ok-lines.ensures c.in_ok-tokens.ensures
-    (subst (λ t. parse_of t ≡ Ok c.in_ok-tree.tree) c.as_slice.ensures c.in_ok-tree.ensures.reads) c.in_err-check_tree.field-0.0 c.in_err-check_tree.ensures.exact)
-
 pub returns-clause-tree : goal.returns-clause-tree
 returns-clause-tree c = record {
   characters = c.in_ok-lines.lines;
@@ -47,8 +28,12 @@ returns-clause-tree c = record {
   scanned = subst (λ t. TokensOf c.in_ok-lines.lines t) (sym c.as_slice.ensures) (c.laws.ensures.answered c.in_ok-lines.lines c.in_ok-tokens.tokens c.in_ok-tokens.ensures);
   spelled = c.in_ok-tree.ensures.spelled;
   formed = c.in_ok-tree.ensures.forms;
-  kept = c.in_ok-check_tree.ensures.kept;
 }
+
+pub returns-clause-rules : goal.returns-clause-rules
+returns-clause-rules c =
+    rules_left c.args.source.now c.in_ok-lines.lines c.in_ok-tokens.tokens c.in_ok-tree.tree c.in_ok-lines.ensures c.in_ok-tokens.ensures
+    (subst (λ t. parse_of t ≡ Ok c.in_ok-tree.tree) c.as_slice.ensures c.in_ok-tree.ensures.reads)
 
 pub returns-clause-only : goal.returns-clause-only
 returns-clause-only c = λ tree is. c.in_ok-tree.ensures.only max_nesting tree

@@ -1,0 +1,6 @@
+       IDENTIFICATION DIVISION.
+       PROGRAM-ID. ALLSHOWN.
+       PROCEDURE DIVISION.
+       MAIN.
+           DISPLAY "A".
+           DISPLAY ALL "AB".

@@ -1,0 +1,12 @@
+       IDENTIFICATION DIVISION.
+       PROGRAM-ID. BYTES.
+       DATA DIVISION.
+       WORKING-STORAGE SECTION.
+       01  A PIC XX VALUE "AB".
+       01  B REDEFINES A PIC 99.
+       77  C PIC 99.
+       PROCEDURE DIVISION.
+       MAIN.
+           DISPLAY A.
+           MOVE B TO C.
+           DISPLAY "NOT REACHED".

@@ -1,0 +1,73 @@
+//! Programs that keep the rules.
+
+ghost use Rattle.std.specs.Prelude.{◌≡◌, [], IfOk, OnOk};
+ghost use Rattle.entry_rules.specs.Answer.{Gives};
+ghost use Rattle.source_tree.specs.Rules.{program_rules};
+ghost use Rattle.entry_rules.specs.Checks.{fault_of, first_or};
+ghost use Rattle.check_rules.specs.Named.{IsDeclared};
+
+use crate::declarations::Declarations;
+use entry_rules::{CheckError, check_entries};
+use source_tree::Program;
+use std::alloc::Global;
+use std::marker::Model;
+
+/// A program that keeps the rules, with what it declares.
+#[derive(Drop)]
+pub struct Checked<'a> {
+    program: &'a Program,
+    declarations: Declarations<'a>,
+}
+
+impl<'a> Model for Checked<'a> {
+    ghost use Rattle.std.specs.Coded.{codes};
+    ghost use Rattle.source_tree.specs.contracts.statement.Statement as statement;
+    ghost use Rattle.source_tree.specs.declared.program.Program.{Program};
+
+    ghost Value = { Program };
+
+    ghost coded = { Prim.hlevel (codes, statement.the_row.coded) };
+
+    ghost use Rattle.check_rules.specs.Kept.{KeepsRules};
+
+    ghost view = { λ checked. checked.program.now };
+
+    ghost invariant = { λ checked. KeepsRules checked.program.now checked.declarations };
+}
+
+impl<'a> Checked<'a> {
+    /// The program.
+    pub fn program(&self) -> &'a Program
+        ensures same { result.now ≡ self.now }
+        ensures kept { program_rules self.now ≡ [] }
+    {
+        self.program
+    }
+
+    /// What its working storage declares.
+    pub fn declarations(&self) -> &Declarations<'a>
+        ensures declared { IsDeclared result.now }
+        ensures entries { result.now.entries.now ≡ self.now.storage }
+    {
+        &self.declarations
+    }
+}
+
+/// Whether a program keeps the rules: 17, 18, 40, 41, 43 to 51, 55, 67 and 69. Otherwise the answer is the first that it
+/// breaks, in the order of the definition: those of its entries, and then those of its statements in the order of the text.
+pub fn check(alloc: Global, program: &Program) -> Result<Checked<'_>, CheckError>
+    ensures program { IfOk result (λ checked. checked ≡ program.now) }
+    // A program that is accepted breaks no rule.
+    ensures kept { OnOk result (program_rules program.now ≡ []) }
+    // The answer is the definition's, unless memory runs out.
+    ensures exact { Gives (λ checked. tt {0}) fault_of result (first_or (tt {0}) (program_rules program.now)) }
+{
+    let storage = program.storage.as_slice();
+    check_entries(alloc, storage)?;
+    let declarations = Declarations::of(alloc, storage)?;
+    declarations.sections_rules(program.sections.as_slice())?;
+    Ok(Checked {
+        program,
+        declarations,
+    })
+}

@@ -1,0 +1,117 @@
+//! The rules of statements, one after another and those in one, and of what they stand in.
+
+ghost use Rattle.std.specs.Prelude.{◌≡◌};
+ghost use Rattle.entry_rules.specs.Checks.{Finds};
+ghost use Rattle.source_tree.specs.Broken.{each};
+ghost use Rattle.source_tree.specs.Rules as spec;
+ghost use Rattle.check_rules.specs.Named.{IsDeclared, items_in};
+
+use crate::declarations::Declarations;
+use entry_rules::BrokenRule;
+use source_tree::{
+    Moving, Paragraph, Performed, Performing, Section, Sentence, Statement, Text, Verb,
+};
+
+impl<'a> Declarations<'a> {
+    fn moving_rules(&self, one: &Moving) -> Result<(), BrokenRule>
+        requires { IsDeclared self.now }
+        ensures { Finds result (spec.moving_rules (items_in self.now) one.now) }
+    {
+        match one {
+            Moving::Move { sender, receivers } => self.move_rules(sender, receivers.as_slice()),
+        }
+    }
+
+    fn text_rules(&self, one: &Text) -> Result<(), BrokenRule>
+        requires { IsDeclared self.now }
+        ensures { Finds result (spec.text_rules (items_in self.now) one.now) }
+    {
+        match one {
+            Text::Display { operands, .. } => self.display_rules(operands.as_slice()),
+        }
+    }
+
+    /// A statement, with those in it.
+    #[cycle(statement)]
+    #[tactic(auto, using(crate::proofs::Layers::statement_is))]
+    pub fn statement_rules(&self, one: &Statement) -> Result<(), BrokenRule>
+        requires { IsDeclared self.now }
+        ensures { Finds result (spec.statement_rules (items_in self.now) one.now) }
+    {
+        match &one.verb {
+            Verb::Moving(moving) => self.moving_rules(moving),
+            Verb::Performing(
+                Performing {
+                    performed: Performed::Statements(inside),
+                    ..
+                },
+            ) => self.statements_rules(inside.as_slice()),
+            Verb::Text(text) => self.text_rules(text),
+            Verb::Ending(_) => Ok(()),
+        }
+    }
+
+    /// Statements, in order.
+    #[cycle(statement)]
+    fn statements_rules(&self, all: &[Statement]) -> Result<(), BrokenRule>
+        requires { IsDeclared self.now }
+        ensures { Finds result (each (spec.statement_rules (items_in self.now)) all.now) }
+    {
+        for one in all {
+            self.statement_rules(one)?;
+        }
+        Ok(())
+    }
+
+    fn sentence_rules(&self, one: &Sentence) -> Result<(), BrokenRule>
+        requires { IsDeclared self.now }
+        ensures { Finds result (spec.sentence_rules (items_in self.now) one.now) }
+    {
+        self.statements_rules(one.statements.as_slice())
+    }
+
+    fn sentences_rules(&self, all: &[Sentence]) -> Result<(), BrokenRule>
+        requires { IsDeclared self.now }
+        ensures { Finds result (each (spec.sentence_rules (items_in self.now)) all.now) }
+    {
+        for one in all {
+            self.sentence_rules(one)?;
+        }
+        Ok(())
+    }
+
+    fn paragraph_rules(&self, one: &Paragraph) -> Result<(), BrokenRule>
+        requires { IsDeclared self.now }
+        ensures { Finds result (spec.paragraph_rules (items_in self.now) one.now) }
+    {
+        self.sentences_rules(one.sentences.as_slice())
+    }
+
+    fn paragraphs_rules(&self, all: &[Paragraph]) -> Result<(), BrokenRule>
+        requires { IsDeclared self.now }
+        ensures { Finds result (each (spec.paragraph_rules (items_in self.now)) all.now) }
+    {
+        for one in all {
+            self.paragraph_rules(one)?;
+        }
+        Ok(())
+    }
+
+    fn section_rules(&self, one: &Section) -> Result<(), BrokenRule>
+        requires { IsDeclared self.now }
+        ensures { Finds result (spec.section_rules (items_in self.now) one.now) }
+    {
+        self.paragraphs_rules(one.paragraphs.as_slice())
+    }
+
+    /// The statements of sections, in order.
+    pub fn sections_rules(&self, all: &[Section]) -> Result<(), BrokenRule>
+        requires { IsDeclared self.now }
+        ensures { Finds result (spec.sections_rules (items_in self.now) all.now) }
+    {
+        for one in all {
+            self.section_rules(one)?;
+        }
+        Ok(())
+    }
+}

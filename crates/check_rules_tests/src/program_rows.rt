@@ -1,0 +1,119 @@
+//! The first rule that a program breaks, and its place.
+use crate::asserted::{holds, same_in};
+use crate::program_texts::{apart, program, together};
+use crate::reference_texts::{OPERAND, SUBSCRIPT};
+use crate::texts::LEVEL;
+use check_rules::{CheckError, Rule, check};
+use source_tree::Program;
+use std::alloc::Global;
+use std::process::Abort;
+
+const ENTRIES: &[&str] = &[
+    "01 G",
+    "05 A PIC=XX",
+    "05 T PIC=99 OCCURS=3",
+    "01 H",
+    "05 A PIC=X(19)",
+    "05 B PIC=A(3)",
+    "77 N PIC=9V9",
+    "77 M PIC=9",
+];
+
+const WITHOUT_PICTURE: &[&str] = &["77 M PIC=9", "77 N"];
+
+type Expected = Option<(Rule, (u32, u8))>;
+
+const ROWS: &[(&[&str], Expected)] = &[
+    (&[], None),
+    (
+        &[
+            "MOVE M N A/G",
+            "DISPLAY M T,1 =SPACE",
+            "PP>MOVE =ZERO M;DISPLAY G",
+            "CONTINUE",
+        ],
+        None,
+    ),
+    (&["MOVE Z M"], Some((Rule::UnknownName, (1, OPERAND)))),
+    (&["MOVE M Z"], Some((Rule::UnknownName, (1, OPERAND)))),
+    (&["MOVE A M"], Some((Rule::AmbiguousName, (1, OPERAND)))),
+    (&["MOVE M N B"], Some((Rule::Move, (1, OPERAND)))),
+    (&["MOVE M T"], Some((Rule::Subscripts, (1, OPERAND)))),
+    (&["MOVE M T,N"], Some((Rule::Number, (1, SUBSCRIPT)))),
+    (&["MOVE =123456789012345678 M"], None),
+    (
+        &["MOVE =1234567890123456789 M"],
+        Some((Rule::NumericLiteral, (1, OPERAND))),
+    ),
+    (
+        &["MOVE ='' A/G"],
+        Some((Rule::NonnumericLiteral, (1, OPERAND))),
+    ),
+    (
+        &["DISPLAY T,1234567890123456789"],
+        Some((Rule::NumericLiteral, (1, SUBSCRIPT))),
+    ),
+    (
+        &["DISPLAY M =ALL'A'"],
+        Some((Rule::AllLiteral, (1, OPERAND))),
+    ),
+    (
+        &["CONTINUE", "DISPLAY M Z"],
+        Some((Rule::UnknownName, (2, OPERAND))),
+    ),
+    (&["P>MOVE M B"], Some((Rule::Move, (1, OPERAND)))),
+    (&["P>MOVE M N"], None),
+    (
+        &["PP>CONTINUE;DISPLAY T"],
+        Some((Rule::Subscripts, (1, OPERAND))),
+    ),
+    (
+        &["DISPLAY =ALL'A'", "MOVE Z M"],
+        Some((Rule::AllLiteral, (1, OPERAND))),
+    ),
+    (
+        &["P>CONTINUE", "P>DISPLAY M;MOVE Z M", "DISPLAY A"],
+        Some((Rule::UnknownName, (2, OPERAND))),
+    ),
+];
+
+fn told(rt: &impl Abort, alloc: Global, one: &Program) -> Expected {
+    match check(alloc, one) {
+        Ok(checked) => {
+            holds(rt, checked.program().sections.len() == one.sections.len());
+            holds(
+                rt,
+                checked.declarations().entries.len() == one.storage.len(),
+            );
+            None
+        }
+        Err(CheckError::Refused(one)) => Some((one.rule, (one.place.line, one.place.column))),
+        Err(CheckError::Memory) => panic!(rt; "no memory"),
+    }
+}
+
+fn rows(rt: &impl Abort, alloc: Global) {
+    for (texts, expected) in ROWS {
+        let in_one = program(rt, alloc, ENTRIES, together(rt, alloc, texts));
+        same_in(rt, texts, told(rt, alloc, &in_one), *expected);
+        let in_each = program(rt, alloc, ENTRIES, apart(rt, alloc, texts));
+        same_in(rt, texts, told(rt, alloc, &in_each), *expected);
+    }
+}
+
+fn order(rt: &impl Abort, alloc: Global) {
+    let sections = together(rt, alloc, &["DISPLAY Z"]);
+    let both = program(rt, alloc, WITHOUT_PICTURE, sections);
+    let expected = Some((Rule::Picture, (2, LEVEL)));
+    same_in(rt, &"both", told(rt, alloc, &both), expected);
+}
+
+#[test]
+fn programs(rt: HostRuntime) {
+    rows(&rt, rt.alloc());
+}
+
+#[test]
+fn entries_come_first(rt: HostRuntime) {
+    order(&rt, rt.alloc());
+}

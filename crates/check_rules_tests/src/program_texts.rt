@@ -1,0 +1,129 @@
+//! Programs from short texts: a sentence a line, its statements between `;`, each as `MOVE M N B`, `DISPLAY M =1` or `CONTINUE`. Behind
+//! `>` stands what is performed, with a `P` before it for each PERFORM around it, as `PP>MOVE M N;CONTINUE`.
+use crate::reference_texts::{operand, push, reference};
+use crate::texts::{entries, name};
+use source_tree::{
+    Ending, Moving, Paragraph, Performed, Performing, Place, Program, Section, Sentence, Statement,
+    Text, Turns, Verb,
+};
+use sqlite_items::Items;
+use std::alloc::Global;
+use std::process::Abort;
+
+/// Where a statement's verb stands in a line.
+const VERB: u8 = 8;
+
+fn alone<T: Drop>(rt: &impl Abort, alloc: Global, one: T) -> Items<T> {
+    let mut all = Vec::new(alloc);
+    push(rt, &mut all, one);
+    Items::from_vec(all)
+}
+
+fn moving(rt: &impl Abort, alloc: Global, line: u32, words: &str) -> Moving {
+    let (from, to) = words.split_once(' ').unwrap_or((words, ""));
+    let sender = operand(rt, alloc, line, from);
+    let mut receivers = Vec::new(alloc);
+    for word in to.split_whitespace() {
+        let one = reference(rt, alloc, line, word);
+        push(rt, &mut receivers, one);
+    }
+    Moving::Move {
+        sender,
+        receivers: Items::from_vec(receivers),
+    }
+}
+
+fn display(rt: &impl Abort, alloc: Global, line: u32, words: &str) -> Text {
+    let mut operands = Vec::new(alloc);
+    for word in words.split_whitespace() {
+        let one = operand(rt, alloc, line, word);
+        push(rt, &mut operands, one);
+    }
+    Text::Display {
+        operands: Items::from_vec(operands),
+        advancing: true,
+    }
+}
+
+fn at(line: u32, verb: Verb<Statement>) -> Statement {
+    let place = Place { line, column: VERB };
+    Statement { place, verb }
+}
+
+fn statement(rt: &impl Abort, alloc: Global, line: u32, text: &str) -> Statement {
+    let (word, words) = text.split_once(' ').unwrap_or((text, ""));
+    let verb = match word {
+        "MOVE" => Verb::Moving(moving(rt, alloc, line, words)),
+        "DISPLAY" => Verb::Text(display(rt, alloc, line, words)),
+        "CONTINUE" => Verb::Ending(Ending::Continue),
+        _ => panic!(rt; "a statement: {text}"),
+    };
+    at(line, verb)
+}
+
+fn performing(line: u32, inside: Items<Statement>) -> Statement {
+    let performed = Performed::Statements(inside);
+    let turns = Turns::Once;
+    at(line, Verb::Performing(Performing { performed, turns }))
+}
+
+fn sentence(rt: &impl Abort, alloc: Global, line: u32, text: &str) -> Sentence {
+    let (around, inside) = text.split_once('>').unwrap_or(("", text));
+    let mut all = Vec::new(alloc);
+    for word in inside.split(';') {
+        let one = statement(rt, alloc, line, word);
+        push(rt, &mut all, one);
+    }
+    let mut statements = Items::from_vec(all);
+    for _ in 0..around.len() {
+        statements = alone(rt, alloc, performing(line, statements));
+    }
+    Sentence { statements }
+}
+
+fn section(rt: &impl Abort, alloc: Global, sentences: Items<Sentence>) -> Section {
+    let paragraph = Paragraph {
+        name: None,
+        sentences,
+    };
+    Section {
+        name: None,
+        paragraphs: alone(rt, alloc, paragraph),
+    }
+}
+
+/// The sentences in one paragraph.
+pub fn together(rt: &impl Abort, alloc: Global, texts: &[&str]) -> Items<Section> {
+    let mut all = Vec::new(alloc);
+    for (index, text) in texts.iter().enumerate() {
+        let line = (index % 1_000) as u32 + 1;
+        let one = sentence(rt, alloc, line, text);
+        push(rt, &mut all, one);
+    }
+    alone(rt, alloc, section(rt, alloc, Items::from_vec(all)))
+}
+
+/// The sentences in a section each.
+pub fn apart(rt: &impl Abort, alloc: Global, texts: &[&str]) -> Items<Section> {
+    let mut all = Vec::new(alloc);
+    for (index, text) in texts.iter().enumerate() {
+        let line = (index % 1_000) as u32 + 1;
+        let only = alone(rt, alloc, sentence(rt, alloc, line, text));
+        push(rt, &mut all, section(rt, alloc, only));
+    }
+    Items::from_vec(all)
+}
+
+/// The program of these entries and sections.
+pub fn program(
+    rt: &impl Abort,
+    alloc: Global,
+    storage: &[&str],
+    sections: Items<Section>,
+) -> Program {
+    Program {
+        name: name(rt, alloc, 1, VERB, "P"),
+        storage: Items::from_vec(entries(rt, alloc, storage)),
+        sections,
+    }
+}

@@ -1,6 +1,0 @@
-use Rattle.std.proofs.Common.{All, take}
-use Rattle.code_image.specs.Demands.{NamesLiteral}
-use Rattle.code_image.proofs.verified.name_literals.Given as goal
-
-abbrev pub invariant-loop-instruction : goal.invariant-loop-instruction
-invariant-loop-instruction l = All (NamesLiteral l.count) (take l.instruction-index l.instructions)

@@ -1,0 +1,61 @@
+-- The parts of what keeps its rules keep theirs.
+use Rattle.std.proofs.Common.{◌≡◌, ℕ, zero, suc, ◌<◌, ◌≤◌, ◌*◌, ◌^◌, Bool, true, false, not, ◌&&◌, nat_le, List, [], ◌∷◌, ◌++◌, length, get_or, refl, ap, arith}
+use Rattle.std.proofs.Math.Nat.{pow-le-pow_right}
+use Rattle.std.specs.Char.{is_ascii_digit}
+use Rattle.std.specs.List.{list_all}
+use Rattle.lexical.specs.declared.place.Place.{Place}
+use Rattle.source_tree.specs.declared.literal.Integer.{Integer}
+use Rattle.source_tree.specs.declared.reference.Reference.{Reference}
+use Rattle.source_tree.specs.Broken.{Broken, where_so, each}
+use Rattle.source_tree.specs.NameRules.{is_integer, integer_rules, subscript_rules, item_rules}
+use Rattle.source_tree.specs.Places.{Placed}
+
+pub front_kept : (xs ys : List Broken) → xs ++ ys ≡ [] → xs ≡ []
+front_kept [] ys e = refl
+front_kept (x ∷ xs) ys e = cc
+
+pub back_kept : (xs ys : List Broken) → xs ++ ys ≡ [] → ys ≡ []
+back_kept [] ys e = e
+back_kept (x ∷ xs) ys e = cc
+
+both_kept : (xs ys : List Broken) → xs ≡ [] → ys ≡ [] → xs ++ ys ≡ []
+both_kept [] ys e f = f
+both_kept (x ∷ xs) ys e f = cc
+
+pub one_kept : {A : Type 0} (rules : A → List Broken) (all : List A) (i : ℕ) (d : A) → i < length all → each rules all ≡ [] → rules (get_or all i d) ≡ []
+one_kept rules [] i d lt e = absurd (omega arith)
+one_kept rules (one ∷ more) zero d lt e = front_kept (rules one) (each rules more) e
+one_kept rules (one ∷ more) (suc i) d lt e = one_kept rules more i d (omega arith) (back_kept (rules one) (each rules more) e)
+
+-- the subscripts of references whose items keep their rules
+pub subscripts_kept : (items : List Placed) (asked : Place → Placed → List Broken) (all : List Reference) → each (item_rules items asked) all ≡ []
+    → each (λ (one : Reference). each (subscript_rules items) one.subscripts) all ≡ []
+subscripts_kept items asked [] e = refl
+subscripts_kept items asked (one ∷ more) e =
+    both_kept (each (subscript_rules items) one.subscripts) (each (λ (r : Reference). each (subscript_rules items) r.subscripts) more)
+    (back_kept _ _ (front_kept (item_rules items asked one) (each (item_rules items asked) more) e))
+    (subscripts_kept items asked more (back_kept (item_rules items asked one) (each (item_rules items asked) more) e))
+
+-- ---- integers
+
+is_so : (test : Bool) (rule : ℕ) (place : Place) → where_so (not test) rule place ≡ [] → test ≡ true
+is_so true rule place e = refl
+is_so false rule place e = cc
+
+last_of : (a b c : Bool) → (a && (b && c)) ≡ true → c ≡ true
+last_of true true true e = refl
+last_of true true false e = cc
+last_of true false c e = cc
+last_of false b c e = cc
+
+at_most : (limit n : ℕ) → nat_le n limit ≡ true → n ≤ limit
+at_most limit n e = grind arith
+
+-- An integer of 1 to 18 digits fits.
+pub room : (one : Integer) (digits : List ℕ) → integer_rules one ≡ [] → digits ≡ one.digits → 1 * 10 ^ length digits ≤ 1000000000000000000
+room one digits kept e =
+    let n : ℕ = length one.digits in
+    let h : n ≤ 18 = at_most 18 n (last_of (list_all is_ascii_digit one.digits) (nat_le 1 n) (nat_le n 18) (is_so (is_integer one) 17 one.place kept)) in
+    let k : length digits ≤ 18 = omega (arith, h, ap length e) in
+    let top : 10 ^ length digits ≤ 10 ^ 18 = pow-le-pow_right (omega arith) k in
+    omega (arith, top)

@@ -1,0 +1,10 @@
+pub mod Faults
+pub mod Spelling
+pub mod Reading
+pub mod Items
+pub mod Pictures
+pub mod Fractions
+pub mod Senders
+pub mod Tables
+pub mod Instructions
+pub use Rattle.answers.specs.Answer

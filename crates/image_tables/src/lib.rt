@@ -1,0 +1,23 @@
+//! The parts of an image's bytes: numbers, texts, tables, and what stands in the tables of data. Each has one spelling: what
+//! is read from bytes is what they spell, and what was put there is read again.
+#![tactic(auto)]
+
+mod byte;
+mod editing;
+mod fault;
+mod fraction;
+mod instruction;
+mod item;
+mod laws;
+mod number;
+mod sender;
+mod table;
+mod tables;
+mod text;
+mod usage;
+
+pub use fault::{ImageError, ImageFault};
+pub use laws::{instruction_law, tables_law};
+pub use number::{put_count, put_short, read_count, read_short};
+pub use table::{TableEntry, put_table, read_table};
+pub use tables::{put_tables, read_tables};

@@ -1,0 +1,17 @@
+-- Items with the form of their kind.
+use Rattle.std.specs.Prelude.{Option, Some, None}
+use Rattle.picture.specs.declared.picture.Picture.{Picture}
+use Rattle.items.specs.declared.item.Item.{Item}
+use Rattle.items.specs.Items.{IsItem}
+use Rattle.edited_move.specs.Moves.{IsPlainKind, IsEditedBy}
+use Rattle.source_tree.specs.Places.{Placed}
+
+-- An edited item has the picture of its category and length, and no other has one.
+abbrev pub IsEditing : Item → Option Picture → Type 0
+IsEditing item None = IsPlainKind item.kind
+IsEditing item (Some picture) = IsEditedBy item picture
+
+-- A placed item has the form of its kind and, if it is edited, the picture that edits it.
+pub record IsFormed (one : Placed) : Type 0 where
+  pub form : IsItem one.item
+  pub editing : IsEditing one.item one.editing

@@ -1,0 +1,62 @@
+//! What a run changes.
+
+ghost use Rattle.std.specs.Prelude.{◌≡◌, ◌<◌, ◌-◌, length, slice_index, slice_set, IfOk, IsTrue, IsFalse};
+ghost use Rattle.code_image.specs.Demands.{IsVerified};
+ghost use Rattle.machine.specs.Standing.{IsLoaded};
+
+use crate::room::room_along;
+use code_image::{Code, CounterIndex};
+use run_time_data::Data;
+use std::alloc::{AllocError, Global};
+
+/// What a run changes, in room that is made once.
+#[derive(Drop)]
+pub(crate) struct Registers {
+    /// One for each address.
+    pub(crate) counters: Vec<u64>,
+    /// What instructions on data work on.
+    pub(crate) scratch: Data,
+    /// The line of the statement that last used one of the budget; 0 before the first.
+    pub(crate) line: u32,
+}
+
+impl Registers {
+    /// At the start of a run, with the room that the code asks for.
+    pub(crate) fn new(alloc: Global, code: &Code) -> Result<Registers, AllocError>
+        requires { IsVerified code.now }
+        ensures { IfOk result (IsLoaded code.now) }
+    {
+        let counters = vec![in alloc; 0; code.instructions.len()]?;
+        let room = room_along(alloc, code)?;
+        let scratch = Data::new(alloc, &code.tables, room)?;
+        Ok(Registers {
+            counters,
+            scratch,
+            line: 0,
+        })
+    }
+}
+
+/// Sets a counter.
+pub(crate) fn count(counters: &mut [u64], counter: CounterIndex, turns: u64)
+    requires { counter.number < length counters.old }
+    ensures { counters.new ≡ slice_set counters.old counter.number turns }
+{
+    counters[counter.number] = turns;
+}
+
+/// The end of a turn: whether another one comes, which the counter then no longer holds.
+pub(crate) fn turn(counters: &mut [u64], counter: CounterIndex) -> bool
+    requires { counter.number < length counters.old }
+    ensures back { IsTrue result → 0 < slice_index counters.old counter.number }
+    ensures lowered { IsTrue result → counters.new ≡ slice_set counters.old counter.number (slice_index counters.old counter.number - 1) }
+    ensures on { IsFalse result → slice_index counters.old counter.number ≡ 0 }
+    ensures same { IsFalse result → counters.new ≡ counters.old }
+{
+    let left = counters[counter.number];
+    if left == 0 {
+        return false;
+    }
+    counters[counter.number] = left - 1;
+    true
+}

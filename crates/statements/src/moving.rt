@@ -1,0 +1,23 @@
+//! MOVE.
+
+ghost use Rattle.std.specs.Prelude.{◌≡◌};
+ghost use Rattle.grammar.specs.Reading.{Reads};
+ghost use Rattle.statements.specs.Moving as spec;
+
+use expressions::{References, operand};
+use grammar::{ReadFault, Tokens, several};
+use source_tree::{Moving, Statement, Verb};
+use std::alloc::Global;
+use tokens::Reserved;
+
+/// From the verb on.
+#[tactic(auto, unfolding(crate::specs::Moving::moving_reader))]
+pub fn moving(alloc: Global, tokens: &mut Tokens<'_>) -> Result<Verb<Statement>, ReadFault>
+    ensures { Reads (spec.moving_reader tokens.old) result tokens.new }
+{
+    tokens.expect(Reserved::Move)?;
+    let sender = operand(alloc, tokens)?;
+    tokens.expect(Reserved::To)?;
+    let receivers = several(&References, alloc, tokens)?;
+    Ok(Verb::Moving(Moving::Move { sender, receivers }))
+}
