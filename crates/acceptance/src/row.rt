@@ -14,9 +14,12 @@ pub struct Row {
     /// How it ends, in words.
     pub end: String,
     pub budget: u64,
+    /// The lines of the console.
+    pub lines: Vec<Vec<u8>>,
 }
 
-/// Reads the files of a row: `NAME.cob`, `NAME.out`, `NAME.end` and, where there is one, `NAME.budget`.
+/// Reads the files of a row: `NAME.cob`, `NAME.out`, `NAME.end` and, where there is one, `NAME.budget`, and `NAME.in` with the
+/// lines of the console.
 pub fn read_row<R: Files + AllocGlobal>(rt: &R, name: &str) -> io::Result<Row> {
     let alloc = rt.alloc();
     let end = fs::read_to_string(rt, format!(in alloc; "{name}.end")?)?;
@@ -25,6 +28,7 @@ pub fn read_row<R: Files + AllocGlobal>(rt: &R, name: &str) -> io::Result<Row> {
         shown: fs::read(rt, format!(in alloc; "{name}.out")?)?,
         end: end.as_str().trim_end().to_string(alloc)?,
         budget: read_budget(rt, name)?,
+        lines: read_lines(rt, name)?,
     })
 }
 
@@ -37,4 +41,33 @@ fn read_budget<R: Files + AllocGlobal>(rt: &R, name: &str) -> io::Result<u64> {
         Err(error) if error.kind() == io::ErrorKind::NotFound => Ok(BUDGET),
         Err(error) => Err(error),
     }
+}
+
+/// The bytes of a file, if it is there.
+fn read_if_there<R: Files + AllocGlobal>(rt: &R, path: &str) -> io::Result<Option<Vec<u8>>> {
+    match fs::read(rt, path) {
+        Ok(bytes) => Ok(Some(bytes)),
+        Err(error) if error.kind() == io::ErrorKind::NotFound => Ok(None),
+        Err(error) => Err(error),
+    }
+}
+
+/// The lines of the console, each without its line feed.
+fn read_lines<R: Files + AllocGlobal>(rt: &R, name: &str) -> io::Result<Vec<Vec<u8>>> {
+    let alloc = rt.alloc();
+    let mut lines = Vec::new(alloc);
+    let path = format!(in alloc; "{name}.in")?;
+    let Some(bytes) = read_if_there(rt, path.as_str())? else {
+        return Ok(lines);
+    };
+    let mut line = Vec::new(alloc);
+    for byte in bytes.as_slice() {
+        if *byte == b'\n' {
+            lines.push(line)?;
+            line = Vec::new(alloc);
+        } else {
+            line.push(*byte)?;
+        }
+    }
+    Ok(lines)
 }

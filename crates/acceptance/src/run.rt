@@ -41,13 +41,17 @@ fn difference(alloc: Global, row: &Row, seen: &Seen) -> Result<Option<String>, A
     Ok(None)
 }
 
-/// A station without sectors and console lines.
-fn plain_station(alloc: Global) -> Result<MemoryStation, AllocError> {
-    MemoryStation::new(alloc, Vec::new(alloc), Vec::new(alloc))
+/// A station without sectors, with the row's console lines.
+fn station_of(alloc: Global, row: &Row) -> Result<MemoryStation, AllocError> {
+    let mut lines = Vec::new(alloc);
+    for line in row.lines.as_slice() {
+        lines.push(line.clone()?)?;
+    }
+    MemoryStation::new(alloc, Vec::new(alloc), lines)
 }
 
 fn see_source(alloc: Global, row: &Row) -> Result<Seen, AllocError> {
-    let mut station = plain_station(alloc)?;
+    let mut station = station_of(alloc, row)?;
     let ending = match run_source(alloc, row.source.as_slice(), &mut station, DAY, row.budget) {
         Ok(ended) => Ending::Run(ended),
         Err(fault) => Ending::Compile(fault),
@@ -56,7 +60,7 @@ fn see_source(alloc: Global, row: &Row) -> Result<Seen, AllocError> {
 }
 
 fn see_image(alloc: Global, row: &Row) -> Result<Seen, AllocError> {
-    let mut station = plain_station(alloc)?;
+    let mut station = station_of(alloc, row)?;
     let ending = match compile(alloc, row.source.as_slice()) {
         Ok(image) => {
             let ended = run_image(alloc, image.as_slice(), &mut station, DAY, row.budget);

@@ -1,3 +1,5 @@
 pub mod Named
 pub mod Sending
+pub mod Asking
+pub mod Operations
 pub mod Kept

@@ -1,8 +1,11 @@
 //! The rules of programs: whether entries, references and statements keep them, or the first that they break.
 #![tactic(auto)]
 
+mod arithmetic;
+mod asked;
 mod checked;
 mod declarations;
+mod expression;
 mod forms;
 mod moving;
 mod references;

@@ -6,8 +6,9 @@ ghost use Rattle.source_tree.specs.Broken.{each};
 ghost use Rattle.source_tree.specs.NameRules as names;
 ghost use Rattle.source_tree.specs.MoveRules as spec;
 ghost use Rattle.check_rules.specs.Named.{IsDeclared, items_in};
-ghost use Rattle.check_rules.specs.Sending.{asks, sent_by};
+ghost use Rattle.check_rules.specs.Asking.{asks, asked_by};
 
+use crate::asked::Asked;
 use crate::declarations::Declarations;
 use crate::forms::literal_rules;
 use crate::sent::Sent;
@@ -21,32 +22,32 @@ impl<'a> Declarations<'a> {
         ensures { Finds result (names.operand_rules (items_in self.now) one.now) }
     {
         match one {
-            Operand::Item(reference) => self.item_rules(None, reference),
+            Operand::Item(reference) => self.item_rules(Asked::Nothing, reference),
             Operand::Literal(literal) => literal_rules(literal),
         }
     }
 
-    /// What an operand sends; nothing where its name doesn't name one item.
-    fn sent_by(&self, one: &Operand) -> Option<Sent>
+    /// What a sender asks of receivers; nothing where its name doesn't name one item.
+    fn asked_by(&self, sender: &Operand) -> Asked
         requires { IsDeclared self.now }
-        ensures { result ≡ sent_by (spec.sent_by (items_in self.now) one.now) }
+        ensures { result ≡ asked_by (spec.sent_by (items_in self.now) sender.now) }
     {
-        match one {
+        match sender {
             Operand::Item(reference) => match self.item_named(&reference.item) {
-                Ok(found) => Some(Sent::by_item(found.item)),
-                Err(_) => None,
+                Ok(found) => Asked::Receives(Sent::by_item(found.item)),
+                Err(_) => Asked::Nothing,
             },
-            Operand::Literal(literal) => Some(Sent::by_literal(&literal.value)),
+            Operand::Literal(literal) => Asked::Receives(Sent::by_literal(&literal.value)),
         }
     }
 
-    /// Receivers of what is sent, in order.
-    fn receivers_rules(&self, sent: Option<Sent>, all: &[Reference]) -> Result<(), BrokenRule>
+    /// Receivers, of which the same is asked, in order.
+    fn receivers_rules(&self, asked: Asked, all: &[Reference]) -> Result<(), BrokenRule>
         requires { IsDeclared self.now }
-        ensures { Finds result (each (names.item_rules (items_in self.now) (asks sent)) all.now) }
+        ensures { Finds result (each (names.item_rules (items_in self.now) (asks asked)) all.now) }
     {
         for one in all {
-            self.item_rules(sent, one)?;
+            self.item_rules(asked, one)?;
         }
         Ok(())
     }
@@ -57,6 +58,6 @@ impl<'a> Declarations<'a> {
         ensures { Finds result (spec.move_rules (items_in self.now) sender.now receivers.now) }
     {
         self.operand_rules(sender)?;
-        self.receivers_rules(self.sent_by(sender), receivers)
+        self.receivers_rules(self.asked_by(sender), receivers)
     }
 }

@@ -1,4 +1,4 @@
-//! The rules of references: 17, 40, 41, 50 and 51, and 49 of receivers (COBOL-85, Nucleus, "Uniqueness of reference").
+//! The rules of references: 17, 40, 41, 50 and 51, and what is asked of their items (COBOL-85, Nucleus, "Uniqueness of reference").
 
 ghost use Rattle.std.specs.Prelude.{◌≡◌};
 ghost use Rattle.entry_rules.specs.Checks.{Finds};
@@ -6,14 +6,14 @@ ghost use Rattle.source_tree.specs.Broken.{each};
 ghost use Rattle.source_tree.specs.NameRules as spec;
 ghost use Rattle.check_rules.specs.Named as declared;
 ghost use Rattle.check_rules.specs.Named.{IsDeclared, items_in, subscript_rules_of};
-ghost use Rattle.check_rules.specs.Sending.{asks, asks_kind};
+ghost use Rattle.check_rules.specs.Asking.{asks};
 
+use crate::asked::Asked;
 use crate::declarations::Declarations;
 use crate::forms::{adjustment_rules, integer_rules};
-use crate::sent::Sent;
 use entry_rules::{BrokenRule, Rule};
 use items::Kind;
-use source_tree::{Place, QualifiedName, Reference, Subscript};
+use source_tree::{QualifiedName, Reference, Subscript};
 
 fn is_integer(kind: Kind) -> bool
     ensures { result ≡ spec.is_integer_kind kind }
@@ -21,16 +21,6 @@ fn is_integer(kind: Kind) -> bool
     match kind {
         Kind::Numeric(numeric) => numeric.scale == 0,
         _ => false,
-    }
-}
-
-/// What a sender asks of a receiver, if there is a sender.
-fn receiver_rules(sent: Option<Sent>, kind: Kind, place: Place) -> Result<(), BrokenRule>
-    ensures { Finds result (asks_kind sent kind place) }
-{
-    match sent {
-        Some(sent) => Rule::Move.broken_if(!sent.may_go_to(kind), place),
-        None => Ok(()),
     }
 }
 
@@ -71,24 +61,24 @@ impl<'a> Declarations<'a> {
         Ok(())
     }
 
-    /// The item of a reference, its number of subscripts, and what a sender asks of it.
-    fn named_rules(&self, sent: Option<Sent>, one: &Reference) -> Result<(), BrokenRule>
+    /// The item of a reference, its number of subscripts, and what is asked of it.
+    fn named_rules(&self, asked: Asked, one: &Reference) -> Result<(), BrokenRule>
         requires { IsDeclared self.now }
-        ensures { Finds result (declared.named_rules (items_in self.now) (asks sent) one.now) }
+        ensures { Finds result (declared.named_rules (items_in self.now) (asks asked) one.now) }
     {
         let place = one.item.name.place;
         let found = self.item_named(&one.item)?;
         let wanted = found.dimensions.as_slice().len();
         Rule::Subscripts.broken_if(one.subscripts.as_slice().len() != wanted, place)?;
-        receiver_rules(sent, found.item.kind, place)
+        asked.kind_rules(found.item.kind, place)
     }
 
-    /// A reference, to which something is sent or nothing.
-    pub(crate) fn item_rules(&self, sent: Option<Sent>, one: &Reference) -> Result<(), BrokenRule>
+    /// A reference, and what is asked of its item.
+    pub(crate) fn item_rules(&self, asked: Asked, one: &Reference) -> Result<(), BrokenRule>
         requires { IsDeclared self.now }
-        ensures { Finds result (spec.item_rules (items_in self.now) (asks sent) one.now) }
+        ensures { Finds result (spec.item_rules (items_in self.now) (asks asked) one.now) }
     {
-        self.named_rules(sent, one)?;
+        self.named_rules(asked, one)?;
         self.subscripts_rules(one.subscripts.as_slice())
     }
 }

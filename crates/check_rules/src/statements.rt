@@ -9,7 +9,8 @@ ghost use Rattle.check_rules.specs.Named.{IsDeclared, items_in};
 use crate::declarations::Declarations;
 use entry_rules::BrokenRule;
 use source_tree::{
-    Moving, Paragraph, Performed, Performing, Section, Sentence, Statement, Text, Verb,
+    Arithmetic, Moving, Paragraph, Performed, Performing, Phrases, Section, Sentence, Statement,
+    Text, Verb,
 };
 
 impl<'a> Declarations<'a> {
@@ -28,6 +29,8 @@ impl<'a> Declarations<'a> {
     {
         match one {
             Text::Display { operands, .. } => self.display_rules(operands.as_slice()),
+            Text::Accept { receiver } => self.accept_line_rules(receiver),
+            Text::AcceptDate { receiver } => self.accept_date_rules(receiver),
         }
     }
 
@@ -40,6 +43,21 @@ impl<'a> Declarations<'a> {
     {
         match &one.verb {
             Verb::Moving(moving) => self.moving_rules(moving),
+            Verb::Arithmetic(
+                Arithmetic {
+                    operation,
+                    phrases: Phrases { arose, did_not },
+                },
+            ) => {
+                self.operation_rules(operation)?;
+                if let Some(inside) = arose {
+                    self.statements_rules(inside.as_slice())?;
+                }
+                match did_not {
+                    Some(inside) => self.statements_rules(inside.as_slice()),
+                    None => Ok(()),
+                }
+            }
             Verb::Performing(
                 Performing {
                     performed: Performed::Statements(inside),

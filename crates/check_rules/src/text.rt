@@ -5,6 +5,7 @@ ghost use Rattle.entry_rules.specs.Checks.{Finds};
 ghost use Rattle.source_tree.specs.TextRules as spec;
 ghost use Rattle.check_rules.specs.Named.{IsDeclared, items_in};
 
+use crate::asked::Asked;
 use crate::declarations::Declarations;
 use crate::sent::Sent;
 use entry_rules::{BrokenRule, Rule};
@@ -17,7 +18,7 @@ impl<'a> Declarations<'a> {
         ensures { Finds result (spec.shown_rules (items_in self.now) one.now) }
     {
         match one {
-            Operand::Item(reference) => self.item_rules(None, reference),
+            Operand::Item(reference) => self.item_rules(Asked::Nothing, reference),
             Operand::Literal(literal) => {
                 let is_all = matches!(literal.value, LiteralValue::All(_));
                 Rule::AllLiteral.broken_if(is_all, literal.place)
@@ -41,7 +42,7 @@ impl<'a> Declarations<'a> {
         requires { IsDeclared self.now }
         ensures { Finds result (spec.accept_line_rules (items_in self.now) receiver.now) }
     {
-        self.item_rules(None, receiver)
+        self.item_rules(Asked::Nothing, receiver)
     }
 
     /// ACCEPT FROM DATE: a MOVE of six digits.
@@ -49,6 +50,6 @@ impl<'a> Declarations<'a> {
         requires { IsDeclared self.now }
         ensures { Finds result (spec.accept_date_rules (items_in self.now) receiver.now) }
     {
-        self.item_rules(Some(Sent::date()), receiver)
+        self.item_rules(Asked::Receives(Sent::date()), receiver)
     }
 }

@@ -3,6 +3,10 @@
 #![tactic(auto)]
 
 #[cfg(test)]
+mod arithmetic_rows;
+#[cfg(test)]
+mod arithmetic_texts;
+#[cfg(test)]
 mod asserted;
 #[cfg(test)]
 mod name_rows;

@@ -1,9 +1,11 @@
-//! What qualified names name, by the number of the item.
-use crate::asserted::same_in;
+//! What qualified names name, by the number of the item or of the condition name.
+ghost use Rattle.names.specs.Table.{IsTable};
+
+use crate::asserted::{same, same_in};
 use crate::reference_texts::{LINE, OPERAND, qualified};
 use crate::texts::entries;
 use entry_rules::check_entries;
-use names::{LookUp, item_names};
+use names::{ConditionNames, LookUp, NameTable, condition_names, item_names};
 use std::alloc::Global;
 use std::process::Abort;
 
@@ -32,7 +34,64 @@ const ROWS: &[(&str, LookUp)] = &[
     ("Z", LookUp::Unknown),
 ];
 
-fn look_ups(rt: &impl Abort, alloc: Global) {
+const WITH_CONDITIONS: &[&str] = &[
+    "01 G",
+    "05 A PIC=9",
+    "88 LOW 1:3",
+    "88 HIGH 4:9",
+    "05 B PIC=X(3)",
+    "88 BLANKS SPACE",
+    "01 H",
+    "88 EMPTY SPACE",
+    "05 A PIC=9",
+    "88 LOW 1",
+    "05 FILLER PIC=X",
+    "88 READY 'Y'",
+];
+
+// Each condition name, with the number of its item.
+const DECLARED: &[(&str, usize)] = &[
+    ("LOW", 1),
+    ("HIGH", 1),
+    ("BLANKS", 2),
+    ("EMPTY", 3),
+    ("LOW", 4),
+    ("READY", 5),
+];
+
+const CONDITION_ROWS: &[(&str, LookUp)] = &[
+    ("HIGH", LookUp::One(1)),
+    ("HIGH/A", LookUp::One(1)),
+    ("HIGH/G", LookUp::One(1)),
+    ("HIGH/A/G", LookUp::One(1)),
+    ("HIGH/G/A", LookUp::Unknown),
+    ("HIGH/B", LookUp::Unknown),
+    ("HIGH/H", LookUp::Unknown),
+    ("LOW", LookUp::Several),
+    ("LOW/A", LookUp::Several),
+    ("LOW/G", LookUp::One(0)),
+    ("LOW/A/H", LookUp::One(4)),
+    ("BLANKS", LookUp::One(2)),
+    ("EMPTY/H", LookUp::One(3)),
+    ("READY/H", LookUp::One(5)),
+    ("READY/A", LookUp::Unknown),
+    ("Z", LookUp::Unknown),
+    // An item's name is no condition name.
+    ("A", LookUp::Unknown),
+    ("A/G", LookUp::Unknown),
+    ("H", LookUp::Unknown),
+];
+
+fn rows_hold(rt: &impl Abort, alloc: Global, table: &NameTable, rows: &[(&str, LookUp)])
+    requires { IsTable table.now }
+{
+    for (text, expected) in rows {
+        let name = qualified(rt, alloc, (LINE, OPERAND), text);
+        same_in(rt, text, table.look_up(&name), *expected);
+    }
+}
+
+fn items_are_found(rt: &impl Abort, alloc: Global) {
     let all = entries(rt, alloc, ENTRIES);
     if check_entries(alloc, &all).is_err() {
         panic!(rt; "a rule is broken, or no memory");
@@ -40,13 +99,43 @@ fn look_ups(rt: &impl Abort, alloc: Global) {
     let Ok(table) = item_names(alloc, &all) else {
         panic!(rt; "no memory");
     };
-    for (text, expected) in ROWS {
-        let name = qualified(rt, alloc, (LINE, OPERAND), text);
-        same_in(rt, text, table.look_up(&name), *expected);
+    rows_hold(rt, alloc, &table, ROWS);
+}
+
+fn declared_in_order(rt: &impl Abort, all: &ConditionNames) {
+    same(rt, all.conditions.len(), DECLARED.len());
+    for (one, (name, item)) in all.conditions.iter().zip(DECLARED) {
+        same_in(
+            rt,
+            name,
+            one.condition.name.characters.as_slice(),
+            name.as_bytes(),
+        );
+        same_in(rt, name, one.item, *item);
     }
+}
+
+fn conditions_are_found(rt: &impl Abort, alloc: Global) {
+    let all = entries(rt, alloc, WITH_CONDITIONS);
+    if check_entries(alloc, &all).is_err() {
+        panic!(rt; "a rule is broken, or no memory");
+    }
+    let Ok(items) = item_names(alloc, &all) else {
+        panic!(rt; "no memory");
+    };
+    let Ok(conditions) = condition_names(alloc, &items, &all) else {
+        panic!(rt; "no memory");
+    };
+    declared_in_order(rt, &conditions);
+    rows_hold(rt, alloc, &conditions.names, CONDITION_ROWS);
 }
 
 #[test]
 fn names(rt: HostRuntime) {
-    look_ups(&rt, rt.alloc());
+    items_are_found(&rt, rt.alloc());
+}
+
+#[test]
+fn condition_names_of_items(rt: HostRuntime) {
+    conditions_are_found(&rt, rt.alloc());
 }

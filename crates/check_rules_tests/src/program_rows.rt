@@ -17,13 +17,18 @@ const ENTRIES: &[&str] = &[
     "05 B PIC=A(3)",
     "77 N PIC=9V9",
     "77 M PIC=9",
+    "77 E PIC=Z9",
+    "77 W PIC=XBX",
 ];
 
 const WITHOUT_PICTURE: &[&str] = &["77 M PIC=9", "77 N"];
 
 type Expected = Option<(Rule, (u32, u8))>;
 
-const ROWS: &[(&[&str], Expected)] = &[
+/// The sentences of a program, and the first rule that it breaks, with its place.
+pub type Row = (&'static [&'static str], Expected);
+
+const ROWS: &[Row] = &[
     (&[], None),
     (
         &[
@@ -92,8 +97,9 @@ fn told(rt: &impl Abort, alloc: Global, one: &Program) -> Expected {
     }
 }
 
-fn rows(rt: &impl Abort, alloc: Global) {
-    for (texts, expected) in ROWS {
+/// Programs of the rows break first what the rows say, in one section and in several.
+pub fn as_expected(rt: &impl Abort, alloc: Global, rows: &[Row]) {
+    for (texts, expected) in rows {
         let in_one = program(rt, alloc, ENTRIES, together(rt, alloc, texts));
         same_in(rt, texts, told(rt, alloc, &in_one), *expected);
         let in_each = program(rt, alloc, ENTRIES, apart(rt, alloc, texts));
@@ -110,7 +116,7 @@ fn order(rt: &impl Abort, alloc: Global) {
 
 #[test]
 fn programs(rt: HostRuntime) {
-    rows(&rt, rt.alloc());
+    as_expected(&rt, rt.alloc(), ROWS);
 }
 
 #[test]

@@ -1,10 +1,13 @@
-//! Programs from short texts: a sentence a line, its statements between `;`, each as `MOVE M N B`, `DISPLAY M =1` or `CONTINUE`. Behind
-//! `>` stands what is performed, with a `P` before it for each PERFORM around it, as `PP>MOVE M N;CONTINUE`.
+//! Programs from short texts: a sentence a line, its statements between `;`, each as `MOVE M N B`, `DISPLAY M =1`, `ACCEPT M FROM DATE` or
+//! `CONTINUE`. Behind `>` stands what is performed, with a `P` before it for each PERFORM around it, as `PP>MOVE M N;CONTINUE`. Behind
+//! an arithmetic statement stand, each behind a `|`, the statement of ON SIZE ERROR and that of NOT ON SIZE ERROR; nothing there
+//! is no phrase.
+use crate::arithmetic_texts::operation;
 use crate::reference_texts::{operand, push, reference};
 use crate::texts::{entries, name};
 use source_tree::{
-    Ending, Moving, Paragraph, Performed, Performing, Place, Program, Section, Sentence, Statement,
-    Text, Turns, Verb,
+    Arithmetic, Ending, Moving, Paragraph, Performed, Performing, Phrases, Place, Program, Section,
+    Sentence, Statement, Text, Turns, Verb,
 };
 use sqlite_items::Items;
 use std::alloc::Global;
@@ -45,20 +48,53 @@ fn display(rt: &impl Abort, alloc: Global, line: u32, words: &str) -> Text {
     }
 }
 
+fn accept(rt: &impl Abort, alloc: Global, line: u32, words: &str) -> Text {
+    match words.strip_suffix(" FROM DATE") {
+        Some(word) => Text::AcceptDate {
+            receiver: reference(rt, alloc, line, word),
+        },
+        None => Text::Accept {
+            receiver: reference(rt, alloc, line, words),
+        },
+    }
+}
+
 fn at(line: u32, verb: Verb<Statement>) -> Statement {
     let place = Place { line, column: VERB };
     Statement { place, verb }
 }
 
-fn statement(rt: &impl Abort, alloc: Global, line: u32, text: &str) -> Statement {
+/// A statement that holds none.
+fn plain(rt: &impl Abort, alloc: Global, line: u32, text: &str) -> Statement {
     let (word, words) = text.split_once(' ').unwrap_or((text, ""));
     let verb = match word {
         "MOVE" => Verb::Moving(moving(rt, alloc, line, words)),
         "DISPLAY" => Verb::Text(display(rt, alloc, line, words)),
+        "ACCEPT" => Verb::Text(accept(rt, alloc, line, words)),
         "CONTINUE" => Verb::Ending(Ending::Continue),
         _ => panic!(rt; "a statement: {text}"),
     };
     at(line, verb)
+}
+
+fn phrase(rt: &impl Abort, alloc: Global, line: u32, text: &str) -> Option<Items<Statement>> {
+    if text.is_empty() {
+        return None;
+    }
+    Some(alone(rt, alloc, plain(rt, alloc, line, text)))
+}
+
+fn statement(rt: &impl Abort, alloc: Global, line: u32, text: &str) -> Statement {
+    let (words, phrases) = text.split_once('|').unwrap_or((text, ""));
+    let Some(operation) = operation(rt, alloc, line, words) else {
+        return plain(rt, alloc, line, text);
+    };
+    let (arose, did_not) = phrases.split_once('|').unwrap_or((phrases, ""));
+    let phrases = Phrases {
+        arose: phrase(rt, alloc, line, arose),
+        did_not: phrase(rt, alloc, line, did_not),
+    };
+    at(line, Verb::Arithmetic(Arithmetic { operation, phrases }))
 }
 
 fn performing(line: u32, inside: Items<Statement>) -> Statement {

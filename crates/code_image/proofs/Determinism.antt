@@ -1,17 +1,18 @@
 -- A run ends in one way, and what was told stays told.
-use Rattle.std.proofs.Common.{◌≡◌, ℕ, zero, suc, ◌+◌, ◌≤◌, Option, Some, None, sym, ◌∙◌, ⊎_elim, arith}
+use Rattle.std.proofs.Common.{◌≡◌, ℕ, zero, suc, ◌+◌, ◌≤◌, Bool, true, false, Option, Some, None, sym, ◌∙◌, ⊎_elim, arith}
 use Rattle.std.specs.Prelude.{slice_get, slice_index, slice_set}
 use Rattle.std.proofs.lemmas.Bool.{cases_lt}
 use Rattle.source_tree.specs.State.{State}
 use Rattle.source_tree.specs.Given.{Given}
 use Rattle.source_tree.specs.Meaning.{Run}
+use Rattle.source_tree.specs.Accepting.{next_line}
 use Rattle.code_image.specs.declared.code.Code.{Code}
 use Rattle.code_image.specs.declared.instruction.Instruction.{Instruction}
-use Rattle.code_image.specs.declared.instruction.Instruction.TheVariants.{Tick, Show, Stop, Count, Turn, Data}
+use Rattle.code_image.specs.declared.instruction.Instruction.TheVariants.{Tick, Show, Stop, Count, Turn, Accept, Date, Branch, Jump, Join, Data}
 use Rattle.data_instructions.specs.Scratch.{Step, Went, Faulted, Stuck}
-use Rattle.data_instructions.specs.Table.{work}
+use Rattle.data_instructions.specs.Table.{work, accepted, dated}
 use Rattle.code_image.specs.Points.{Point, scratch_of, first_point}
-use Rattle.code_image.specs.Table.{Next, onward, tick_from, shown_point, worked_point, data_from, turn_from, act, exec_code, Runs}
+use Rattle.code_image.specs.Table.{Next, onward, tick_from, shown_point, worked_point, data_from, turn_from, branch_from, line_taken, act, exec_code, Runs}
 
 -- where f is over, g is over with the same run
 abbrev Extends : Next → Next → Type 0
@@ -31,6 +32,10 @@ module _ (f g : Next) (h : Extends f g) where
   turn_extends zero counter to p run e = h (record p { address = p.address + 1 }) run e
   turn_extends (suc n) counter to p run e = h (record p { address = to; own = record p.own { counters = slice_set p.own.counters counter n } }) run e
 
+  branch_extends : (truth : Bool) (to : ℕ) (p : Point) (run : Run) → branch_from truth to f p ≡ Some run → branch_from truth to g p ≡ Some run
+  branch_extends true to p run e = h (record p { address = p.address + 1 }) run e
+  branch_extends false to p run e = h (record p { address = to }) run e
+
   act_extends : (code : Code) (i : Option Instruction) (p : Point) (run : Run) → act code i f p ≡ Some run → act code i g p ≡ Some run
   act_extends code None p run e = e
   act_extends code (Some (Tick line)) p run e = tick_extends p.state.budget line p p.state run e
@@ -40,6 +45,11 @@ module _ (f g : Next) (h : Extends f g) where
   act_extends code (Some (Count counter turns)) p run e =
       h (record p { address = p.address + 1; own = record p.own { counters = slice_set p.own.counters counter.number turns } }) run e
   act_extends code (Some (Turn counter to)) p run e = turn_extends (slice_index p.own.counters counter.number) counter.number to p run e
+  act_extends code (Some Accept) p run e = data_extends (accepted code.tables (next_line p.state.lines) (scratch_of p.state p.own)) (line_taken p) run e
+  act_extends code (Some Date) p run e = data_extends (dated code.tables p.state.day (scratch_of p.state p.own)) p run e
+  act_extends code (Some (Branch to)) p run e = branch_extends p.own.truth to p run e
+  act_extends code (Some (Jump to)) p run e = h (record p { address = to }) run e
+  act_extends code (Some Join) p run e = h (record p { address = p.address + 1 }) run e
 
 longer : (code : Code) (m n : ℕ) → m ≤ n → Extends (exec_code code m) (exec_code code n)
 longer code zero n le p run e = cc

@@ -1,13 +1,20 @@
--- Worked examples: the code of a program that shows HELLO and stops, two loops, code that works on data, and images.
-use Rattle.std.proofs.Common.{◌≡◌, ℕ, List, [], ◌∷◌, ◌++◌, take, Some, None, Ok, Err, map, refl, pos}
-use Rattle.std.specs.Prelude.{codes}
+-- Worked examples: the code of a program that shows HELLO and stops, two loops, code that works on data, ways on, console lines, and
+-- images.
+use Rattle.std.proofs.Common.{◌≡◌, ℕ, true, false, List, [], ◌∷◌, ◌++◌, take, Option, Some, None, Ok, Err, map, refl, pos}
+use Rattle.std.specs.Prelude.{codes, slice_get, slice_index_or}
 use Rattle.items.specs.declared.item.Kind.TheVariants as kind
 use Rattle.items.specs.declared.usage.OperationalSign.TheVariants as operational
 use Rattle.items.specs.declared.usage.Usage.TheVariants as usage
+use Rattle.items.specs.Values.{bytes_of}
+use Rattle.decimal18.specs.Quotient.{quotient, greatest}
+use Rattle.decimal18.specs.Receiver.{fitted}
 use Rattle.station.specs.State.{Shown}
 use Rattle.source_tree.specs.Evaluated.{Subscript}
 use Rattle.source_tree.specs.State.{Stopped, Budget, Faulted}
+use Rattle.source_tree.specs.Meaning.{Run}
+use Rattle.data_instructions.specs.declared.tables.DataItem.{DataItem}
 use Rattle.data_instructions.specs.declared.tables.DataTables.{DataTables}
+use Rattle.data_instructions.specs.declared.calculation.Calculation.TheVariants as c
 use Rattle.data_instructions.specs.declared.instruction.DataInstruction.TheVariants as i
 use Rattle.data_instructions.specs.Shapes.{empty}
 use Rattle.image_tables.specs.declared.fault.ImageFault.TheVariants as faults
@@ -19,12 +26,12 @@ use Rattle.image_tables.specs.Instructions.{data_instruction_at, plain_instructi
 use Rattle.code_image.specs.declared.code.Code.{Code}
 use Rattle.code_image.specs.declared.counter.CounterIndex.{CounterIndex}
 use Rattle.code_image.specs.declared.instruction.Instruction.{Instruction}
-use Rattle.code_image.specs.declared.instruction.Instruction.TheVariants.{Tick, Show, Stop, Count, Turn, Data}
+use Rattle.code_image.specs.declared.instruction.Instruction.TheVariants.{Tick, Show, Stop, Count, Turn, Accept, Date, Branch, Jump, Join, Data}
 use Rattle.code_image.specs.Spelling.{mark, instruction_bytes, spelling}
 use Rattle.code_image.specs.Reading.{after_mark, instruction_at, code_at}
 use Rattle.code_image.specs.Known.{known_along}
 use Rattle.code_image.specs.Points.{Point, first_point}
-use Rattle.code_image.specs.Table.{exec_code}
+use Rattle.code_image.specs.Table.{Next, act, exec_code}
 
 -- HELLO and a line feed
 abbrev hello : List ℕ
@@ -48,17 +55,20 @@ code = record {
   instructions = Tick 5 ∷ append 0 ∷ Show ∷ Tick 6 ∷ Stop ∷ Stop ∷ [];
 }
 
--- at the first instruction, on some day
-abbrev with_budget : Code → ℕ → Point
-with_budget code budget = first_point code (record { budget = budget; day = codes "620730" })
+-- at the first instruction, on some day, with these console lines
+abbrev with_lines : Code → ℕ → List (List ℕ) → Point
+with_lines code budget lines = first_point code (record { budget = budget; day = codes "620730"; lines = lines })
 
-budget_2 : exec_code code 5 (with_budget code 2) ≡ Some (record { events = map Shown hello; end = Stopped })
+abbrev with_budget : Code → ℕ → Point
+with_budget code budget = with_lines code budget []
+
+budget_2 : exec_code code 5 (with_budget code 2) ≡ Some (record { events = map Shown hello; end = Stopped; lines = [] })
 budget_2 = refl
 
-budget_1 : exec_code code 4 (with_budget code 1) ≡ Some (record { events = map Shown hello; end = Budget })
+budget_1 : exec_code code 4 (with_budget code 1) ≡ Some (record { events = map Shown hello; end = Budget; lines = [] })
 budget_1 = refl
 
-budget_0 : exec_code code 1 (with_budget code 0) ≡ Some (record { events = []; end = Budget })
+budget_0 : exec_code code 1 (with_budget code 0) ≡ Some (record { events = []; end = Budget; lines = [] })
 budget_0 = refl
 
 -- four instructions aren't enough for the whole run
@@ -70,7 +80,7 @@ outside : exec_code (record { tables = with_texts []; starts = []; instructions 
 outside = refl
 
 -- neither does an instruction without its operands
-lacks_operands : exec_code (record { tables = with_texts []; starts = []; instructions = Data i.Add ∷ Stop ∷ [] }) 9 (with_budget code 1) ≡ None
+lacks_operands : exec_code (record { tables = with_texts []; starts = []; instructions = Data (i.Calculate c.Add) ∷ Stop ∷ [] }) 9 (with_budget code 1) ≡ None
 lacks_operands = refl
 
 -- code that runs out ends nothing
@@ -90,24 +100,28 @@ two_by_three = record {
       ∷ Turn (counter 4) 5 ∷ Turn (counter 1) 2 ∷ Stop ∷ [];
 }
 
-two_by_three_with_17 : exec_code two_by_three 99 (with_budget two_by_three 17) ≡ Some (record { events = map Shown (codes "AAAAAA"); end = Stopped })
+two_by_three_with_17 : exec_code two_by_three 99 (with_budget two_by_three 17) ≡ Some (record { events = map Shown (codes "AAAAAA"); end = Stopped; lines = [] })
 two_by_three_with_17 = refl
 
-two_by_three_with_16 : exec_code two_by_three 99 (with_budget two_by_three 16) ≡ Some (record { events = map Shown (codes "AAAAA"); end = Budget })
+two_by_three_with_16 : exec_code two_by_three 99 (with_budget two_by_three 16) ≡ Some (record { events = map Shown (codes "AAAAA"); end = Budget; lines = [] })
 two_by_three_with_16 = refl
 
 -- ---- data
 
--- three occurrences of PIC 9(2), and the number 4
+-- PIC 9(2) in front of the area
+abbrev two_digits : DataItem
+two_digits = record {
+  item = record { kind = kind.Numeric (record { digits = 2; scale = 0; usage = usage.Display operational.Unsigned }); length = 2 };
+  editing = None;
+  area = 0;
+  offset = 0;
+}
+
+-- three occurrences of it, and the number 4
 abbrev table_of_three : DataTables
 table_of_three = record {
   areas = codes "010203" ∷ [];
-  items = record {
-    item = record { kind = kind.Numeric (record { digits = 2; scale = 0; usage = usage.Display operational.Unsigned }); length = 2 };
-    editing = None;
-    area = 0;
-    offset = 0;
-  } ∷ [];
+  items = two_digits ∷ [];
   numbers = record { coefficient = pos 4; scale = 0 } ∷ [];
   senders = [];
   texts = codes "A" ∷ [];
@@ -125,8 +139,81 @@ fourth = record {
 }
 
 -- The fault ends the run at the line of its statement, after what was shown before.
-fault : exec_code fourth 99 (with_budget fourth 9) ≡ Some (record { events = map Shown (codes "A"); end = Faulted Subscript 8 })
+fault : exec_code fourth 99 (with_budget fourth 9) ≡ Some (record { events = map Shown (codes "A"); end = Faulted Subscript 8; lines = [] })
 fault = refl
+
+-- ---- ways on
+
+abbrev number : ℕ → Instruction
+number index = Data (i.Literal (record { number = index }))
+
+-- DIVIDE 1 BY a number GIVING N SIZE ERROR DISPLAY "A" NO ADVANCING NOT SIZE ERROR DISPLAY "B" NO ADVANCING END-DIVIDE, and behind
+-- it DISPLAY "C" NO ADVANCING. Each branch and each jump leads behind a `join`.
+abbrev dividing_by : ℕ → Code
+dividing_by divisor = record {
+  tables = record {
+    areas = codes "00" ∷ [];
+    items = two_digits ∷ [];
+    numbers = record { coefficient = pos 1; scale = 0 } ∷ record { coefficient = pos divisor; scale = 0 } ∷ [];
+    senders = [];
+    texts = codes "A" ∷ codes "B" ∷ codes "C" ∷ [];
+  };
+  starts = 0 ∷ [];
+  instructions =
+      Tick 1 ∷ Data i.ClearTruth ∷ Data (i.Place (record { number = 0 })) ∷ number 0 ∷ number 1 ∷ Data (i.Calculate c.Divide) ∷ Data (i.Store false true)
+      ∷ Branch 13
+      ∷ Tick 2 ∷ append 0 ∷ Show ∷ Jump 17 ∷ Join
+      ∷ Tick 3 ∷ append 1 ∷ Show ∷ Join
+      ∷ Tick 4 ∷ append 2 ∷ Show ∷ Stop ∷ [];
+}
+
+computing : Unit {0}
+unfolding quotient greatest fitted bytes_of
+computing = tt
+
+size_error : exec_code (dividing_by 0) 99 (with_budget (dividing_by 0) 9) ≡ Some (record { events = map Shown (codes "AC"); end = Stopped; lines = [] })
+unfolding computing
+size_error = refl
+
+no_size_error : exec_code (dividing_by 1) 99 (with_budget (dividing_by 1) 9) ≡ Some (record { events = map Shown (codes "BC"); end = Stopped; lines = [] })
+unfolding computing
+no_size_error = refl
+
+-- ---- ACCEPT
+
+-- PIC X(3)
+abbrev three_characters : DataTables
+three_characters = record {
+  areas = codes "..." ∷ [];
+  items = record { item = record { kind = kind.Alphanumeric false; length = 3 }; editing = None; area = 0; offset = 0 } ∷ [];
+  numbers = [];
+  senders = [];
+  texts = [];
+}
+
+-- ACCEPT A
+abbrev accepting : Code
+accepting = record { tables = three_characters; starts = []; instructions = Data (i.Place (record { number = 0 })) ∷ Accept ∷ [] }
+
+-- tells of a point what the first area has there, and the console lines that are left
+abbrev area_told : Next
+area_told p = Some (record { events = map Shown (slice_index_or p.state.storage 0 []); end = Stopped; lines = p.state.lines })
+
+-- both instructions, with these lines
+abbrev accepted_from : List (List ℕ) → Option Run
+accepted_from lines =
+    act accepting (slice_get accepting.instructions 0) (λ p. act accepting (slice_get accepting.instructions p.address) area_told p) (with_lines accepting 1 lines)
+
+-- the next line is cut, and those behind it are left
+line_cut : accepted_from (codes "HELLO" ∷ codes "X" ∷ []) ≡ Some (record { events = map Shown (codes "HEL"); end = Stopped; lines = codes "X" ∷ [] })
+line_cut = refl
+
+line_padded : accepted_from (codes "X" ∷ []) ≡ Some (record { events = map Shown (codes "X  "); end = Stopped; lines = [] })
+line_padded = refl
+
+-- past the end of input there are spaces
+no_line : accepted_from [] ≡ Some (record { events = map Shown (codes "   "); end = Stopped; lines = [] })
+no_line = refl
 
 -- ---- what is known along code
 
@@ -137,8 +224,16 @@ finds_operands = refl
 line_left : known_along code.tables (append 0 ∷ Tick 1 ∷ []) empty ≡ None
 line_left = refl
 
-finds_no_number : known_along code.tables (Data i.Add ∷ []) empty ≡ None
+finds_no_number : known_along code.tables (Data (i.Calculate c.Add) ∷ []) empty ≡ None
 finds_no_number = refl
+
+-- no statement begins with a number on the stack, whatever way leads there
+number_left : known_along table_of_three (number 0 ∷ Branch 9 ∷ []) empty ≡ None
+number_left = refl
+
+-- `accept` wants a place
+finds_no_place : known_along code.tables (Accept ∷ []) empty ≡ None
+finds_no_place = refl
 
 -- ---- bytes of instructions
 
@@ -160,16 +255,33 @@ turn_spelt : instruction_bytes (Turn (counter 1) 2) ≡ 5 ∷ 0 ∷ 0 ∷ 0 ∷ 
 unfolding count_bytes
 turn_spelt = refl
 
-append_spelt : instruction_bytes (append 7) ≡ 16 ∷ 0 ∷ 0 ∷ 0 ∷ 7 ∷ []
+accept_spelt : instruction_bytes Accept ≡ 6 ∷ []
+accept_spelt = refl
+
+date_spelt : instruction_bytes Date ≡ 7 ∷ []
+date_spelt = refl
+
+branch_spelt : instruction_bytes (Branch 258) ≡ 8 ∷ 0 ∷ 0 ∷ 0 ∷ 0 ∷ 0 ∷ 0 ∷ 1 ∷ 2 ∷ []
+unfolding count_bytes
+branch_spelt = refl
+
+jump_spelt : instruction_bytes (Jump 258) ≡ 9 ∷ 0 ∷ 0 ∷ 0 ∷ 0 ∷ 0 ∷ 0 ∷ 1 ∷ 2 ∷ []
+unfolding count_bytes
+jump_spelt = refl
+
+join_spelt : instruction_bytes Join ≡ 10 ∷ []
+join_spelt = refl
+
+append_spelt : instruction_bytes (append 7) ≡ 24 ∷ 0 ∷ 0 ∷ 0 ∷ 7 ∷ []
 unfolding short_bytes
 append_spelt = refl
 
--- no instruction begins with 0 or 17
+-- no instruction begins with 0 or 11
 no_instruction : instruction_at (0 ∷ []) ≡ Err faults.Value
 unfolding instruction_at data_instruction_at byte_at plain_instruction_of
 no_instruction = refl
 
-unknown : instruction_at (17 ∷ []) ≡ Err faults.Value
+unknown : instruction_at (11 ∷ []) ≡ Err faults.Value
 unfolding instruction_at data_instruction_at byte_at plain_instruction_of
 unknown = refl
 
@@ -178,7 +290,7 @@ nothing_left : instruction_at [] ≡ Err faults.Length
 unfolding instruction_at
 nothing_left = refl
 
-cut_instruction : instruction_at (16 ∷ 0 ∷ 0 ∷ 0 ∷ []) ≡ Err faults.Length
+cut_instruction : instruction_at (24 ∷ 0 ∷ 0 ∷ 0 ∷ []) ≡ Err faults.Length
 unfolding instruction_at data_instruction_at byte_at short_at
 cut_instruction = refl
 

@@ -1,9 +1,11 @@
 -- The mark and instructions, read and spelled.
-use Rattle.std.proofs.Common.{◌≡◌, ℕ, suc, eqb, List, [], ◌∷◌, ◌++◌, take, drop, Ok, refl, sym, ap, subst, ◌∙◌, append_assoc, inl, inr}
+use Rattle.std.proofs.Common.{◌≡◌, ℕ, suc, eqb, true, false, List, [], ◌∷◌, ◌++◌, take, drop, Ok, refl, sym, ap, subst, ◌∙◌, append_assoc, inl, inr}
 use Rattle.std.specs.List.{starts_with}
-use Rattle.std.specs.Prelude.{nat_eq}
+use Rattle.std.specs.Prelude.{nat_eq, ◌==◌, if◌then◌else◌}
 use Rattle.std.specs.Cmp.Lexicographic.{same_text}
 use Rattle.std.proofs.lemmas.List.{take-append-drop}
+use Rattle.data_instructions.specs.declared.calculation.Calculation.TheVariants as c
+use Rattle.data_instructions.specs.declared.test.Test.TheVariants as t
 use Rattle.data_instructions.specs.declared.instruction.DataInstruction.{DataInstruction}
 use Rattle.data_instructions.specs.declared.instruction.DataInstruction.TheVariants as i
 use Rattle.image_tables.specs.declared.fault.ImageFault.TheVariants as faults
@@ -14,9 +16,9 @@ use Rattle.image_tables.proofs.Forms.{IsBytes-drop, guard_passed, ok_is, failed,
 use Rattle.image_tables.proofs.Numbers.{count_form, short_form}
 use Rattle.image_tables.proofs.Instructions.{data_instruction_form}
 use Rattle.code_image.specs.declared.instruction.Instruction.{Instruction}
-use Rattle.code_image.specs.declared.instruction.Instruction.TheVariants.{Tick, Show, Stop, Count, Turn, Data}
+use Rattle.code_image.specs.declared.instruction.Instruction.TheVariants.{Tick, Show, Stop, Count, Turn, Accept, Date, Branch, Jump, Join, Data}
 use Rattle.code_image.specs.Spelling.{mark, instruction_bytes, HasNumbers}
-use Rattle.code_image.specs.Reading.{after_mark, count_instruction_at, turn_at, data_at, instruction_at}
+use Rattle.code_image.specs.Reading.{after_mark, alone_at, count_instruction_at, turn_at, branch_at, jump_at, data_at, instruction_at}
 
 -- ---- the mark
 
@@ -68,6 +70,36 @@ data_took bytes x is e =
     let a = part data_instruction_form bytes (λ one. Ok (Data one.0, one.1)) x is e in
     subst (Took instruction_bytes HasNumbers bytes) (ok_is (Data a.value, a.rest) x a.goes) (a.takes, a.sound)
 
+-- what is read where the first byte is none of the first five
+abbrev later_at : ℕ → List ℕ → Read Instruction
+later_at n rest =
+    if n == 6 then alone_at Accept rest
+    else if n == 7 then alone_at Date rest
+    else if n == 8 then branch_at rest
+    else if n == 9 then jump_at rest
+    else if n == 10 then alone_at Join rest
+    else data_at (n ∷ rest)
+
+later_took : (n : ℕ) (rest : List ℕ) (x : Instruction × List ℕ) → IsBytes (n ∷ rest) → later_at n rest ≡ Ok x → Reads n rest x
+later_took n rest x all e =
+    let is : IsBytes rest = λ i. all (suc i) in
+    elim (chosen (eqb n 6) _ _ _ e) [
+      | inl p ↦ byte_is instruction_bytes HasNumbers 6 n rest x p.0 (alone_took instruction_bytes HasNumbers 6 Accept rest x (refl, tt) is p.1)
+      | inr q ↦ elim (chosen (eqb n 7) _ _ _ q.1) [
+        | inl p ↦ byte_is instruction_bytes HasNumbers 7 n rest x p.0 (alone_took instruction_bytes HasNumbers 7 Date rest x (refl, tt) is p.1)
+        | inr r ↦ elim (chosen (eqb n 8) _ _ _ r.1) [
+          | inl p ↦ byte_is instruction_bytes HasNumbers 8 n rest x p.0 (behind_took instruction_bytes HasNumbers count_form 8 Branch (λ a. refl) (λ a h. h) rest x is p.1)
+          | inr s ↦ elim (chosen (eqb n 9) _ _ _ s.1) [
+            | inl p ↦ byte_is instruction_bytes HasNumbers 9 n rest x p.0 (behind_took instruction_bytes HasNumbers count_form 9 Jump (λ a. refl) (λ a h. h) rest x is p.1)
+            | inr t ↦ elim (chosen (eqb n 10) _ _ _ t.1) [
+              | inl p ↦ byte_is instruction_bytes HasNumbers 10 n rest x p.0 (alone_took instruction_bytes HasNumbers 10 Join rest x (refl, tt) is p.1)
+              | inr u ↦ data_took (n ∷ rest) x all u.1
+            ]
+          ]
+        ]
+      ]
+    ]
+
 from_took : (n : ℕ) (rest : List ℕ) (x : Instruction × List ℕ) → IsBytes (n ∷ rest) → instruction_at (n ∷ rest) ≡ Ok x → Reads n rest x
 unfolding instruction_at
 from_took n rest x all e =
@@ -82,7 +114,7 @@ from_took n rest x all e =
             | inl p ↦ byte_is instruction_bytes HasNumbers 4 n rest x p.0 (count_took rest x is p.1)
             | inr t ↦ elim (chosen (eqb n 5) _ _ _ t.1) [
               | inl p ↦ byte_is instruction_bytes HasNumbers 5 n rest x p.0 (turn_took rest x is p.1)
-              | inr u ↦ data_took (n ∷ rest) x all u.1
+              | inr u ↦ later_took n rest x all u.1
             ]
           ]
         ]
@@ -101,13 +133,32 @@ begins_data (i.Place item) rest = refl
 begins_data (i.Index stride count) rest = refl
 begins_data i.Push rest = refl
 begins_data (i.Literal number) rest = refl
-begins_data i.Add rest = refl
-begins_data i.Subtract rest = refl
+begins_data i.ClearTruth rest = refl
+begins_data i.VoidIfTrue rest = refl
+begins_data (i.Store false false) rest = refl
+begins_data (i.Store true false) rest = refl
+begins_data (i.Store false true) rest = refl
+begins_data (i.Store true true) rest = refl
+begins_data (i.Calculate c.Add) rest = refl
+begins_data (i.Calculate c.Subtract) rest = refl
+begins_data (i.Calculate c.Multiply) rest = refl
+begins_data (i.Calculate c.Divide) rest = refl
+begins_data (i.Calculate c.Negate) rest = refl
+begins_data (i.Calculate (c.Truncate scale)) rest = refl
+begins_data (i.Calculate (c.Duplicate depth)) rest = refl
+begins_data (i.Calculate c.Discard) rest = refl
 begins_data i.Take rest = refl
 begins_data (i.TakeLiteral literal) rest = refl
 begins_data i.Move rest = refl
 begins_data i.Append rest = refl
 begins_data (i.AppendLiteral text) rest = refl
+begins_data (i.Test (t.Compare one)) rest = refl
+begins_data (i.Test (t.CompareLiteral one literal)) rest = refl
+begins_data (i.Test (t.CompareNumbers one)) rest = refl
+begins_data (i.Test (t.Class one)) rest = refl
+begins_data (i.Test (t.OrEqual literal)) rest = refl
+begins_data (i.Test (t.OrWithin first)) rest = refl
+begins_data (i.Test t.Invert) rest = refl
 
 data_again : (one : DataInstruction) (rest : List ℕ) → HasShorts one → instruction_at (data_instruction_bytes one ++ rest) ≡ Ok (Data one, rest)
 data_again one rest h = begins_data one rest ∙ part_again data_instruction_form one rest (λ one. Ok (Data one.0, one.1)) h
@@ -125,6 +176,11 @@ instruction_again (Turn counter to) rest h =
     ap turn_at (append_assoc (count_bytes counter.number) (count_bytes to) rest)
     ∙ part_again count_form counter.number (count_bytes to ++ rest) turn_to h.0
     ∙ part_again count_form to rest (λ to. Ok (Turn counter to.0, to.1)) h.1
+instruction_again Accept rest h = refl
+instruction_again Date rest h = refl
+instruction_again (Branch to) rest h = part_again count_form to rest (λ to. Ok (Branch to.0, to.1)) h
+instruction_again (Jump to) rest h = part_again count_form to rest (λ to. Ok (Jump to.0, to.1)) h
+instruction_again Join rest h = refl
 instruction_again (Data one) rest h = data_again one rest h
 
 pub instruction_form : IsForm instruction_at instruction_bytes HasNumbers

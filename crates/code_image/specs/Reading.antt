@@ -8,7 +8,7 @@ use Rattle.image_tables.specs.Tables.{tables_at}
 use Rattle.image_tables.specs.Instructions.{data_instruction_at}
 use Rattle.code_image.specs.declared.code.Code.{Code}
 use Rattle.code_image.specs.declared.instruction.Instruction.{Instruction}
-use Rattle.code_image.specs.declared.instruction.Instruction.TheVariants.{Tick, Show, Stop, Count, Turn, Data}
+use Rattle.code_image.specs.declared.instruction.Instruction.TheVariants.{Tick, Show, Stop, Count, Turn, Accept, Date, Branch, Jump, Join, Data}
 use Rattle.code_image.specs.Spelling.{mark}
 
 -- the bytes after the mark
@@ -35,6 +35,16 @@ turn_at bytes = do
   to ← count_at counter.1
   Ok (Turn (record { number = counter.0 }) to.0, to.1)
 
+abbrev pub branch_at : List ℕ → Read Instruction
+branch_at bytes = do
+  to ← count_at bytes
+  Ok (Branch to.0, to.1)
+
+abbrev pub jump_at : List ℕ → Read Instruction
+jump_at bytes = do
+  to ← count_at bytes
+  Ok (Jump to.0, to.1)
+
 -- an instruction on data, with its first byte
 abbrev pub data_at : List ℕ → Read Instruction
 data_at bytes = do
@@ -49,6 +59,11 @@ instruction_at (byte ∷ bytes) =
     else if byte == 3 then alone_at Stop bytes
     else if byte == 4 then count_instruction_at bytes
     else if byte == 5 then turn_at bytes
+    else if byte == 6 then alone_at Accept bytes
+    else if byte == 7 then alone_at Date bytes
+    else if byte == 8 then branch_at bytes
+    else if byte == 9 then jump_at bytes
+    else if byte == 10 then alone_at Join bytes
     else data_at (byte ∷ bytes)
 
 -- all of the bytes

@@ -5,19 +5,24 @@ use Rattle.image_tables.specs.Tables.{tables_bytes, HasTables}
 use Rattle.image_tables.specs.Instructions.{data_instruction_bytes, HasShorts}
 use Rattle.code_image.specs.declared.code.Code.{Code}
 use Rattle.code_image.specs.declared.instruction.Instruction.{Instruction}
-use Rattle.code_image.specs.declared.instruction.Instruction.TheVariants.{Tick, Show, Stop, Count, Turn, Data}
+use Rattle.code_image.specs.declared.instruction.Instruction.TheVariants.{Tick, Show, Stop, Count, Turn, Accept, Date, Branch, Jump, Join, Data}
 
 -- COBIMG01
 abbrev pub mark : List ℕ
 mark = 67 ∷ 79 ∷ 66 ∷ 73 ∷ 77 ∷ 71 ∷ 48 ∷ 49 ∷ []
 
--- Instructions on data have the first bytes 6 to 16.
+-- Instructions on data have first bytes from 16 on.
 abbrev pub instruction_bytes : Instruction → List ℕ
 instruction_bytes (Tick line) = 1 ∷ short_bytes line
 instruction_bytes Show = 2 ∷ []
 instruction_bytes Stop = 3 ∷ []
 instruction_bytes (Count counter turns) = 4 ∷ (count_bytes counter.number ++ count_bytes turns)
 instruction_bytes (Turn counter to) = 5 ∷ (count_bytes counter.number ++ count_bytes to)
+instruction_bytes Accept = 6 ∷ []
+instruction_bytes Date = 7 ∷ []
+instruction_bytes (Branch to) = 8 ∷ count_bytes to
+instruction_bytes (Jump to) = 9 ∷ count_bytes to
+instruction_bytes Join = 10 ∷ []
 instruction_bytes (Data one) = data_instruction_bytes one
 
 -- The mark; the tables of data; the starts of code paragraphs; the instructions.
@@ -30,6 +35,11 @@ HasNumbers Show = Unit {0}
 HasNumbers Stop = Unit {0}
 HasNumbers (Count counter turns) = IsCount counter.number × IsCount turns
 HasNumbers (Turn counter to) = IsCount counter.number × IsCount to
+HasNumbers Accept = Unit {0}
+HasNumbers Date = Unit {0}
+HasNumbers (Branch to) = IsCount to
+HasNumbers (Jump to) = IsCount to
+HasNumbers Join = Unit {0}
 HasNumbers (Data one) = HasShorts one
 
 -- Each number of the code fits its bytes. This is so of each `Code` that a program holds.

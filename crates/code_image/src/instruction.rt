@@ -6,7 +6,7 @@ ghost use Rattle.image_tables.specs.Faults.{fault_of};
 ghost use Rattle.image_tables.specs.Spelling.{count_bytes, short_bytes, IsCount, IsShort};
 ghost use Rattle.code_image.specs.Demands.{NamesData, NamesCounter};
 ghost use Rattle.code_image.specs.Spelling.{instruction_bytes, HasNumbers};
-ghost use Rattle.code_image.specs.Reading.{tick_at, count_instruction_at, turn_at, instruction_at};
+ghost use Rattle.code_image.specs.Reading.{tick_at, count_instruction_at, turn_at, branch_at, jump_at, instruction_at};
 
 use crate::counter::CounterIndex;
 use data_instructions::{DataInstruction, DataTables};
@@ -29,6 +29,16 @@ pub enum Instruction {
     Count { counter: CounterIndex, turns: u64 },
     /// Where a counter is above 0, lowers it by one and goes to the address; else goes on.
     Turn { counter: CounterIndex, to: usize },
+    /// Takes a place, and stores the console's next line there, cut or padded with spaces; past the end of input, spaces.
+    Accept,
+    /// Takes a place, and moves the day there.
+    Date,
+    /// Where the truth is false, goes to the address behind a `join` that comes later; else goes on.
+    Branch { to: usize },
+    /// Goes to the address behind a `join` that comes later.
+    Jump { to: usize },
+    /// Does nothing: ways meet behind it.
+    Join,
     /// Works on data. A fault ends the run.
     Data(DataInstruction),
 }
@@ -44,7 +54,12 @@ impl Instruction {
             | Instruction::Show
             | Instruction::Stop
             | Instruction::Count { .. }
-            | Instruction::Turn { .. } => true,
+            | Instruction::Turn { .. }
+            | Instruction::Accept
+            | Instruction::Date
+            | Instruction::Branch { .. }
+            | Instruction::Jump { .. }
+            | Instruction::Join => true,
         }
     }
 
@@ -59,6 +74,11 @@ impl Instruction {
             Instruction::Tick { .. }
             | Instruction::Show
             | Instruction::Stop
+            | Instruction::Accept
+            | Instruction::Date
+            | Instruction::Branch { .. }
+            | Instruction::Jump { .. }
+            | Instruction::Join
             | Instruction::Data(_) => true,
         }
     }
@@ -74,6 +94,16 @@ const STOP: u8 = 3;
 const COUNT: u8 = 4;
 
 const TURN: u8 = 5;
+
+const ACCEPT: u8 = 6;
+
+const DATE: u8 = 7;
+
+const BRANCH: u8 = 8;
+
+const JUMP: u8 = 9;
+
+const JOIN: u8 = 10;
 
 fn put_tick(out: &mut Vec<u8>, line: u32) -> Result<(), AllocError>
     ensures bytes { OnOk result (out.new.items ≡ out.old.items ++ (1 ∷ short_bytes line)) }
@@ -96,6 +126,15 @@ fn put_counting(
     out.push(first)?;
     put_count(out, counter.number)?;
     put_count(out, number)
+}
+
+/// An instruction that names an address.
+fn put_leading(out: &mut Vec<u8>, first: u8, to: usize) -> Result<(), AllocError>
+    ensures bytes { OnOk result (out.new.items ≡ out.old.items ++ (first ∷ count_bytes to)) }
+    ensures fits { IsCount to }
+{
+    out.push(first)?;
+    put_count(out, to)
 }
 
 fn read_tick(bytes: &[u8]) -> Result<(Instruction, &[u8]), ImageError>
@@ -124,6 +163,20 @@ fn read_turn(bytes: &[u8]) -> Result<(Instruction, &[u8]), ImageError>
     Ok((Instruction::Turn { counter, to }, rest))
 }
 
+fn read_branch(bytes: &[u8]) -> Result<(Instruction, &[u8]), ImageError>
+    ensures { Gives (λ x. (x.0, x.1.now)) fault_of result (branch_at bytes.now) }
+{
+    let (to, rest) = read_count(bytes)?;
+    Ok((Instruction::Branch { to }, rest))
+}
+
+fn read_jump(bytes: &[u8]) -> Result<(Instruction, &[u8]), ImageError>
+    ensures { Gives (λ x. (x.0, x.1.now)) fault_of result (jump_at bytes.now) }
+{
+    let (to, rest) = read_count(bytes)?;
+    Ok((Instruction::Jump { to }, rest))
+}
+
 impl TableEntry for Instruction {
     ghost spelled = { instruction_bytes };
 
@@ -140,6 +193,11 @@ impl TableEntry for Instruction {
                 put_counting(out, COUNT, counter, turns as usize)
             }
             Instruction::Turn { counter, to } => put_counting(out, TURN, counter, to),
+            Instruction::Accept => Ok(out.push(ACCEPT)?),
+            Instruction::Date => Ok(out.push(DATE)?),
+            Instruction::Branch { to } => put_leading(out, BRANCH, to),
+            Instruction::Jump { to } => put_leading(out, JUMP, to),
+            Instruction::Join => Ok(out.push(JOIN)?),
             Instruction::Data(one) => one.put(out),
         }
     }
@@ -153,6 +211,11 @@ impl TableEntry for Instruction {
             [STOP, rest @ ..] => Ok((Instruction::Stop, rest)),
             [COUNT, rest @ ..] => read_count_instruction(rest),
             [TURN, rest @ ..] => read_turn(rest),
+            [ACCEPT, rest @ ..] => Ok((Instruction::Accept, rest)),
+            [DATE, rest @ ..] => Ok((Instruction::Date, rest)),
+            [BRANCH, rest @ ..] => read_branch(rest),
+            [JUMP, rest @ ..] => read_jump(rest),
+            [JOIN, rest @ ..] => Ok((Instruction::Join, rest)),
             [_, ..] => {
                 let (one, rest) = DataInstruction::read(alloc, bytes)?;
                 Ok((Instruction::Data(one), rest))

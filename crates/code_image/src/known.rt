@@ -6,7 +6,7 @@ ghost use Rattle.code_image.specs.Known.{FindsOperands};
 
 use crate::code::Code;
 use crate::instruction::Instruction;
-use data_instructions::{DataTables, Shape, effect, showing};
+use data_instructions::{DataTables, Shape, accepting, dating, effect, showing};
 use std::alloc::{AllocError, Global};
 
 /// What is known where a statement begins, if nothing is on the stacks or in the line.
@@ -31,10 +31,16 @@ impl Instruction {
         ensures { IfOk result (λ after. after ≡ spec.known_after tables.now self shape) }
     {
         match self {
-            Instruction::Tick { .. } | Instruction::Turn { .. } => Ok(at_rest(alloc, &shape)),
+            Instruction::Tick { .. }
+            | Instruction::Turn { .. }
+            | Instruction::Branch { .. }
+            | Instruction::Jump { .. }
+            | Instruction::Join => Ok(at_rest(alloc, &shape)),
             Instruction::Show => Ok(Some(showing(shape))),
             Instruction::Stop => Ok(Some(Shape::empty(alloc))),
             Instruction::Count { .. } => Ok(Some(shape)),
+            Instruction::Accept => Ok(accepting(shape)),
+            Instruction::Date => Ok(dating(tables, shape)),
             Instruction::Data(one) => effect(tables, one, shape),
         }
     }

@@ -2,7 +2,7 @@
 
 ghost use Rattle.std.specs.Prelude.{◌≡◌, ◌-◌, ◌↔◌, IsTrue, All, length, slice_get, Some, IfOk, IfErr};
 ghost use Rattle.code_image.specs.declared.instruction.Instruction.TheVariants.{Stop};
-ghost use Rattle.code_image.specs.Demands.{IsVerified, IsWithin, HasShape, Blames, NamesData, NamesCounter, IsAddress, IsTick, LeadsBack, LeadBackToTicks};
+ghost use Rattle.code_image.specs.Demands.{IsVerified, IsWithin, HasShape, Blames, NamesData, NamesCounter, IsAddress, IsTick, IsJoin, LeadsOn, Leads, AllLead};
 ghost use Rattle.image_tables.specs.Faults.{fault_of};
 
 use crate::code::Code;
@@ -78,21 +78,37 @@ fn is_tick(instructions: &[Instruction], address: usize) -> bool
     matches!(instructions.get(address), Some(Instruction::Tick { .. }))
 }
 
-// What stands at an address leads back only to a tick before it.
-fn leads_back(instructions: &[Instruction], address: usize) -> bool
-    ensures { IsTrue result ↔ LeadsBack instructions.now address (slice_get instructions.now address) }
+fn is_join(instructions: &[Instruction], address: usize) -> bool
+    ensures { IsTrue result ↔ IsJoin (slice_get instructions.now address) }
+{
+    matches!(instructions.get(address), Some(Instruction::Join))
+}
+
+/// A way on leads to the address behind a join that comes later.
+fn leads_on(instructions: &[Instruction], address: usize, to: usize) -> bool
+    ensures { IsTrue result ↔ LeadsOn instructions.now address to }
+{
+    address < to && is_join(instructions, to - 1)
+}
+
+/// What stands at an address leads where it may.
+fn leads(instructions: &[Instruction], address: usize) -> bool
+    ensures { IsTrue result ↔ Leads instructions.now address (slice_get instructions.now address) }
 {
     match instructions.get(address) {
         Some(Instruction::Turn { to, .. }) => *to < address && is_tick(instructions, *to),
+        Some(Instruction::Branch { to } | Instruction::Jump { to }) => {
+            leads_on(instructions, address, *to)
+        }
         _ => true,
     }
 }
 
-fn lead_back_to_ticks(instructions: &[Instruction]) -> bool
-    ensures { IsTrue result ↔ LeadBackToTicks instructions.now }
+fn all_lead(instructions: &[Instruction]) -> bool
+    ensures { IsTrue result ↔ AllLead instructions.now }
 {
     for address in 0..instructions.len() {
-        if !leads_back(instructions, address) {
+        if !leads(instructions, address) {
             return false;
         }
     }
@@ -115,20 +131,21 @@ fn is_within(code: &Code) -> bool
         && are_addresses(code.starts.as_slice(), instructions.len())
 }
 
-/// Each way back leads to a `tick` before it, `stop` comes last, and each instruction finds what it needs.
+/// Each way back leads to a `tick` before it, each way on to what comes behind a `join`, `stop` comes last, and each instruction
+/// finds what it needs.
 fn has_shape(alloc: Global, code: &Code) -> Result<bool, AllocError>
     ensures { IfOk result (λ has. IsTrue has ↔ HasShape code.now) }
 {
     let instructions = code.instructions.as_slice();
-    if !lead_back_to_ticks(instructions) || !stops_last(instructions) {
+    if !all_lead(instructions) || !stops_last(instructions) {
         return Ok(false);
     }
     find_operands(alloc, code)
 }
 
 /// Tests that a machine can run the code: its tables are in order, else 72; each entry that it names, each counter and each
-/// start of a paragraph is an index in its table, else 73; each way back leads to a `tick` before it, `stop` comes last, and
-/// each instruction finds what it needs on the stacks, else 74.
+/// start of a paragraph is an index in its table, else 73; each way back leads to a `tick` before it, each way on behind a
+/// `join` that comes later, `stop` comes last, and each instruction finds what it needs on the stacks, else 74.
 pub fn verify(alloc: Global, code: Code) -> Result<Verified, ImageError>
     ensures value { IfOk result (λ verified. verified ≡ code) }
     ensures verified { IfOk result (λ _. IsVerified code) }

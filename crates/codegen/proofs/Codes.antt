@@ -1,12 +1,8 @@
--- The code of references, MOVE and DISPLAY is what the laws of instructions on data speak of, where the rules are kept.
-use Rattle.std.proofs.Common.{◌≡◌, ℕ, zero, suc, ◌+◌, ◌<◌, ◌≤◌, ◌^◌, pos, Bool, true, false, List, [], ◌∷◌, ◌++◌, length, map, Option, Some, None, refl, sym, ap, subst, ◌∙◌, arith, append_assoc}
-use Rattle.std.specs.Prelude.{slice_get, not, ◌==◌, ◌&&◌, nat_le}
-use Rattle.std.specs.Char.{is_ascii_digit}
-use Rattle.std.specs.List.{list_all}
+-- The code of references, MOVE, DISPLAY and ACCEPT is what the laws of instructions on data speak of, where the rules are kept.
+use Rattle.std.proofs.Common.{◌≡◌, ℕ, Bool, true, false, List, [], ◌∷◌, ◌++◌, length, map, Some, refl, sym, ap, subst, ◌∙◌, arith, append_assoc}
+use Rattle.std.specs.Prelude.{slice_get, not, ◌==◌}
 use Rattle.std.proofs.lemmas.Bool.Decides.{nat_tests}
-use Rattle.std.proofs.Math.Nat.{pow-le-pow_right}
 use Rattle.lexical.specs.declared.place.Place.{Place}
-use Rattle.source_tree.specs.declared.literal.Integer.{Integer}
 use Rattle.source_tree.specs.declared.reference.QualifiedName.{QualifiedName}
 use Rattle.source_tree.specs.declared.reference.Adjustment.{Adjustment}
 use Rattle.source_tree.specs.declared.reference.Adjustment.TheVariants as adjustment
@@ -21,23 +17,23 @@ use Rattle.source_tree.specs.Display.{shown_literal, line_end}
 use Rattle.source_tree.specs.Integers.{number_of}
 use Rattle.source_tree.specs.LookUp.{items_named, first}
 use Rattle.source_tree.specs.MoveRules.{sent_by, receives, move_rules}
-use Rattle.source_tree.specs.NameRules.{is_integer, integer_rules, named, is_integer_kind, subscript_item, subscript_rules, adjustment_rules, item_rules, any_item, operand_rules}
+use Rattle.source_tree.specs.NameRules.{named, is_integer_kind, subscript_item, subscript_rules, adjustment_rules, item_rules, any_item, operand_rules}
 use Rattle.source_tree.specs.Places.{Placed}
-use Rattle.source_tree.specs.ValueRules.{most_literal_digits}
-use Rattle.source_tree.specs.TextRules.{shown_rules, display_rules}
-use Rattle.data_instructions.specs.declared.index.ItemIndex.{ItemIndex}
+use Rattle.source_tree.specs.TextRules.{shown_rules, display_rules, accept_line_rules, accept_date_rules}
+use Rattle.source_tree.specs.Accepting.{date_sender}
+use Rattle.data_instructions.specs.declared.calculation.Calculation.TheVariants as calculation
 use Rattle.data_instructions.specs.declared.instruction.DataInstruction.{DataInstruction}
 use Rattle.data_instructions.specs.declared.instruction.DataInstruction.TheVariants as i
-use Rattle.data_instructions.specs.Codes.{data_item, index_code, HasInteger, HasItem, IsAdjustmentCode, IsSubscriptCode, AreSubscriptsCode, IsReferenceCode, IsTakingCode, IsSenderCode, AreReceiversCode, IsMoveCode, IsTextCode, IsOperandCode, AreOperandsCode, IsLineEndCode, IsDisplayCode}
+use Rattle.data_instructions.specs.Codes.{data_item, index_code, HasItem, IsAdjustmentCode, IsSubscriptCode, AreSubscriptsCode, IsReferenceCode, IsTakingCode, IsSenderCode, AreReceiversCode, IsMoveCode, IsTextCode, IsOperandCode, AreOperandsCode, IsLineEndCode, IsDisplayCode}
 use Rattle.names.specs.declared.look_up.LookUp.{LookUp}
 use Rattle.names.specs.declared.look_up.LookUp.TheVariants.{Unknown, One, Several}
 use Rattle.names.specs.Items.{called_item, IsNamed}
 use Rattle.names.specs.Positions.{look_up}
 use Rattle.names.proofs.Picked.{named_items}
 use Rattle.code_image.specs.declared.code.Code.{Code}
-use Rattle.code_image.specs.declared.instruction.Instruction.TheVariants.{Data}
-use Rattle.codegen.specs.Pieces.{Piece, nothing, joined, both, in_order}
-use Rattle.codegen.specs.DataCode.{number_found, item_number, item_index, dimensions_of, work_piece, integer_piece, adjustment_piece, text_piece, literal_piece, line_end_piece, subscript_piece, subscripts_piece, reference_piece, taking_piece, sender_piece, receivers_piece, move_piece, operand_piece, operands_piece}
+use Rattle.code_image.specs.declared.instruction.Instruction.TheVariants.{Data, Accept, Date}
+use Rattle.codegen.specs.Pieces.{joined, both, plain}
+use Rattle.codegen.specs.DataCode.{number_found, item_number, item_index, dimensions_of, work_piece, integer_piece, adjustment_piece, text_piece, literal_piece, line_end_piece, subscript_piece, subscripts_piece, reference_piece, taking_piece, sender_piece, receivers_piece, move_piece, operand_piece, operands_piece, accept_piece, date_piece}
 use Rattle.codegen.proofs.Integers.{kept, not_false, small_integer}
 use Rattle.codegen.proofs.Standing.{Stands, front, back, number_stands, sender_stands, text_stands}
 
@@ -76,7 +72,7 @@ item_there items name one e = found_one items name one (look_up name (map called
 
 -- ---- code that stands in the whole
 
-map_both : {A B : Type 0} (f : A → B) (xs ys : List A) → map f (xs ++ ys) ≡ map f xs ++ map f ys
+pub map_both : {A B : Type 0} (f : A → B) (xs ys : List A) → map f (xs ++ ys) ≡ map f xs ++ map f ys
 map_both f [] ys = refl
 map_both f (x ∷ xs) ys = ap (λ l. f x ∷ l) (map_both f xs ys)
 
@@ -98,16 +94,16 @@ module _ (items : List Placed) (whole : Code) (entries : (n : ℕ) (one : Placed
   adjustment_coded (adjustment.Plus n) before e st =
       let a = integer_piece (number_of n) before in
       record {
-        code = i.Literal (record { number = length before.tables.numbers }) ∷ i.Add ∷ [];
+        code = i.Literal (record { number = length before.tables.numbers }) ∷ i.Calculate calculation.Add ∷ [];
         is = refl;
-        holds = (_, record { entry = number_stands whole before a _ [] refl (front whole before a (work_piece i.Add (joined before a)) st); small = small_integer n e }, refl);
+        holds = (_, record { entry = number_stands whole before a _ [] refl (front whole before a (work_piece (i.Calculate calculation.Add) (joined before a)) st); small = small_integer n e }, refl);
       }
   adjustment_coded (adjustment.Minus n) before e st =
       let a = integer_piece (number_of n) before in
       record {
-        code = i.Literal (record { number = length before.tables.numbers }) ∷ i.Subtract ∷ [];
+        code = i.Literal (record { number = length before.tables.numbers }) ∷ i.Calculate calculation.Subtract ∷ [];
         is = refl;
-        holds = (_, record { entry = number_stands whole before a _ [] refl (front whole before a (work_piece i.Subtract (joined before a)) st); small = small_integer n e }, refl);
+        holds = (_, record { entry = number_stands whole before a _ [] refl (front whole before a (work_piece (i.Calculate calculation.Subtract) (joined before a)) st); small = small_integer n e }, refl);
       }
 
   -- the item of a subscript is an integer
@@ -299,3 +295,14 @@ module _ (items : List Placed) (whole : Code) (entries : (n : ℕ) (one : Placed
       both_coded (AreOperandsCode items whole.tables operands) (IsLineEndCode items whole.tables advancing) (IsDisplayCode items whole.tables operands advancing) a b
       (operands_coded operands before e (front whole before a b st)) (line_end_coded advancing (joined before a) (back whole before a b st))
       (λ first last is others. (first, is, last, others, refl))
+
+  -- ---- ACCEPT
+
+  pub accept_coded : (receiver : Reference) (before : Code) → accept_line_rules items receiver ≡ [] → Stands whole before (accept_piece items receiver before)
+      → Coded (IsReferenceCode items whole.tables receiver) (reference_piece items receiver before)
+  accept_coded receiver before e st = reference_coded any_item receiver before e (front whole before (reference_piece items receiver before) (plain (Accept ∷ [])) st)
+
+  pub date_coded : (receiver : Reference) (before : Code) → accept_date_rules items receiver ≡ [] → Stands whole before (date_piece items receiver before)
+      → Coded (IsReferenceCode items whole.tables receiver) (reference_piece items receiver before)
+  date_coded receiver before e st =
+      reference_coded (receives (Some (date_sender []).taken)) receiver before e (front whole before (reference_piece items receiver before) (plain (Date ∷ [])) st)

@@ -1,16 +1,12 @@
 -- The code of a program finds what it needs, where the rules are kept: each statement begins and ends at rest.
-use Rattle.std.proofs.Common.{◌≡◌, ℕ, zero, suc, List, [], ◌∷◌, ◌++◌, length, map, Option, Some, None, true, false, Bool, refl, sym, ap, subst, ◌∙◌}
-use Rattle.std.specs.Prelude.{slice_get, not}
-use Rattle.lexical.specs.declared.place.Place.{Place}
+use Rattle.std.proofs.Common.{◌≡◌, ℕ, zero, suc, List, [], ◌∷◌, ◌++◌, length, map, Option, Some, None, Bool, refl, sym, ap, subst, ◌∙◌}
+use Rattle.std.specs.Prelude.{slice_get}
 use Rattle.items.specs.declared.taken.Taken.{Taken}
-use Rattle.items.specs.declared.taken.Taken.TheVariants as t
-use Rattle.source_tree.specs.declared.reference.Reference.{Reference}
-use Rattle.source_tree.specs.declared.expression.Operand.{Operand}
-use Rattle.source_tree.specs.declared.expression.Operand.TheVariants as operand
 use Rattle.source_tree.specs.declared.moving.Moving.{Moving}
 use Rattle.source_tree.specs.declared.moving.Moving.TheVariants.{Move}
 use Rattle.source_tree.specs.declared.text.Text.{Text}
-use Rattle.source_tree.specs.declared.text.Text.TheVariants.{Display}
+use Rattle.source_tree.specs.declared.text.Text.TheVariants.{Display, Accept, AcceptDate}
+use Rattle.source_tree.specs.declared.arithmetic.Operation.{Operation}
 use Rattle.source_tree.specs.declared.ending.Ending.TheVariants as ending
 use Rattle.source_tree.specs.declared.performing.Performed.{Performed}
 use Rattle.source_tree.specs.declared.performing.Performed.TheVariants.{Statements}
@@ -21,36 +17,42 @@ use Rattle.source_tree.specs.declared.statement.Verb.TheVariants as verb
 use Rattle.source_tree.specs.declared.statement.Statement.{Statement, roll-Statement}
 use Rattle.source_tree.specs.declared.statement.Statement.TheOpen.{Statement-F}
 use Rattle.source_tree.specs.declared.statement.Statement.TheFolds.{map-Statement, ind-Statement}
-use Rattle.source_tree.specs.declared.program.Paragraph.{Paragraph}
 use Rattle.source_tree.specs.declared.program.Section.{Section}
-use Rattle.source_tree.specs.Broken.{Broken, where_so, each}
-use Rattle.source_tree.specs.Literals.{literal_sender}
-use Rattle.source_tree.specs.LookUp.{items_named, first}
-use Rattle.source_tree.specs.MoveRules.{may_move, only_item, sent_by, receives, move_rules}
+use Rattle.source_tree.specs.Accepting.{date_sender}
+use Rattle.source_tree.specs.Arithmetic.{is_there}
+use Rattle.source_tree.specs.ArithmeticRules.{operation_rules}
+use Rattle.source_tree.specs.Broken.{Broken, each}
+use Rattle.source_tree.specs.MoveRules.{sent_by, receives}
 use Rattle.source_tree.specs.NameRules.{item_rules, any_item, operand_rules}
 use Rattle.source_tree.specs.Performing.{turns_of}
 use Rattle.source_tree.specs.Places.{Placed}
-use Rattle.source_tree.specs.Rules.{moving_rules, text_rules, performed_rules, verb_rules, statement_rules, sentence_rules, paragraph_rules, section_rules}
-use Rattle.source_tree.specs.TextRules.{shown_rules, display_rules}
+use Rattle.source_tree.specs.Rules.{moving_rules, text_rules, phrase_rules, phrases_rules, performed_rules, verb_rules, statement_rules, sentence_rules, paragraph_rules, section_rules}
 use Rattle.data_instructions.specs.declared.tables.DataTables.{DataTables}
 use Rattle.data_instructions.specs.declared.shape.Shape.{Shape}
 use Rattle.data_instructions.specs.declared.instruction.DataInstruction.{DataInstruction}
+use Rattle.data_instructions.specs.Tables.{IsTables}
 use Rattle.data_instructions.specs.Codes.{data_item}
-use Rattle.data_instructions.specs.Shapes.{empty, and_then, effect, showing}
-use Rattle.data_instructions.specs.Chains.{effects, LiesWhole, LiesAll, ShowsAll, SendsAs, MayReceive, MayReceiveEach}
-use Rattle.data_instructions.proofs.Chains.{move_known, display_known}
+use Rattle.data_instructions.specs.Shapes.{empty, and_then, effect}
+use Rattle.data_instructions.specs.Chains.{effects, LiesWhole}
+use Rattle.data_instructions.proofs.Chains.{move_known, display_known, accept_known, date_known}
+use Rattle.data_instructions.proofs.ArithmeticChains.{arithmetic_known}
 use Rattle.code_image.specs.declared.code.Code.{Code}
 use Rattle.code_image.specs.declared.instruction.Instruction.{Instruction}
-use Rattle.code_image.specs.declared.instruction.Instruction.TheVariants.{Tick, Show, Stop, Count, Turn, Data}
+use Rattle.code_image.specs.declared.instruction.Instruction.TheVariants as instruction
 use Rattle.code_image.specs.Known.{known_after, known_along}
-use Rattle.codegen.specs.Pieces.{Piece, nothing, joined, both, in_order}
-use Rattle.codegen.specs.DataCode.{item_number, move_piece, operands_piece, line_end_piece, show_piece, display_piece}
-use Rattle.codegen.specs.Layout.{tick_piece, loop_begin, loop_end, times_piece, moving_piece, texts_piece, performed_piece, turns_piece, verb_piece, statement_piece, sentence_piece, start_piece, paragraph_piece, section_piece}
-use Rattle.codegen.proofs.Codes.{left_none, right_none, item_there, Keeps, keeps, Coded, move_coded, display_coded}
-use Rattle.codegen.proofs.Integers.{kept, not_false}
+use Rattle.codegen.specs.Pieces.{Piece, nothing, joined, both, in_order, plain}
+use Rattle.codegen.specs.DataCode.{reference_piece, operands_piece, line_end_piece, show_piece}
+use Rattle.codegen.specs.ArithmeticCode.{arithmetic_piece}
+use Rattle.codegen.specs.Layout.{tick_piece, loop_begin, loop_end, times_piece, turns_piece, moving_piece, texts_piece, branch_code, jump_code, join_code, either_piece, performed_piece, phrase_piece, phrases_from, phrases_piece, verb_piece, statement_piece, sentence_piece, start_piece, paragraph_piece, section_piece}
+use Rattle.codegen.proofs.Codes.{left_none, right_none, move_coded, display_coded, accept_coded, date_coded}
+use Rattle.codegen.proofs.ArithmeticCodes.{arithmetic_coded}
+use Rattle.codegen.proofs.Lying.{lies_all, shows_all, sends, receives_one, receive_each, lies_operation}
 use Rattle.codegen.proofs.Layers.{verb_map, rolled_is}
 use Rattle.codegen.proofs.RuleLayers.{mapped_rules}
 use Rattle.codegen.proofs.Standing.{Stands, front, back}
+use Rattle.codegen.proofs.Blind.{Blind}
+use Rattle.codegen.proofs.BlindStatements.{phrase_blind, statement_blind}
+use Rattle.codegen.proofs.Either.{either_laid}
 
 -- nothing on the stacks and in the line; this was taken
 abbrev pub rest : Option Taken → Shape
@@ -68,9 +70,17 @@ bind_same : (o : Option Shape) (f g : Shape → Option Shape) → ((u : Shape) �
 bind_same None f g same = refl
 bind_same (Some u) f g same = same u
 
-along_data : (tables : DataTables) (code : List DataInstruction) (s : Shape) → known_along tables (map Data code) s ≡ effects tables code s
+along_data : (tables : DataTables) (code : List DataInstruction) (s : Shape) → known_along tables (map instruction.Data code) s ≡ effects tables code s
 along_data tables [] s = refl
-along_data tables (one ∷ more) s = bind_same (effect tables one s) (known_along tables (map Data more)) (effects tables more) (λ u. along_data tables more u)
+along_data tables (one ∷ more) s = bind_same (effect tables one s) (known_along tables (map instruction.Data more)) (effects tables more) (λ u. along_data tables more u)
+
+and_some : (o : Option Shape) → and_then o (λ s. Some s) ≡ o
+and_some None = refl
+and_some (Some s) = refl
+
+only_one : (tables : DataTables) (one : Instruction) (o : Option Shape) → and_then o (known_along tables (one ∷ [])) ≡ and_then o (known_after tables one)
+only_one tables one None = refl
+only_one tables one (Some s) = and_some (known_after tables one s)
 
 -- From rest to rest, whatever was taken before.
 pub record Flows (tables : DataTables) (part : Code) : Type 0 where
@@ -100,66 +110,24 @@ module _ (tables : DataTables) where
   end_flows : (begin : ℕ) → Flows tables (loop_end begin)
   end_flows begin = record { by = λ sender. (None, refl) }
 
+  branch_flows : (to : ℕ) → Flows tables (branch_code to)
+  branch_flows to = record { by = λ sender. (None, refl) }
+
+  jump_flows : (to : ℕ) → Flows tables (jump_code to)
+  jump_flows to = record { by = λ sender. (None, refl) }
+
+  join_flows : Flows tables join_code
+  join_flows = record { by = λ sender. (None, refl) }
+
 module _ (items : List Placed) (whole : Code) (entries : (n : ℕ) (one : Placed) → slice_get items n ≡ Some one → slice_get whole.tables.items n ≡ Some (data_item one))
-    (lie : (n : ℕ) (one : Placed) → slice_get items n ≡ Some one → LiesWhole whole.tables one) where
-  -- ---- references
-
-  the_only : (one : Reference) (found other : Placed) → items_named items one.item ≡ found ∷ [] → first (items_named items one.item) ≡ Some other → found ≡ other
-  the_only one found other named is = same (sym (ap first named) ∙ is)
-    where
-      same : Some found ≡ Some other → found ≡ other
-      same e = cc
-
-  lies_all : (asked : Place → Placed → List Broken) (one : Reference) → item_rules items asked one ≡ [] → LiesAll items whole.tables one
-  lies_all asked one e = λ found is.
-      let k = keeps items whole entries asked one e in
-      subst (LiesWhole whole.tables) (the_only one k.found found k.named is) (lie (item_number items one.item) k.found (item_there items one.item k.found k.named))
-
-  shows_all : (all : List Operand) → display_rules items all ≡ [] → ShowsAll items whole.tables all
-  shows_all [] e = tt
-  shows_all (operand.Item one ∷ more) e =
-      let one_rules = item_rules items any_item one in
-      (lies_all any_item one (left_none one_rules (each (shown_rules items) more) e), shows_all more (right_none one_rules (each (shown_rules items) more) e))
-  shows_all (operand.Literal one ∷ more) e = shows_all more (right_none (shown_rules items (operand.Literal one)) (each (shown_rules items) more) e)
-
-  -- what is sent, for a sender that keeps the rules
-  record Sends (sender : Operand) : Type 0 where
-    sent : Taken
-    is : sent_by items sender ≡ Some sent
-    sends_as : SendsAs items whole.tables sender sent
-
-  sends : (sender : Operand) → operand_rules items sender ≡ [] → Sends sender
-  sends (operand.Item one) e =
-      let k = keeps items whole entries any_item one e in
-      record {
-        sent = t.Item k.found.item;
-        is = ap only_item k.named;
-        sends_as = (lies_all any_item one e, λ found is. ap (λ (p : Placed). t.Item p.item) (sym (the_only one k.found found k.named is)));
-      }
-  sends (operand.Literal one) e = record { sent = (literal_sender one.value).taken; is = refl; sends_as = refl }
-
-  receives_one : (sent : Taken) (one : Reference) → item_rules items (receives (Some sent)) one ≡ [] → MayReceive items whole.tables sent one
-  receives_one sent one e =
-      let k = keeps items whole entries (receives (Some sent)) one e in (
-        lies_all (receives (Some sent)) one e,
-        λ found is.
-            subst (λ (p : Placed). may_move sent p.item ≡ true) (the_only one k.found found k.named is)
-            (not_false (may_move sent k.found.item) (kept (not (may_move sent k.found.item)) 49 one.item.name.place k.asks)),
-      )
-
-  receive_each : (sent : Taken) (all : List Reference) → each (item_rules items (receives (Some sent))) all ≡ [] → MayReceiveEach items whole.tables sent all
-  receive_each sent [] e = tt
-  receive_each sent (one ∷ more) e =
-      let one_rules = item_rules items (receives (Some sent)) one in
-      (receives_one sent one (left_none one_rules (each (item_rules items (receives (Some sent))) more) e), receive_each sent more (right_none one_rules (each (item_rules items (receives (Some sent))) more) e))
-
-  -- ---- MOVE and DISPLAY
+    (order : IsTables whole.tables) (lie : (n : ℕ) (one : Placed) → slice_get items n ≡ Some one → LiesWhole whole.tables one) where
+  -- ---- statements on data
 
   moving_flows : (one : Moving) (before : Code) → moving_rules items one ≡ [] → Stands whole before (moving_piece items one before) → Flows whole.tables (moving_piece items one before)
   moving_flows (Move sender receivers) before e st =
-      let s = sends sender (left_none (operand_rules items sender) (each (item_rules items (receives (sent_by items sender))) receivers) e) in
+      let s = sends items whole entries lie sender (left_none (operand_rules items sender) (each (item_rules items (receives (sent_by items sender))) receivers) e) in
       let asks = right_none (operand_rules items sender) (each (item_rules items (receives (sent_by items sender))) receivers) e in
-      let may = receive_each s.sent receivers (subst (λ o. each (item_rules items (receives o)) receivers ≡ []) s.is asks) in
+      let may = receive_each items whole entries lie s.sent receivers (subst (λ o. each (item_rules items (receives o)) receivers ≡ []) s.is asks) in
       let coded = move_coded items whole entries sender receivers before e st in
       let known = move_known items whole.tables sender receivers coded.code coded.holds s.sent s.sends_as may in
       record {
@@ -169,20 +137,48 @@ module _ (items : List Placed) (whole : Code) (entries : (n : ℕ) (one : Placed
         );
       }
 
+  -- a reference's code, and an instruction behind it that takes its place
+  placed_flows : (one : Instruction) (part : Code) (code : List DataInstruction) → part.instructions ≡ map instruction.Data code
+      → ((sender : Option Taken) → and_then (effects whole.tables code (rest sender)) (known_after whole.tables one) ≡ Some (rest sender)) → Flows whole.tables (joined part (plain (one ∷ [])))
+  placed_flows one part code is known = record {
+    by = λ sender. (
+      sender,
+      along_append whole.tables part.instructions (one ∷ []) (rest sender)
+          ∙ ap (λ o. and_then o (known_along whole.tables (one ∷ []))) (ap (λ l. known_along whole.tables l (rest sender)) is ∙ along_data whole.tables code (rest sender))
+          ∙ only_one whole.tables one (effects whole.tables code (rest sender))
+          ∙ known sender,
+    );
+  }
+
   texts_flow : (one : Text) (before : Code) → text_rules items one ≡ [] → Stands whole before (texts_piece items one before) → Flows whole.tables (texts_piece items one before)
   texts_flow (Display operands advancing) before e st =
       let part = both (operands_piece items operands) (line_end_piece advancing) before in
       let last = show_piece (joined before part) in
       let coded = display_coded items whole entries operands advancing before e (front whole before part last st) in
-      let known = display_known items whole.tables operands advancing coded.code coded.holds (shows_all operands e) in
+      let known = display_known items whole.tables operands advancing coded.code coded.holds (shows_all items whole entries lie operands e) in
       record {
         by = λ sender. (
           sender,
           along_append whole.tables part.instructions last.instructions (rest sender)
-              ∙ ap (λ o. and_then o (known_along whole.tables (Show ∷ [])))
+              ∙ ap (λ o. and_then o (known_along whole.tables (instruction.Show ∷ [])))
               (ap (λ l. known_along whole.tables l (rest sender)) coded.is ∙ along_data whole.tables coded.code (rest sender) ∙ (known (rest sender)).1),
         );
       }
+  texts_flow (Accept receiver) before e st =
+      let coded = accept_coded items whole entries receiver before e st in
+      let known = accept_known items whole.tables receiver coded.code coded.holds (lies_all items whole entries lie any_item receiver e) in
+      placed_flows instruction.Accept (reference_piece items receiver before) coded.code coded.is (λ sender. known (rest sender))
+  texts_flow (AcceptDate receiver) before e st =
+      let coded = date_coded items whole entries receiver before e st in
+      let known = date_known items whole.tables receiver coded.code coded.holds (receives_one items whole entries lie (date_sender []).taken receiver e) in
+      placed_flows instruction.Date (reference_piece items receiver before) coded.code coded.is (λ sender. known (rest sender))
+
+  arithmetic_flows : (keep : Bool) (one : Operation) (before : Code) → operation_rules items one ≡ [] → Stands whole before (arithmetic_piece items keep one before)
+      → Flows whole.tables (arithmetic_piece items keep one before)
+  arithmetic_flows keep one before e st =
+      let coded = arithmetic_coded items whole entries order lie keep one before e st in
+      let known = arithmetic_known items whole.tables keep one coded.code coded.holds (lies_operation items whole entries lie one e) in
+      record { by = λ sender. (sender, ap (λ l. known_along whole.tables l (rest sender)) coded.is ∙ along_data whole.tables coded.code (rest sender) ∙ known (rest sender)) }
 
   -- ---- statements
 
@@ -203,6 +199,26 @@ module _ (items : List Placed) (whole : Code) (entries : (n : ℕ) (one : Placed
   record BodyFlows (piece : Piece) : Type 0 where
     by : (before : Code) → Stands whole before (piece before) → Flows whole.tables (piece before)
 
+  either_flows : (first second : Piece) → Blind first → Blind second → BodyFlows first → BodyFlows second → (before : Code)
+      → Stands whole before (either_piece first second before) → Flows whole.tables (either_piece first second before)
+  either_flows first second f g one two before st =
+      let l = either_laid first second f g before in
+      let branch = branch_code l.other in
+      let inner = joined before branch in
+      let x = first inner in
+      let jump = jump_code l.end in
+      let outer = joined (joined inner x) jump in
+      let y = second outer in
+      let r3 = joined y join_code in
+      let r2 = joined jump r3 in
+      let here = back whole before branch (joined x r2) (subst (Stands whole before) l.is st) in
+      let there = back whole (joined inner x) jump r3 (back whole inner x r2 here) in
+      subst (Flows whole.tables) (sym l.is)
+      (both_flow whole.tables branch (joined x r2) (branch_flows whole.tables l.other)
+      (both_flow whole.tables x r2 (one.by inner (front whole inner x r2 here))
+      (both_flow whole.tables jump r3 (jump_flows whole.tables l.end)
+      (both_flow whole.tables y join_code (two.by outer (front whole outer y join_code there)) (join_flows whole.tables)))))
+
   times_flow : (line count : ℕ) (piece : Piece) → BodyFlows piece → (before : Code) → Stands whole before (times_piece line count piece before) → Flows whole.tables (times_piece line count piece before)
   times_flow line zero piece f before st = nothing_flows whole.tables
   times_flow line (suc more) piece f before st =
@@ -216,15 +232,43 @@ module _ (items : List Placed) (whole : Code) (entries : (n : ℕ) (one : Placed
   turns_flow line Once piece f before st = f.by before st
   turns_flow line (Times count) piece f before st = times_flow line (turns_of count) piece f before st
 
-  module _ {S : Type 0} (rules : S → List Broken) (inside : S → Piece) (f : AllFlow rules inside) where
+  module _ {S : Type 0} (rules : S → List Broken) (inside : S → Piece) (f : AllFlow rules inside) (blind : (one : S) → Blind (inside one)) where
     performed_flows : (one : Performed S) → performed_rules rules one ≡ [] → BodyFlows (performed_piece items inside one)
     performed_flows (Statements statements) e = record { by = λ before st. in_order_flows rules inside f statements before e st }
+
+    phrase_flows : (phrase : Option (List S)) → phrase_rules rules phrase ≡ [] → BodyFlows (phrase_piece items inside phrase)
+    phrase_flows None e = record { by = λ before st. nothing_flows whole.tables }
+    phrase_flows (Some statements) e = record { by = λ before st. in_order_flows rules inside f statements before e st }
+
+    phrases_flow : (arose did_not : Option (List S)) → phrase_rules rules arose ++ phrase_rules rules did_not ≡ [] → BodyFlows (phrases_from items inside arose did_not)
+    phrases_flow None None e = record { by = λ before st. nothing_flows whole.tables }
+    phrases_flow (Some statements) other e = record {
+      by = λ before st.
+          either_flows (phrase_piece items inside (Some statements)) (phrase_piece items inside other) (phrase_blind items inside blind (Some statements)) (phrase_blind items inside blind other)
+          (phrase_flows (Some statements) (left_none (each rules statements) (phrase_rules rules other) e)) (phrase_flows other (right_none (each rules statements) (phrase_rules rules other) e)) before st;
+    }
+    phrases_flow None (Some statements) e = record {
+      by = λ before st.
+          either_flows (phrase_piece items inside None) (phrase_piece items inside (Some statements)) (phrase_blind items inside blind None) (phrase_blind items inside blind (Some statements))
+          (phrase_flows None refl) (phrase_flows (Some statements) e) before st;
+    }
 
     verb_flows : (line : ℕ) (one : Verb S) (before : Code) → verb_rules items rules one ≡ [] → Stands whole before (verb_piece items inside line one before) → Flows whole.tables (verb_piece items inside line one before)
     verb_flows line (verb.Moving one) before e st =
         let a = tick_piece line before in
         let b = moving_piece items one (joined before a) in
         both_flow whole.tables a b (tick_flows whole.tables line before) (moving_flows one (joined before a) e (back whole before a b st))
+    verb_flows line (verb.Arithmetic one) before e st =
+        let a = tick_piece line before in
+        let keep = is_there one.phrases.arose in
+        let b = arithmetic_piece items keep one.operation (joined before a) in
+        let c = phrases_piece items inside one.phrases (joined (joined before a) b) in
+        let here = back whole before a (joined b c) st in
+        let operation_keeps = left_none (operation_rules items one.operation) (phrases_rules rules one.phrases) e in
+        let phrases_keep = right_none (operation_rules items one.operation) (phrases_rules rules one.phrases) e in
+        both_flow whole.tables a (joined b c) (tick_flows whole.tables line before)
+        (both_flow whole.tables b c (arithmetic_flows keep one.operation (joined before a) operation_keeps (front whole (joined before a) b c here))
+        ((phrases_flow one.phrases.arose one.phrases.did_not phrases_keep).by (joined (joined before a) b) (back whole (joined before a) b c here)))
     verb_flows line (verb.Performing one) before e st =
         let a = tick_piece line before in
         let b = turns_piece line one.turns (performed_piece items inside one.performed) (joined before a) in
@@ -248,7 +292,7 @@ module _ (items : List Placed) (whole : Code) (entries : (n : ℕ) (one : Placed
     by = λ before e st.
         let is = rolled_is items (map-Statement Flowing Statement (λ m. m.0) l) before ∙ verb_map items (λ m. m.0) (statement_piece items) l.place l.verb before in
         subst (Flows whole.tables) (sym is)
-        (verb_flows (λ (m : Flowing). statement_rules items m.0) (λ (m : Flowing). statement_piece items m.0) (record { by = λ m now keep here. m.1.by now keep here }) l.place.line l.verb before
+        (verb_flows (λ (m : Flowing). statement_rules items m.0) (λ (m : Flowing). statement_piece items m.0) (record { by = λ m now keep here. m.1.by now keep here }) (λ m. statement_blind items m.0) l.place.line l.verb before
         (sym (mapped_rules items (λ (m : Flowing). m.0) l) ∙ e) (subst (Stands whole before) is st));
   }
 

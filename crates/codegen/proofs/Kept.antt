@@ -6,6 +6,7 @@ use Rattle.std.specs.List.{list_all}
 use Rattle.lexical.specs.declared.place.Place.{Place}
 use Rattle.source_tree.specs.declared.literal.Integer.{Integer}
 use Rattle.source_tree.specs.declared.reference.Reference.{Reference}
+use Rattle.source_tree.specs.declared.arithmetic.Receiver.{Receiver}
 use Rattle.source_tree.specs.Broken.{Broken, where_so, each}
 use Rattle.source_tree.specs.NameRules.{is_integer, integer_rules, subscript_rules, item_rules}
 use Rattle.source_tree.specs.Places.{Placed}
@@ -18,7 +19,7 @@ pub back_kept : (xs ys : List Broken) → xs ++ ys ≡ [] → ys ≡ []
 back_kept [] ys e = e
 back_kept (x ∷ xs) ys e = cc
 
-both_kept : (xs ys : List Broken) → xs ≡ [] → ys ≡ [] → xs ++ ys ≡ []
+pub both_kept : (xs ys : List Broken) → xs ≡ [] → ys ≡ [] → xs ++ ys ≡ []
 both_kept [] ys e f = f
 both_kept (x ∷ xs) ys e f = cc
 
@@ -35,6 +36,15 @@ subscripts_kept items asked (one ∷ more) e =
     both_kept (each (subscript_rules items) one.subscripts) (each (λ (r : Reference). each (subscript_rules items) r.subscripts) more)
     (back_kept _ _ (front_kept (item_rules items asked one) (each (item_rules items asked) more) e))
     (subscripts_kept items asked more (back_kept (item_rules items asked one) (each (item_rules items asked) more) e))
+
+-- the subscripts of a reference whose item keeps its rules
+pub item_kept : (items : List Placed) (asked : Place → Placed → List Broken) (one : Reference) → item_rules items asked one ≡ [] → each (subscript_rules items) one.subscripts ≡ []
+item_kept items asked one e = back_kept _ _ e
+
+-- those of one of the receivers of an arithmetic statement
+pub receiver_kept : (items : List Placed) (asked : Place → Placed → List Broken) (all : List Receiver) (i : ℕ) (d : Receiver) → i < length all
+    → each (λ (one : Receiver). item_rules items asked one.item) all ≡ [] → each (subscript_rules items) (get_or all i d).item.subscripts ≡ []
+receiver_kept items asked all i d lt e = item_kept items asked (get_or all i d).item (one_kept (λ (one : Receiver). item_rules items asked one.item) all i d lt e)
 
 -- ---- integers
 

@@ -1,7 +1,8 @@
 -- The code of a statement, by that of the statements in it.
 use Rattle.std.proofs.Common.{◌≡◌, ℕ, zero, suc, List, [], ◌∷◌, refl, ap, ◌∙◌}
-use Rattle.std.specs.Prelude.{length, map}
+use Rattle.std.specs.Prelude.{Bool, true, false, length, map, Option, Some, None}
 use Rattle.lexical.specs.declared.place.Place.{Place}
+use Rattle.source_tree.specs.declared.arithmetic.Operation.{Operation}
 use Rattle.source_tree.specs.declared.performing.Performed.{Performed}
 use Rattle.source_tree.specs.declared.performing.Performed.TheVariants.{Statements}
 use Rattle.source_tree.specs.declared.performing.Turns.{Turns}
@@ -14,8 +15,10 @@ use Rattle.source_tree.specs.declared.statement.Statement.TheFolds.{map-Statemen
 use Rattle.code_image.specs.declared.code.Code.{Code}
 use Rattle.source_tree.specs.Performing.{turns_of}
 use Rattle.source_tree.specs.Places.{Placed}
-use Rattle.codegen.specs.Pieces.{Piece, joined, in_order}
-use Rattle.codegen.specs.Layout.{tick_piece, loop_begin, loop_end, times_piece, turns_piece, verb_piece, statement_layer, statement_piece}
+use Rattle.codegen.specs.Pieces.{Piece, joined, both, in_order}
+use Rattle.codegen.specs.ArithmeticCode.{arithmetic_piece}
+use Rattle.codegen.specs.Layout.{tick_piece, loop_begin, loop_end, times_piece, turns_piece, phrase_piece, phrases_from, verb_piece, statement_layer, statement_piece}
+use Rattle.codegen.proofs.Either.{either_map}
 
 -- turns of pieces that are the same
 module _ (line : ℕ) (body other : Piece) (same : (before : Code) → body before ≡ other before) where
@@ -41,9 +44,45 @@ module _ (items : List Placed) {A B : Type 0} (f : A → B) (g : B → Piece) wh
       ap (joined (tick_piece place.line before))
       (turns_map place.line (in_order g (map f inside)) (in_order (λ a. g (f a)) inside) (in_order_map inside) often (joined before (tick_piece place.line before)))
 
+  -- a phrase of others
+  abbrev mapped : Option (List A) → Option (List B)
+  mapped None = None
+  mapped (Some inside) = Some (map f inside)
+
+  phrase_map : (phrase : Option (List A)) (before : Code) → phrase_piece items g (mapped phrase) before ≡ phrase_piece items (λ a. g (f a)) phrase before
+  phrase_map None before = refl
+  phrase_map (Some inside) before = in_order_map inside before
+
+  phrases_map : (arose did_not : Option (List A)) (before : Code) → phrases_from items g (mapped arose) (mapped did_not) before ≡ phrases_from items (λ a. g (f a)) arose did_not before
+  phrases_map None None before = refl
+  phrases_map (Some inside) other before =
+      either_map (phrase_piece items g (Some (map f inside))) (phrase_piece items (λ a. g (f a)) (Some inside)) (phrase_piece items g (mapped other)) (phrase_piece items (λ a. g (f a)) other)
+      (phrase_map (Some inside)) (phrase_map other) before
+  phrases_map None (Some inside) before =
+      either_map (phrase_piece items g None) (phrase_piece items (λ a. g (f a)) None) (phrase_piece items g (Some (map f inside))) (phrase_piece items (λ a. g (f a)) (Some inside))
+      (phrase_map None) (phrase_map (Some inside)) before
+
+  -- behind the same code
+  behind_map : (line : ℕ) (keep : Bool) (operation : Operation) (arose did_not : Option (List A)) (before : Code)
+      → both (tick_piece line) (both (arithmetic_piece items keep operation) (phrases_from items g (mapped arose) (mapped did_not))) before
+      ≡ both (tick_piece line) (both (arithmetic_piece items keep operation) (phrases_from items (λ a. g (f a)) arose did_not)) before
+  behind_map line keep operation arose did_not before =
+      let tick = tick_piece line before in
+      let part = arithmetic_piece items keep operation (joined before tick) in
+      ap (λ (c : Code). joined tick (joined part c)) (phrases_map arose did_not (joined (joined before tick) part))
+
+  calculating_map : (place : Place) (operation : Operation) (arose did_not : Option (List A)) (before : Code)
+      → verb_piece items g place.line (map-Statement A B f (record { place = place; verb = verb.Arithmetic (record { operation = operation; phrases = record { arose = arose; did_not = did_not } }) })).verb before
+      ≡ verb_piece items (λ a. g (f a)) place.line (verb.Arithmetic (record { operation = operation; phrases = record { arose = arose; did_not = did_not } })) before
+  calculating_map place operation None None before = behind_map place.line false operation None None before
+  calculating_map place operation (Some inside) None before = behind_map place.line true operation (Some inside) None before
+  calculating_map place operation None (Some other) before = behind_map place.line false operation None (Some other) before
+  calculating_map place operation (Some inside) (Some other) before = behind_map place.line true operation (Some inside) (Some other) before
+
   pub verb_map : (place : Place) (one : Verb A) (before : Code)
       → verb_piece items g place.line (map-Statement A B f (record { place = place; verb = one })).verb before ≡ verb_piece items (λ a. g (f a)) place.line one before
   verb_map place (verb.Moving one) before = refl
+  verb_map place (verb.Arithmetic one) before = calculating_map place one.operation one.phrases.arose one.phrases.did_not before
   verb_map place (verb.Performing one) before = performing_map place one.turns one.performed before
   verb_map place (verb.Text one) before = refl
   verb_map place (verb.Ending one) before = refl

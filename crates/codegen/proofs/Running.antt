@@ -1,10 +1,8 @@
 -- The machine along instructions on data.
-use Rattle.std.proofs.Common.{◌≡◌, ℕ, zero, suc, ◌+◌, List, [], ◌∷◌, length, Some, refl, sym, ap, ◌∙◌, arith}
+use Rattle.std.proofs.Common.{◌≡◌, ℕ, suc, ◌+◌, List, [], ◌∷◌, length, Some, refl, ap, ◌∙◌, arith}
 use Rattle.std.specs.Prelude.{slice_get}
-use Rattle.source_tree.specs.Evaluated.{Fault}
 use Rattle.source_tree.specs.State as state
 use Rattle.source_tree.specs.State.{State}
-use Rattle.data_instructions.specs.declared.tables.DataTables.{DataTables}
 use Rattle.data_instructions.specs.declared.instruction.DataInstruction.{DataInstruction}
 use Rattle.data_instructions.specs.Scratch as step
 use Rattle.data_instructions.specs.Scratch.{Scratch, Step}

@@ -1,5 +1,5 @@
 -- A machine can run the code of a program that keeps the rules, and its run is what the program means.
-use Rattle.std.proofs.Common.{◌≡◌, ℕ, zero, suc, ◌+◌, ◌-◌, ◌*◌, ◌<◌, ◌≤◌, ◌^◌, List, [], ◌∷◌, ◌++◌, length, map, Option, Some, None, refl, sym, ap, ◌∙◌, subst, arith, length-append, All}
+use Rattle.std.proofs.Common.{◌≡◌, ℕ, zero, suc, ◌+◌, ◌-◌, ◌*◌, ◌≤◌, List, [], ◌∷◌, ◌++◌, length, map, Option, Some, None, refl, sym, ap, ◌∙◌, subst, arith, length-append, All}
 use Rattle.std.specs.Prelude.{slice_get}
 use Rattle.std.specs.List.{AllByRecursion}
 use Rattle.std.proofs.lemmas.List.{append-nil, length-replicate}
@@ -7,7 +7,6 @@ use Rattle.std.proofs.lemmas.List.Elements.{All-from_recursion}
 use Rattle.std.proofs.lemmas.Option.{slice_get_within, get_or_from_slice_get, same_Some}
 use Rattle.picture.specs.declared.picture.Picture.{Picture}
 use Rattle.items.specs.declared.item.Item.{Item}
-use Rattle.source_tree.specs.declared.entry.Entry.{Entry}
 use Rattle.source_tree.specs.declared.table.Dimension.{Dimension}
 use Rattle.source_tree.specs.declared.program.Program.{Program}
 use Rattle.source_tree.specs.declared.program.Section.{Section}
@@ -26,12 +25,12 @@ use Rattle.initial_storage.specs.Reach.{last_offset}
 use Rattle.initial_storage.specs.Reach as reach
 use Rattle.initial_storage.proofs.Areas.{small_areas, items_lie}
 use Rattle.initial_storage.proofs.Formed.{all_formed}
-use Rattle.data_instructions.specs.declared.tables.DataItem.{DataItem}
 use Rattle.data_instructions.specs.declared.tables.DataTables.{DataTables}
 use Rattle.data_instructions.specs.declared.shape.Shape.{Shape}
 use Rattle.data_instructions.specs.declared.instruction.DataInstruction.{DataInstruction}
+use Rattle.data_instructions.specs.declared.test.Test.TheVariants as t
 use Rattle.data_instructions.specs.declared.instruction.DataInstruction.TheVariants as i
-use Rattle.data_instructions.specs.Tables.{IsEditing, Lies, IsDataItem, IsTables}
+use Rattle.data_instructions.specs.Tables.{IsEditing, IsDataItem, IsTables}
 use Rattle.data_instructions.specs.Codes.{data_item}
 use Rattle.data_instructions.specs.Chains.{greatest, LiesWhole}
 use Rattle.data_instructions.specs.Naming.{NamesEntries}
@@ -39,7 +38,7 @@ use Rattle.data_instructions.specs.Shapes.{empty, and_then, effect}
 use Rattle.data_instructions.proofs.Known.{and_then_some, parts}
 use Rattle.code_image.specs.declared.code.Code.{Code}
 use Rattle.code_image.specs.declared.instruction.Instruction.{Instruction}
-use Rattle.code_image.specs.declared.instruction.Instruction.TheVariants.{Tick, Show, Stop, Count, Turn, Data}
+use Rattle.code_image.specs.declared.instruction.Instruction.TheVariants.{Tick, Show, Stop, Count, Turn, Accept, Date, Branch, Jump, Join, Data}
 use Rattle.code_image.specs.Known.{known_after, known_along}
 use Rattle.code_image.specs.Demands.{NamesData, NamesCounter, IsAddress, IsVerified}
 use Rattle.code_image.specs.Points.{nothing_own, start_state}
@@ -47,12 +46,13 @@ use Rattle.code_image.specs.Table.{exec_code, Runs}
 use Rattle.codegen.specs.Pieces.{nothing, joined, in_order}
 use Rattle.codegen.specs.Layout.{paragraph_piece, section_piece, end_piece, storage_code, code_of}
 use Rattle.codegen.proofs.Pieces.{joined_assoc, joined_nothing, flat}
-use Rattle.codegen.proofs.Standing.{Stands, front, at_seam}
+use Rattle.codegen.proofs.Standing.{Stands, at_seam}
 use Rattle.codegen.proofs.Codes.{left_none, right_none}
 use Rattle.codegen.proofs.Running.{at}
 use Rattle.codegen.proofs.Simulation.{range_ends}
-use Rattle.codegen.proofs.Flows.{sections_flow, along_append, rest}
-use Rattle.codegen.proofs.Demands.{all_weaker, all_both, all_back, more_counters, IsSent, Meets, both_meet, sections_meet, end_meets_all}
+use Rattle.codegen.proofs.Flows.{sections_flow, along_append}
+use Rattle.codegen.proofs.Straight.{all_both, IsSent}
+use Rattle.codegen.proofs.Demands.{all_weaker, all_lead, more_counters, Meets, both_meet, sections_meet, end_meets_all}
 
 all_at : {A : Type 0} (P : A → Type 0) (xs : List A) → All P xs → (k : ℕ) (x : A) → slice_get xs k ≡ Some x → P x
 all_at P xs all k x here = subst P (get_or_from_slice_get xs k x x here) (all k x (slice_get_within xs k x here))
@@ -90,8 +90,24 @@ named_by tables (i.AppendLiteral text) s after e =
     slice_get_within tables.texts text.number found.0 found.1
 named_by tables (i.Index stride count) s after e = tt
 named_by tables i.Push s after e = tt
-named_by tables i.Add s after e = tt
-named_by tables i.Subtract s after e = tt
+named_by tables (i.Calculate one) s after e = tt
+named_by tables (i.Store rounded keep) s after e = tt
+named_by tables i.ClearTruth s after e = tt
+named_by tables (i.Test (t.CompareLiteral one literal)) s after e =
+    let found = and_then_some (slice_get tables.senders literal.number) _ after.sender (parts tables (i.Test (t.CompareLiteral one literal)) s after e).2 in
+    slice_get_within tables.senders literal.number found.0 found.1
+named_by tables (i.Test (t.OrEqual literal)) s after e =
+    let found = and_then_some (slice_get tables.senders literal.number) _ after.sender (parts tables (i.Test (t.OrEqual literal)) s after e).2 in
+    slice_get_within tables.senders literal.number found.0 found.1
+named_by tables (i.Test (t.OrWithin first)) s after e =
+    let front = and_then_some (slice_get tables.senders first.number) _ after.sender (parts tables (i.Test (t.OrWithin first)) s after e).2 in
+    let found = and_then_some (slice_get tables.senders (first.number + 1)) _ after.sender front.2 in
+    slice_get_within tables.senders (first.number + 1) found.0 found.1
+named_by tables (i.Test (t.Compare one)) s after e = tt
+named_by tables (i.Test (t.CompareNumbers one)) s after e = tt
+named_by tables (i.Test (t.Class one)) s after e = tt
+named_by tables (i.Test t.Invert) s after e = tt
+named_by tables i.VoidIfTrue s after e = tt
 named_by tables i.Take s after e = tt
 named_by tables i.Move s after e = tt
 named_by tables i.Append s after e = tt
@@ -103,6 +119,11 @@ named_after tables Show s after e = tt
 named_after tables Stop s after e = tt
 named_after tables (Count counter turns) s after e = tt
 named_after tables (Turn counter to) s after e = tt
+named_after tables Accept s after e = tt
+named_after tables Date s after e = tt
+named_after tables (Branch to) s after e = tt
+named_after tables (Jump to) s after e = tt
+named_after tables Join s after e = tt
 
 named_along : (tables : DataTables) (all : List Instruction) (s last : Shape) → known_along tables all s ≡ Some last → AllByRecursion (NamesData tables) all
 named_along tables [] s last e = tt
@@ -170,10 +191,10 @@ module _ (program : Program) (keep : program_rules program ≡ []) where
   whole_met = both_meet (storage_code program.storage) body end_piece met (end_meets_all (joined (storage_code program.storage) body))
 
   areas_are : code.tables.areas ≡ areas_at_start program.storage
-  areas_are = append-nil (areas_at_start program.storage ++ body.tables.areas) ∙ ap (λ l. areas_at_start program.storage ++ l) met.areas ∙ append-nil (areas_at_start program.storage)
+  areas_are = append-nil (areas_at_start program.storage ++ body.tables.areas) ∙ ap (λ l. areas_at_start program.storage ++ l) met.names.areas ∙ append-nil (areas_at_start program.storage)
 
   items_are : code.tables.items ≡ map data_item items
-  items_are = append-nil (map data_item items ++ body.tables.items) ∙ ap (λ l. map data_item items ++ l) met.items ∙ append-nil (map data_item items)
+  items_are = append-nil (map data_item items ++ body.tables.items) ∙ ap (λ l. map data_item items ++ l) met.names.items ∙ append-nil (map data_item items)
 
   senders_are : code.tables.senders ≡ body.tables.senders
   senders_are = append-nil body.tables.senders
@@ -191,15 +212,18 @@ module _ (program : Program) (keep : program_rules program ≡ []) where
         let from = mapped_from data_item items k one (sym (ap (λ l. slice_get l k) items_are) ∙ here) in
         subst (IsDataItem code.tables.areas) from.2
         (is_data_item code.tables.areas from.0 (all_at formed.IsFormed items (all_formed program.storage entries_keep) k from.0 from.1) (item_lies k from.0 from.1));
-    senders = λ k one here. each_at IsSent body.tables.senders met.senders k one (sym (ap (λ l. slice_get l k) senders_are) ∙ here);
+    senders = λ k one here. each_at IsSent body.tables.senders met.names.senders k one (sym (ap (λ l. slice_get l k) senders_are) ∙ here);
   }
+
+  lies : (n : ℕ) (one : Placed) → slice_get items n ≡ Some one → LiesWhole code.tables one
+  lies n one here = lies_whole code.tables one (item_lies n one here)
 
   stands : Stands code (storage_code program.storage) body
   stands = record { rest = end_piece; is = refl }
 
   finds : known_along code.tables code.instructions empty ≡ Some empty
   finds =
-      let flow = (sections_flow items code item_entries (λ n one here. lies_whole code.tables one (item_lies n one here)) program.sections (storage_code program.storage) sections_keep stands).by None in
+      let flow = (sections_flow items code item_entries order lies program.sections (storage_code program.storage) sections_keep stands).by None in
       along_append code.tables body.instructions (Stop ∷ []) empty ∙ ap (λ o. and_then o (known_along code.tables (Stop ∷ []))) flow.1
 
   pub verified : IsVerified code
@@ -212,13 +236,13 @@ module _ (program : Program) (keep : program_rules program ≡ []) where
         within = record {
           entries = All-from_recursion (NamesData code.tables) code.instructions (named_along code.tables code.instructions empty empty finds);
           counters = All-from_recursion (NamesCounter (length code.instructions)) code.instructions
-              (all_weaker (NamesCounter (0 + length code.instructions)) (NamesCounter (length code.instructions)) (λ one h. more_counters _ _ one (omega arith) h) code.instructions whole_met.counters);
+              (all_weaker (NamesCounter (0 + length code.instructions)) (NamesCounter (length code.instructions)) (λ one h. more_counters _ _ one (omega arith) h) code.instructions whole_met.names.counters);
           starts = All-from_recursion (IsAddress (length code.instructions)) code.starts
               (all_both (IsAddress (length code.instructions)) body.starts []
-              (all_weaker (λ start. start ≤ 0 + length body.instructions) (IsAddress (length code.instructions)) (λ start h. omega (arith, n, one)) body.starts met.starts) tt);
+              (all_weaker (λ start. start ≤ 0 + length body.instructions) (IsAddress (length code.instructions)) (λ start h. omega (arith, n, one)) body.starts met.names.starts) tt);
         };
         shape = record {
-          back = all_back code.instructions whole_met.back;
+          leads = all_lead code.instructions whole_met.leads;
           stops = ap (slice_get code.instructions) count ∙ at_seam body.instructions Stop [];
           finds = record { last = empty; along = finds };
         };
@@ -234,10 +258,10 @@ module _ (program : Program) (keep : program_rules program ≡ []) where
 
   -- the code begins with what the program does
   begins : (given : Given) → start_state code given ≡ start program given
-  begins given = ap (λ (storage : Storage). record { budget = given.budget; line = 0; day = given.day; storage = storage; events = [] }) areas_are
+  begins given = ap (λ (storage : Storage). record { budget = given.budget; line = 0; day = given.day; lines = given.lines; storage = storage; events = [] }) areas_are
 
   pub runs : (given : Given) → Runs code given (meaning program given)
   runs given =
-      let ends = range_ends code (setting program) item_entries order (suc given.budget) (paragraphs program) (storage_code program.storage) (nothing_own code) (start program given)
+      let ends = range_ends code (setting program) item_entries order lies (suc given.budget) (paragraphs program) (storage_code program.storage) (nothing_own code) (start program given)
       (paragraphs_keep items program.sections sections_keep) (omega arith) (record { counters = length-replicate (length code.instructions) 0; line = refl }) laid in
       (ends.0, ap (λ (s : State). exec_code code ends.0 (at 0 (nothing_own code) s)) (begins given) ∙ ends.1)

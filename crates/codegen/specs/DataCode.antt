@@ -1,5 +1,6 @@
--- The code of references, and of MOVE and DISPLAY (own choice). Numbers, senders and texts go into their tables as they come.
+-- The code of references, and of MOVE, DISPLAY and ACCEPT (own choice). Numbers, senders and texts go into their tables as they come.
 use Rattle.std.specs.Prelude.{ℕ, pos, Bool, true, false, List, [], ◌∷◌, length, map, Option, Some, None, slice_get}
+use Rattle.decimal18.specs.Fraction.{Fraction}
 use Rattle.source_tree.specs.declared.literal.LiteralValue.{LiteralValue}
 use Rattle.source_tree.specs.declared.reference.QualifiedName.{QualifiedName}
 use Rattle.source_tree.specs.declared.reference.Adjustment.{Adjustment}
@@ -16,10 +17,11 @@ use Rattle.source_tree.specs.Literals.{Sender, literal_sender}
 use Rattle.source_tree.specs.Places.{Placed}
 use Rattle.data_instructions.specs.declared.index.ItemIndex.{ItemIndex}
 use Rattle.data_instructions.specs.declared.tables.LiteralSender.{LiteralSender}
+use Rattle.data_instructions.specs.declared.calculation.Calculation.TheVariants as c
 use Rattle.data_instructions.specs.declared.instruction.DataInstruction.{DataInstruction}
 use Rattle.data_instructions.specs.declared.instruction.DataInstruction.TheVariants as i
 use Rattle.data_instructions.specs.Codes.{integer, index_code}
-use Rattle.code_image.specs.declared.instruction.Instruction.TheVariants.{Data, Show}
+use Rattle.code_image.specs.declared.instruction.Instruction.TheVariants.{Data, Show, Accept, Date}
 use Rattle.names.specs.declared.look_up.LookUp.{LookUp}
 use Rattle.names.specs.declared.look_up.LookUp.TheVariants.{One}
 use Rattle.names.specs.Positions.{look_up}
@@ -46,18 +48,26 @@ dimensions_of (Some one) = one.dimensions
 abbrev pub work_piece : DataInstruction → Piece
 work_piece one before = plain (Data one ∷ [])
 
--- an integer, on the stack of numbers
-abbrev pub integer_piece : ℕ → Piece
-integer_piece n before = record {
-  tables = record no_tables { numbers = integer (pos n) ∷ [] };
+-- instructions on data
+abbrev pub works_piece : List DataInstruction → Piece
+works_piece all before = plain (map Data all)
+
+-- a number, on the stack of numbers
+abbrev pub number_piece : Fraction → Piece
+number_piece x before = record {
+  tables = record no_tables { numbers = x ∷ [] };
   starts = [];
   instructions = Data (i.Literal (record { number = length before.tables.numbers })) ∷ [];
 }
 
+-- an integer
+abbrev pub integer_piece : ℕ → Piece
+integer_piece n = number_piece (integer (pos n))
+
 abbrev pub adjustment_piece : Adjustment → Piece
 adjustment_piece adjustment.Nothing before = nothing
-adjustment_piece (adjustment.Plus n) before = both (integer_piece (number_of n)) (work_piece i.Add) before
-adjustment_piece (adjustment.Minus n) before = both (integer_piece (number_of n)) (work_piece i.Subtract) before
+adjustment_piece (adjustment.Plus n) before = both (integer_piece (number_of n)) (work_piece (i.Calculate c.Add)) before
+adjustment_piece (adjustment.Minus n) before = both (integer_piece (number_of n)) (work_piece (i.Calculate c.Subtract)) before
 
 -- a text, added to the line
 abbrev pub text_piece : List ℕ → Piece
@@ -130,3 +140,11 @@ module _ (items : List Placed) where
   -- DISPLAY, behind its `tick`
   abbrev pub display_piece : List Operand → Bool → Piece
   display_piece operands advancing = both (both (operands_piece operands) (line_end_piece advancing)) show_piece
+
+  -- ACCEPT, behind its `tick`: the receiver's place, and `accept`
+  abbrev pub accept_piece : Reference → Piece
+  accept_piece receiver = both (reference_piece receiver) (λ before. plain (Accept ∷ []))
+
+  -- ACCEPT FROM DATE
+  abbrev pub date_piece : Reference → Piece
+  date_piece receiver = both (reference_piece receiver) (λ before. plain (Date ∷ []))

@@ -1,10 +1,12 @@
 -- The layout of a program's code (own choice).
-use Rattle.std.specs.Prelude.{ℕ, zero, suc, ◌+◌, List, [], ◌∷◌, length, map}
+use Rattle.std.specs.Prelude.{ℕ, zero, suc, ◌+◌, List, [], ◌∷◌, length, map, Option, Some, None}
 use Rattle.source_tree.specs.declared.entry.Entry.{Entry}
 use Rattle.source_tree.specs.declared.moving.Moving.{Moving}
 use Rattle.source_tree.specs.declared.moving.Moving.TheVariants.{Move}
 use Rattle.source_tree.specs.declared.text.Text.{Text}
-use Rattle.source_tree.specs.declared.text.Text.TheVariants.{Display}
+use Rattle.source_tree.specs.declared.text.Text.TheVariants.{Display, Accept, AcceptDate}
+use Rattle.source_tree.specs.declared.phrases.Phrases.{Phrases}
+use Rattle.source_tree.specs.declared.arithmetic.Arithmetic.{Arithmetic}
 use Rattle.source_tree.specs.declared.ending.Ending.{Ending}
 use Rattle.source_tree.specs.declared.ending.Ending.TheVariants as ending
 use Rattle.source_tree.specs.declared.performing.Performed.{Performed}
@@ -27,9 +29,11 @@ use Rattle.source_tree.specs.Starts.{areas_at_start}
 use Rattle.data_instructions.specs.declared.tables.DataTables.{DataTables}
 use Rattle.data_instructions.specs.Codes.{data_item}
 use Rattle.code_image.specs.declared.code.Code.{Code}
-use Rattle.code_image.specs.declared.instruction.Instruction.TheVariants.{Tick, Stop, Count, Turn}
+use Rattle.code_image.specs.declared.instruction.Instruction.TheVariants.{Tick, Stop, Count, Turn, Branch, Jump, Join}
 use Rattle.codegen.specs.Pieces.{Piece, no_tables, nothing, joined, both, in_order, plain}
-use Rattle.codegen.specs.DataCode.{move_piece, display_piece}
+use Rattle.source_tree.specs.Arithmetic.{is_there}
+use Rattle.codegen.specs.DataCode.{move_piece, display_piece, accept_piece, date_piece}
+use Rattle.codegen.specs.ArithmeticCode.{arithmetic_piece}
 
 abbrev pub stop_run_piece : ℕ → Piece
 stop_run_piece line before = plain (Tick line ∷ Stop ∷ [])
@@ -66,6 +70,28 @@ moving_piece items (Move sender receivers) = move_piece items sender receivers
 
 abbrev pub texts_piece : List Placed → Text → Piece
 texts_piece items (Display operands advancing) = display_piece items operands advancing
+texts_piece items (Accept receiver) = accept_piece items receiver
+texts_piece items (AcceptDate receiver) = date_piece items receiver
+
+-- Where the truth is true, the first piece; else the second. Both ways meet behind the last `join`. While the first piece is made, the
+-- place of the second isn't known, and 0 stands for it; no piece depends on it.
+abbrev pub branch_code : ℕ → Code
+branch_code to = plain (Branch to ∷ [])
+
+abbrev pub jump_code : ℕ → Code
+jump_code to = plain (Jump to ∷ Join ∷ [])
+
+abbrev pub join_code : Code
+join_code = plain (Join ∷ [])
+
+abbrev pub either_piece : Piece → Piece → Piece
+either_piece first second before =
+    let one = first (joined before (branch_code 0)) in
+    let middle = joined (branch_code 0) (joined one (jump_code 0)) in
+    let two = second (joined before middle) in
+    let other = length (joined before middle).instructions in
+    let end = length (joined (joined before middle) two).instructions + 1 in
+    joined (branch_code other) (joined one (joined (jump_code end) (joined two join_code)))
 
 -- Statements that hold statements; `inside` is the code of those.
 module _ (items : List Placed) {S : Type 0} (inside : S → Piece) where
@@ -76,9 +102,27 @@ module _ (items : List Placed) {S : Type 0} (inside : S → Piece) where
   performing_piece line one before =
       joined (tick_piece line before) (turns_piece line one.turns (performed_piece one.performed) (joined before (tick_piece line before)))
 
+  abbrev pub phrase_piece : Option (List S) → Piece
+  phrase_piece None before = nothing
+  phrase_piece (Some statements) before = in_order inside statements before
+
+  -- the phrases, where one stands
+  abbrev pub phrases_from : Option (List S) → Option (List S) → Piece
+  phrases_from None None before = nothing
+  phrases_from (Some statements) other before = either_piece (phrase_piece (Some statements)) (phrase_piece other) before
+  phrases_from None (Some statements) before = either_piece (phrase_piece None) (phrase_piece (Some statements)) before
+
+  abbrev pub phrases_piece : Phrases S → Piece
+  phrases_piece phrases = phrases_from phrases.arose phrases.did_not
+
+  abbrev pub calculating_piece : ℕ → Arithmetic S → Piece
+  calculating_piece line one =
+      both (tick_piece line) (both (arithmetic_piece items (is_there one.phrases.arose) one.operation) (phrases_piece one.phrases))
+
   -- a statement at this line, by its family
   abbrev pub verb_piece : ℕ → Verb S → Piece
   verb_piece line (verb.Moving one) = both (tick_piece line) (moving_piece items one)
+  verb_piece line (verb.Arithmetic one) = calculating_piece line one
   verb_piece line (verb.Performing one) = performing_piece line one
   verb_piece line (verb.Text one) = both (tick_piece line) (texts_piece items one)
   verb_piece line (verb.Ending one) = ending_piece line one

@@ -2,18 +2,21 @@
 
 ghost use Rattle.std.specs.Prelude.{◌≡◌, ◌+◌, [], length, OnOk, IfOk};
 ghost use Rattle.source_tree.specs.Broken.{each};
+ghost use Rattle.source_tree.specs.ArithmeticRules.{operation_rules};
 ghost use Rattle.source_tree.specs.Rules as rules;
 ghost use Rattle.source_tree.specs.Performing.{turns_of};
 ghost use Rattle.check_rules.specs.Named.{IsDeclared, items_in};
 ghost use Rattle.codegen.specs.Pieces.{joined, both, in_order};
-ghost use Rattle.codegen.specs.Layout.{moving_piece, texts_piece, stop_run_piece, tick_piece, ending_piece, loop_begin, loop_end, times_piece, performing_piece, statement_piece, sentence_piece, start_piece, paragraph_piece, section_piece, end_piece};
+ghost use Rattle.codegen.specs.Layout.{moving_piece, texts_piece, stop_run_piece, tick_piece, ending_piece, loop_begin, loop_end, times_piece, performing_piece, phrase_piece, phrases_piece, calculating_piece, statement_piece, sentence_piece, start_piece, paragraph_piece, section_piece, end_piece};
 
 use crate::emitter::Emitter;
+use crate::phrases::{emit_branch, emit_jump, emit_meeting, has_phrase};
 use code_image::{Code, CounterIndex, Instruction};
 use source_tree::{
-    Ending, Integer, Moving, Paragraph, Performed, Performing, Section, Sentence, Statement, Text,
-    Turns, Verb,
+    Arithmetic, Ending, Integer, Moving, Paragraph, Performed, Performing, Phrases, Section,
+    Sentence, Statement, Text, Turns, Verb,
 };
+use sqlite_items::Items;
 use std::alloc::AllocError;
 
 fn emit_stop_run(code: &mut Code, line: u32) -> Result<(), AllocError>
@@ -122,6 +125,8 @@ impl<'a> Emitter<'a> {
                 operands,
                 advancing,
             } => self.emit_display(code, operands.as_slice(), *advancing),
+            Text::Accept { receiver } => self.emit_accept(code, receiver),
+            Text::AcceptDate { receiver } => self.emit_date(code, receiver),
         }
     }
 
@@ -136,6 +141,7 @@ impl<'a> Emitter<'a> {
         let line = one.place.line;
         match &one.verb {
             Verb::Moving(moving) => self.emit_moving(code, line, moving),
+            Verb::Arithmetic(arithmetic) => self.emit_calculating(code, line, arithmetic),
             Verb::Performing(
                 Performing {
                     performed: Performed::Statements(inside),
@@ -144,6 +150,56 @@ impl<'a> Emitter<'a> {
             ) => self.emit_performing(code, line, turns, inside.as_slice()),
             Verb::Text(text) => self.emit_texts(code, line, text),
             Verb::Ending(ending) => emit_ending(code, line, *ending),
+        }
+    }
+
+    /// An arithmetic statement, with those in its phrases.
+    #[cycle(statement)]
+    fn emit_calculating(
+        &self,
+        code: &mut Code,
+        line: u32,
+        one: &Arithmetic<Statement>,
+    ) -> Result<(), AllocError>
+        requires declared { IsDeclared self.now.declarations.now }
+        requires operation { operation_rules (items_in self.now.declarations.now) one.now.operation ≡ [] }
+        requires arose { rules.phrase_rules (rules.statement_rules (items_in self.now.declarations.now)) one.now.phrases.arose ≡ [] }
+        requires did_not { rules.phrase_rules (rules.statement_rules (items_in self.now.declarations.now)) one.now.phrases.did_not ≡ [] }
+        ensures { OnOk result (code.new ≡ joined code.old (calculating_piece (items_in self.now.declarations.now) (statement_piece (items_in self.now.declarations.now)) line one.now code.old)) }
+    {
+        emit_tick(code, line)?;
+        self.emit_arithmetic(code, one.phrases.arose.is_some(), &one.operation)?;
+        self.emit_phrases(code, &one.phrases)
+    }
+
+    /// The phrases, where one stands.
+    #[cycle(statement)]
+    fn emit_phrases(&self, code: &mut Code, one: &Phrases<Statement>) -> Result<(), AllocError>
+        requires declared { IsDeclared self.now.declarations.now }
+        requires arose { rules.phrase_rules (rules.statement_rules (items_in self.now.declarations.now)) one.now.arose ≡ [] }
+        requires did_not { rules.phrase_rules (rules.statement_rules (items_in self.now.declarations.now)) one.now.did_not ≡ [] }
+        ensures { OnOk result (code.new ≡ joined code.old (phrases_piece (items_in self.now.declarations.now) (statement_piece (items_in self.now.declarations.now)) one.now code.old)) }
+    {
+        if !has_phrase(one) {
+            return Ok(());
+        }
+        let branch = emit_branch(code)?;
+        self.emit_phrase(code, &one.arose)?;
+        let other = emit_jump(code)?;
+        self.emit_phrase(code, &one.did_not)?;
+        emit_meeting(code, branch, other)
+    }
+
+    /// The statements of a phrase, where it stands.
+    #[cycle(statement)]
+    fn emit_phrase(&self, code: &mut Code, one: &Option<Items<Statement>>) -> Result<(), AllocError>
+        requires declared { IsDeclared self.now.declarations.now }
+        requires rules { rules.phrase_rules (rules.statement_rules (items_in self.now.declarations.now)) one.now ≡ [] }
+        ensures { OnOk result (code.new ≡ joined code.old (phrase_piece (items_in self.now.declarations.now) (statement_piece (items_in self.now.declarations.now)) one.now code.old)) }
+    {
+        match one {
+            None => Ok(()),
+            Some(inside) => self.emit_statements(code, inside.as_slice()),
         }
     }
 

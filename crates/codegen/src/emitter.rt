@@ -2,10 +2,14 @@
 
 ghost use Rattle.std.specs.Prelude.{◌≡◌, IfOk, slice_get};
 ghost use Rattle.check_rules.specs.Named.{IsDeclared, items_in};
+ghost use Rattle.source_tree.specs.Arithmetic.{receiver_of};
 ghost use Rattle.codegen.specs.DataCode as spec;
+ghost use Rattle.codegen.specs.ArithmeticCode as arithmetic;
 
 use check_rules::Declarations;
 use data_instructions::ItemIndex;
+use items::Kind;
+use layout::PlacedItem;
 use names::LookUp;
 use source_tree::{Dimension, QualifiedName};
 use std::alloc::{AllocError, Global};
@@ -25,6 +29,17 @@ pub(crate) fn entry_number(before: usize) -> Result<u32, AllocError>
         return Err(AllocError);
     };
     Ok(number)
+}
+
+/// The decimals that an item keeps of a number: none of one that takes no number.
+fn scale_kept(one: &PlacedItem) -> u8
+    ensures { result ≡ arithmetic.scale_kept (receiver_of one.now.item.kind one.now.editing) }
+{
+    match (one.item.kind, &one.editing) {
+        (Kind::Numeric(numeric), _) => numeric.scale,
+        (Kind::NumericEdited { .. }, Some(picture)) => picture.scale(),
+        _ => 0,
+    }
 }
 
 impl<'a> Emitter<'a> {
@@ -56,6 +71,17 @@ impl<'a> Emitter<'a> {
         match self.declarations.layout.items.get(self.item_number(name)) {
             Some(found) => found.dimensions.as_slice(),
             None => &[],
+        }
+    }
+
+    /// The decimals that the item that a name names keeps of a number.
+    pub(crate) fn scale_kept(&self, name: &QualifiedName) -> u8
+        requires { IsDeclared self.now.declarations.now }
+        ensures { result ≡ arithmetic.scale_of_item (slice_get (items_in self.now.declarations.now) (spec.item_number (items_in self.now.declarations.now) name.now)) }
+    {
+        match self.declarations.layout.items.get(self.item_number(name)) {
+            Some(found) => scale_kept(found),
+            None => 0,
         }
     }
 }

@@ -1,10 +1,15 @@
 //! From a tree to code: for each budget the code's run is the tree's meaning, and a machine can run it.
 #![tactic(auto)]
 
+mod accept;
+mod arithmetic;
 mod display;
 mod emit;
 mod emitter;
+mod expression;
 mod moving;
+mod number;
+mod phrases;
 mod program;
 mod references;
 mod storage;

@@ -11,7 +11,7 @@ ghost use Rattle.codegen.specs.DataCode as spec;
 
 use crate::emitter::{Emitter, entry_number};
 use code_image::{Code, Instruction};
-use data_instructions::{DataInstruction, NumberIndex};
+use data_instructions::{Calculation, DataInstruction, NumberIndex};
 use decimal18::{Dec, number_behind};
 use source_tree::{Adjustment, Dimension, Integer, Reference, Subscript};
 use std::alloc::AllocError;
@@ -35,17 +35,34 @@ pub(crate) fn emit_work(code: &mut Code, one: DataInstruction) -> Result<(), All
     Ok(())
 }
 
+/// Instructions on data, in order.
+pub(crate) fn emit_works(code: &mut Code, all: &[DataInstruction]) -> Result<(), AllocError>
+    ensures { OnOk result (code.new ≡ joined code.old (spec.works_piece all.now code.old)) }
+{
+    for one in all {
+        emit_work(code, *one)?;
+    }
+    Ok(())
+}
+
+/// A number, on the stack of numbers.
+pub(crate) fn emit_number(code: &mut Code, one: Dec) -> Result<(), AllocError>
+    ensures { OnOk result (code.new ≡ joined code.old (spec.number_piece one code.old)) }
+{
+    let number = entry_number(code.tables.numbers.len())?;
+    code.tables.numbers.push(one)?;
+    let number = NumberIndex { number };
+    code.instructions
+        .push(Instruction::Data(DataInstruction::Literal { number }))?;
+    Ok(())
+}
+
 /// An integer, on the stack of numbers.
 fn emit_integer(code: &mut Code, one: &Integer) -> Result<(), AllocError>
     requires { integer_rules one.now ≡ [] }
     ensures { OnOk result (code.new ≡ joined code.old (spec.integer_piece (written.number_of one.now) code.old)) }
 {
-    let number = entry_number(code.tables.numbers.len())?;
-    code.tables.numbers.push(number_of(one))?;
-    let number = NumberIndex { number };
-    code.instructions
-        .push(Instruction::Data(DataInstruction::Literal { number }))?;
-    Ok(())
+    emit_number(code, number_of(one))
 }
 
 /// What is added to the item of a subscript.
@@ -57,11 +74,11 @@ fn emit_adjustment(code: &mut Code, one: &Adjustment) -> Result<(), AllocError>
         Adjustment::Nothing => Ok(()),
         Adjustment::Plus(integer) => {
             emit_integer(code, integer)?;
-            emit_work(code, DataInstruction::Add)
+            emit_work(code, DataInstruction::Calculate(Calculation::Add))
         }
         Adjustment::Minus(integer) => {
             emit_integer(code, integer)?;
-            emit_work(code, DataInstruction::Subtract)
+            emit_work(code, DataInstruction::Calculate(Calculation::Subtract))
         }
     }
 }
@@ -128,7 +145,7 @@ impl<'a> Emitter<'a> {
     }
 
     /// The place of a reference, on the stack of places.
-    fn emit_reference(&self, code: &mut Code, one: &Reference) -> Result<(), AllocError>
+    pub(crate) fn emit_reference(&self, code: &mut Code, one: &Reference) -> Result<(), AllocError>
         requires declared { IsDeclared self.now.declarations.now }
         requires rules { each (subscript_rules (items_in self.now.declarations.now)) one.now.subscripts ≡ [] }
         ensures { OnOk result (code.new ≡ joined code.old (spec.reference_piece (items_in self.now.declarations.now) one.now code.old)) }

@@ -22,6 +22,7 @@ use Rattle.data_instructions.specs.declared.index.ItemIndex.{ItemIndex}
 use Rattle.data_instructions.specs.declared.index.NumberIndex.{NumberIndex}
 use Rattle.data_instructions.specs.declared.tables.DataItem.{DataItem}
 use Rattle.data_instructions.specs.declared.tables.DataTables.{DataTables}
+use Rattle.data_instructions.specs.declared.calculation.Calculation.TheVariants as calculation
 use Rattle.data_instructions.specs.declared.instruction.DataInstruction.{DataInstruction}
 use Rattle.data_instructions.specs.declared.instruction.DataInstruction.TheVariants as i
 use Rattle.data_instructions.specs.declared.shape.PlaceShape.{PlaceShape}
@@ -46,7 +47,7 @@ one_there n = grind (arith, nat_tests)
 two_there : (n : ℕ) → nat_le 2 (n + 1 + 1) ≡ true
 two_there n = grind (arith, nat_tests)
 
-within : (m n : ℕ) → m ≤ n → nat_le m n ≡ true
+pub within : (m n : ℕ) → m ≤ n → nat_le m n ≡ true
 within m n h = grind (arith, nat_tests)
 
 further : (offset : ℕ) (dimensions : List Dimension) → offset ≤ greatest offset dimensions
@@ -63,7 +64,7 @@ module _ (items : List Placed) (tables : DataTables) where
   literal_known : (number : NumberIndex) (n : ℕ) → HasInteger tables number n → (more : List DataInstruction) (s : Shape) → effects tables (i.Literal number ∷ more) s ≡ effects tables more (with_numbers (s.stacks.numbers + 1) s)
   literal_known number n has more s = ap (λ o. and_then (shape_with (and_then o (λ x. and_one s.stacks)) (Some s.line) (Some s.sender)) (effects tables more)) has.entry
 
-  place_known : (index : ItemIndex) (found : Placed) → slice_get tables.items index.number ≡ Some (data_item found) → (more : List DataInstruction) (s : Shape) → effects tables (i.Place index ∷ more) s ≡ effects tables more (at index found.offset s)
+  pub place_known : (index : ItemIndex) (found : Placed) → slice_get tables.items index.number ≡ Some (data_item found) → (more : List DataInstruction) (s : Shape) → effects tables (i.Place index ∷ more) s ≡ effects tables more (at index found.offset s)
   place_known index found entry more s = ap (λ o. and_then (shape_with (and_then o (λ one. placing index one s.stacks)) (Some s.line) (Some s.sender)) (effects tables more)) entry
 
   -- two numbers become one
@@ -76,11 +77,11 @@ module _ (items : List Placed) (tables : DataTables) where
   adjustment_known adjustment.Nothing code is s = ap (λ c. effects tables c (with_numbers (s.stacks.numbers + 1) s)) is
   adjustment_known (adjustment.Plus n) code (number, has, is) s =
       ap (λ c. effects tables c (with_numbers (s.stacks.numbers + 1) s)) is
-      ∙ literal_known number _ has (i.Add ∷ []) (with_numbers (s.stacks.numbers + 1) s)
+      ∙ literal_known number _ has (i.Calculate calculation.Add ∷ []) (with_numbers (s.stacks.numbers + 1) s)
       ∙ ap (λ o. and_then (shape_with o (Some s.line) (Some s.sender)) (effects tables [])) (combined_known s.stacks.numbers s)
   adjustment_known (adjustment.Minus n) code (number, has, is) s =
       ap (λ c. effects tables c (with_numbers (s.stacks.numbers + 1) s)) is
-      ∙ literal_known number _ has (i.Subtract ∷ []) (with_numbers (s.stacks.numbers + 1) s)
+      ∙ literal_known number _ has (i.Calculate calculation.Subtract ∷ []) (with_numbers (s.stacks.numbers + 1) s)
       ∙ ap (λ o. and_then (shape_with o (Some s.line) (Some s.sender)) (effects tables [])) (combined_known s.stacks.numbers s)
 
   subscript_known : (one : written.Subscript) (code : List DataInstruction) → IsSubscriptCode items tables one code → (s : Shape) → effects tables code s ≡ Some (with_numbers (s.stacks.numbers + 1) s)
@@ -106,7 +107,7 @@ module _ (items : List Placed) (tables : DataTables) where
   nearer : (one : DataItem) (reach last : ℕ) → reach ≤ last → Lies tables.areas one last → Lies tables.areas one reach
   nearer one reach last h lies = record { area = lies.area; here = lies.here; within = omega (arith, lies.within, h) }
 
-  subscripts_known : (dimensions : List Dimension) (subscripts : List written.Subscript) (code : List DataInstruction) → AreSubscriptsCode items tables dimensions subscripts code
+  pub subscripts_known : (dimensions : List Dimension) (subscripts : List written.Subscript) (code : List DataInstruction) → AreSubscriptsCode items tables dimensions subscripts code
       → (index : ItemIndex) (found : Placed) (reach : ℕ) → slice_get tables.items index.number ≡ Some (data_item found) → Lies tables.areas (data_item found) (greatest reach dimensions)
       → (s : Shape) → effects tables code (at index reach s) ≡ Some (at index (greatest reach dimensions) s)
   subscripts_known [] subscripts code is index found reach entry lies s = ap (λ c. effects tables c (at index reach s)) is
@@ -125,14 +126,14 @@ module _ (items : List Placed) (tables : DataTables) where
       ∙ subscripts_known r.found.dimensions reference.subscripts r.subscripts r.each r.index r.found r.found.offset r.has.entry (lies r.found r.has.named) s
 
   -- an instruction that takes the place of a reference
-  taking_known : (taking : DataInstruction) (reference : Reference) (code : List DataInstruction) (is : IsTakingCode items tables taking reference code) → LiesAll items tables reference → (s : Shape)
+  pub taking_known : (taking : DataInstruction) (reference : Reference) (code : List DataInstruction) (is : IsTakingCode items tables taking reference code) → LiesAll items tables reference → (s : Shape)
       → effects tables code s ≡ effects tables (taking ∷ []) (at is.1.index (greatest is.1.found.offset is.1.found.dimensions) s)
   taking_known taking reference code (front, is_front, is) lies s =
       ap (λ c. effects tables c s) is
       ∙ effects_append tables front (taking ∷ []) s
       ∙ ap (λ o. and_then o (effects tables (taking ∷ []))) (reference_known reference front is_front lies s)
 
-  sender_known : (sender : Operand) (code : List DataInstruction) → IsSenderCode items tables sender code → (sent : Taken) → SendsAs items tables sender sent → (s : Shape) → effects tables code s ≡ Some (record s { sender = Some sent })
+  pub sender_known : (sender : Operand) (code : List DataInstruction) → IsSenderCode items tables sender code → (sent : Taken) → SendsAs items tables sender sent → (s : Shape) → effects tables code s ≡ Some (record s { sender = Some sent })
   sender_known (operand.Item reference) code is sent sends s =
       taking_known i.Take reference code is sends.0 s
       ∙ ap (λ o. and_then (shape_with (Some s.stacks) (Some s.line) (and_then o (λ one. Some (Some (kept.Item one.item))))) (effects tables [])) is.1.has.entry

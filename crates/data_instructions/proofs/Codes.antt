@@ -20,6 +20,7 @@ use Rattle.source_tree.specs.Integers.{number_of}
 use Rattle.source_tree.specs.Places.{Placed}
 use Rattle.source_tree.specs.Storage.{Storage}
 use Rattle.source_tree.specs.Literals.{Sender, item_sender}
+use Rattle.source_tree.specs.Computed.{number_or_none}
 use Rattle.source_tree.specs.Evaluated.{Evaluated, ◌>>=◌, needed}
 use Rattle.source_tree.specs.References.{ItemPlace, part_of, storing, place_behind, place_of, occurrence, subscript_value, adjusted, integer_in, whole_part, stepped}
 use Rattle.source_tree.specs.References as tree
@@ -29,24 +30,25 @@ use Rattle.source_tree.specs.Accepting.{accept_line, accept_date, date_sender}
 use Rattle.data_instructions.specs.declared.index.ItemIndex.{ItemIndex}
 use Rattle.data_instructions.specs.declared.index.NumberIndex.{NumberIndex}
 use Rattle.data_instructions.specs.declared.tables.DataTables.{DataTables}
+use Rattle.data_instructions.specs.declared.calculation.Calculation.TheVariants as calculation
 use Rattle.data_instructions.specs.declared.instruction.DataInstruction.{DataInstruction}
 use Rattle.data_instructions.specs.declared.instruction.DataInstruction.TheVariants as i
 use Rattle.data_instructions.specs.Tables.{IsTables, item_place, sender_of}
 use Rattle.data_instructions.specs.Scratch.{Scratch, Step, Went, Faulted, Stuck, step_with, step_at}
-use Rattle.data_instructions.specs.Table.{at_place, placed, pushed, number_or_none, bytes_before, read, sending, taken, stored, moved, appended, shown_at, work, accepted, dated}
+use Rattle.data_instructions.specs.Table.{at_place, placed, pushed, bytes_before, read, sending, taken, stored, moved, appended, shown_at, work, accepted, dated}
 use Rattle.data_instructions.specs.Codes.{go_on, works, data_item, integer, HasInteger, IsAdjustmentCode, IsSubscriptCode, AreSubscriptsCode, index_code, IsReferenceCode, IsTakingCode, IsSenderCode, AreReceiversCode, IsMoveCode, IsTextCode, IsOperandCode, AreOperandsCode, IsLineEndCode, IsDisplayCode}
 use Rattle.data_instructions.proofs.Integers.{whole_integer, sum_integers, difference_integers, integer_in_bytes}
 
 -- one part after another
-go_with : {A : Type 0} (r : Evaluated A) (f : A → Step) (go : Scratch → Step) → go_on (step_with r f) go ≡ step_with r (λ x. go_on (f x) go)
+pub go_with : {A : Type 0} (r : Evaluated A) (f : A → Step) (go : Scratch → Step) → go_on (step_with r f) go ≡ step_with r (λ x. go_on (f x) go)
 go_with (Ok x) f go = refl
 go_with (Err fault) f go = refl
 
-with_same : {A : Type 0} (r : Evaluated A) (f g : A → Step) → ((x : A) → f x ≡ g x) → step_with r f ≡ step_with r g
+pub with_same : {A : Type 0} (r : Evaluated A) (f g : A → Step) → ((x : A) → f x ≡ g x) → step_with r f ≡ step_with r g
 with_same (Ok x) f g same = same x
 with_same (Err fault) f g same = refl
 
-with_bind : {A B : Type 0} (r : Evaluated A) (f : A → Evaluated B) (go : B → Step) → step_with (r >>= f) go ≡ step_with r (λ x. step_with (f x) go)
+pub with_bind : {A B : Type 0} (r : Evaluated A) (f : A → Evaluated B) (go : B → Step) → step_with (r >>= f) go ≡ step_with r (λ x. step_with (f x) go)
 with_bind (Ok x) f go = refl
 with_bind (Err fault) f go = refl
 
@@ -68,11 +70,11 @@ module _ (items : List Placed) (tables : DataTables) (order : IsTables tables) w
   adjustment_works adjustment.Nothing code is z small s = ap (λ c. works tables c (record s { numbers = Some (integer z) ∷ s.numbers })) is
   adjustment_works (adjustment.Plus n) code (number, has, is) z small s =
       let t : Scratch = record s { numbers = Some (integer z) ∷ s.numbers } in
-      ap (λ c. works tables c t) is ∙ literal_works number (number_of n) has (i.Add ∷ []) t
+      ap (λ c. works tables c t) is ∙ literal_works number (number_of n) has (i.Calculate calculation.Add ∷ []) t
       ∙ ap (λ r. Went (record s { numbers = number_or_none r ∷ s.numbers })) (sum_integers z (number_of n) small has.small)
   adjustment_works (adjustment.Minus n) code (number, has, is) z small s =
       let t : Scratch = record s { numbers = Some (integer z) ∷ s.numbers } in
-      ap (λ c. works tables c t) is ∙ literal_works number (number_of n) has (i.Subtract ∷ []) t
+      ap (λ c. works tables c t) is ∙ literal_works number (number_of n) has (i.Calculate calculation.Subtract ∷ []) t
       ∙ ap (λ r. Went (record s { numbers = number_or_none r ∷ s.numbers })) (difference_integers z (number_of n) small has.small)
 
   -- the number of a subscript comes on the stack, or fault 90
@@ -105,7 +107,7 @@ module _ (items : List Placed) (tables : DataTables) (order : IsTables tables) w
   abbrev at : ItemIndex → ℕ → Scratch → Scratch
   at index offset s = record s { places = record { item = index; offset = offset } ∷ s.places }
 
-  subscripts_works : (dimensions : List Dimension) (subscripts : List written.Subscript) (code : List DataInstruction) → AreSubscriptsCode items tables dimensions subscripts code → (index : ItemIndex) (offset : ℕ) (s : Scratch)
+  pub subscripts_works : (dimensions : List Dimension) (subscripts : List written.Subscript) (code : List DataInstruction) → AreSubscriptsCode items tables dimensions subscripts code → (index : ItemIndex) (offset : ℕ) (s : Scratch)
       → works tables code (at index offset s) ≡ step_with (tree.bytes_before items dimensions subscripts s.storage) (λ more. Went (at index (offset + more) s))
   subscripts_works [] subscripts code is index offset s = ap (λ c. works tables c (at index offset s)) is ∙ ap (λ n. Went (at index n s)) (sym (add-zero offset))
   subscripts_works (one ∷ more) [] code is index offset s = absurd is
@@ -170,7 +172,7 @@ module _ (items : List Placed) (tables : DataTables) (order : IsTables tables) w
   go_same (Faulted fault) f g same = refl
   go_same Stuck f g same = refl
 
-  taking_works : (taking : DataInstruction) (f : ItemPlace → Scratch → Step) → ((t : Scratch) → work tables taking t ≡ at_place tables f t) → (reference : Reference) (code : List DataInstruction) → IsTakingCode items tables taking reference code → (s : Scratch)
+  pub taking_works : (taking : DataInstruction) (f : ItemPlace → Scratch → Step) → ((t : Scratch) → work tables taking t ≡ at_place tables f t) → (reference : Reference) (code : List DataInstruction) → IsTakingCode items tables taking reference code → (s : Scratch)
       → works tables code s ≡ step_with (place_of items reference s.storage) (λ place. f place s)
   taking_works taking f takes reference code (front, is_front, is) s =
       ap (λ c. works tables c s) is

@@ -1,9 +1,11 @@
--- Instructions on a table of three numbers, 01 T with N PIC 9(2) OCCURS 3, all of it, and M PIC 9(3), computed.
+-- Instructions on a table of three numbers, 01 T with N PIC 9(2) OCCURS 3, all of it, M PIC 9(3), Q PIC 9, and R PIC S9(2)V9 SIGN
+-- TRAILING SEPARATE, computed.
 use Rattle.std.proofs.Common.{◌≡◌, ℕ, List, [], ◌∷◌, ◌++◌, refl, pos, negsuc, Option, Some, None}
-use Rattle.std.specs.Prelude.{codes, slice_index_or}
+use Rattle.std.specs.Prelude.{Bool, true, false, codes, slice_index_or}
 use Rattle.decimal18.specs.Fraction.{Fraction}
-use Rattle.decimal18.specs.Arithmetic.{sum, difference}
-use Rattle.decimal18.specs.Receiver.{low_digits}
+use Rattle.decimal18.specs.Arithmetic.{sum, difference, product}
+use Rattle.decimal18.specs.Quotient.{greatest, quotient}
+use Rattle.decimal18.specs.Receiver.{fitted, low_digits, truncated}
 use Rattle.items.specs.declared.usage.OperationalSign.TheVariants as operational
 use Rattle.items.specs.declared.usage.Usage.TheVariants as usage
 use Rattle.items.specs.declared.item.Kind.TheVariants as kind
@@ -14,28 +16,33 @@ use Rattle.edited_move.specs.Moves as moves
 use Rattle.source_tree.specs.Evaluated.{Data, Subscript}
 use Rattle.data_instructions.specs.declared.tables.DataItem.{DataItem}
 use Rattle.data_instructions.specs.declared.tables.DataTables.{DataTables}
+use Rattle.data_instructions.specs.declared.calculation.Calculation.TheVariants as calculation
 use Rattle.data_instructions.specs.declared.instruction.DataInstruction.{DataInstruction}
 use Rattle.data_instructions.specs.declared.instruction.DataInstruction.TheVariants as i
 use Rattle.data_instructions.specs.Scratch.{Scratch, Step, Went, Faulted, Stuck, started}
 use Rattle.data_instructions.specs.Table.{accepted, dated}
 use Rattle.data_instructions.specs.Shapes.{empty, effect}
 use Rattle.data_instructions.specs.Codes.{go_on, works}
+use Rattle.data_instructions.specs.ArithmeticCodes.{duplicate, discard, kept_code}
 
 abbrev at_area : Item → ℕ → DataItem
 at_area item area = record { item = item; editing = None; area = area; offset = 0 }
 
 computing : Unit {0}
-unfolding low_digits value_of bytes_of shown moves.moved sum difference
+unfolding low_digits fitted truncated value_of bytes_of shown moves.moved sum difference product greatest quotient
 computing = tt
 
 abbrev tables : DataTables
 tables = record {
-  areas = codes "0102x3" ∷ codes "000" ∷ [];
+  areas = codes "0102x3" ∷ codes "005" ∷ codes "7" ∷ codes "000+" ∷ [];
   items = at_area (record { kind = kind.Numeric (record { digits = 2; scale = 0; usage = usage.Display operational.Unsigned }); length = 2 }) 0
       ∷ at_area (record { kind = kind.Group; length = 6 }) 0
       ∷ at_area (record { kind = kind.Numeric (record { digits = 3; scale = 0; usage = usage.Display operational.Unsigned }); length = 3 }) 1
+      ∷ at_area (record { kind = kind.Numeric (record { digits = 1; scale = 0; usage = usage.Display operational.Unsigned }); length = 1 }) 2
+      ∷ at_area (record { kind = kind.Numeric (record { digits = 3; scale = 1; usage = usage.Display operational.TrailingSeparate }); length = 4 }) 3
       ∷ [];
-  numbers = record { coefficient = pos 2; scale = 0 } ∷ record { coefficient = pos 4; scale = 0 } ∷ record { coefficient = pos 15; scale = 1 } ∷ record { coefficient = pos 3; scale = 0 } ∷ [];
+  numbers = record { coefficient = pos 2; scale = 0 } ∷ record { coefficient = pos 4; scale = 0 } ∷ record { coefficient = pos 15; scale = 1 } ∷ record { coefficient = pos 3; scale = 0 }
+      ∷ record { coefficient = pos 40; scale = 0 } ∷ record { coefficient = pos 25; scale = 2 } ∷ record { coefficient = pos 0; scale = 0 } ∷ [];
   senders = [];
   texts = codes "N=" ∷ [];
 }
@@ -86,7 +93,7 @@ no_number : works tables (element 3 ++ i.Push ∷ []) begun ≡ Faulted Data
 unfolding computing
 no_number = refl
 
-difference_of_two : numbers_of (works tables (number 0 ∷ number 1 ∷ i.Subtract ∷ []) begun) ≡ Some (record { coefficient = negsuc 1; scale = 0 }) ∷ []
+difference_of_two : numbers_of (works tables (number 0 ∷ number 1 ∷ i.Calculate calculation.Subtract ∷ []) begun) ≡ Some (record { coefficient = negsuc 1; scale = 0 }) ∷ []
 unfolding computing
 difference_of_two = refl
 
@@ -126,3 +133,105 @@ past_the_area = refl
 
 no_sender_known : effect tables i.Move (record empty { stacks = record { numbers = 0; places = record { item = record { number = 2 }; reach = 0 } ∷ [] } }) ≡ None
 no_sender_known = refl
+
+-- whether a size error arose
+abbrev truth_of : Step → Option Bool
+truth_of (Went s) = Some s.truth
+truth_of _ = None
+
+-- DIVIDE a number BY another GIVING Q REMAINDER M
+abbrev divided : Bool → ℕ → ℕ → Step
+divided keep dividend divisor =
+    works tables
+    ((i.ClearTruth ∷ number dividend ∷ number divisor ∷ duplicate 1 ∷ duplicate 1 ∷ i.Calculate calculation.Divide ∷ duplicate 0 ∷ item 3 ∷ i.Store false keep ∷ [])
+    ++ (i.Calculate (calculation.Truncate 0) ∷ i.Calculate calculation.Multiply ∷ i.Calculate calculation.Subtract ∷ (kept_code [] tables keep keep ++ (item 2 ∷ i.Store false keep ∷ []))))
+    begun
+
+-- 4 by 1.5 is 2, and 1 remains
+quotient_stored : area_of 2 (divided true 1 2) ≡ codes "2"
+unfolding computing
+quotient_stored = refl
+
+remainder_stored : area_of 1 (divided true 1 2) ≡ codes "001"
+unfolding computing
+remainder_stored = refl
+
+no_size_error : truth_of (divided true 1 2) ≡ Some false
+unfolding computing
+no_size_error = refl
+
+-- 40 by 1.5 is 26, for which Q has too few digits: with ON SIZE ERROR Q is left alone, and so is M
+quotient_kept : area_of 2 (divided true 4 2) ≡ codes "7"
+unfolding computing
+quotient_kept = refl
+
+remainder_kept : area_of 1 (divided true 4 2) ≡ codes "005"
+unfolding computing
+remainder_kept = refl
+
+size_error_told : truth_of (divided true 4 2) ≡ Some true
+unfolding computing
+size_error_told = refl
+
+-- Without the phrase Q takes the low digit; what remains is by all of the quotient.
+low_digit_stored : area_of 2 (divided false 4 2) ≡ codes "6"
+unfolding computing
+low_digit_stored = refl
+
+remainder_of_whole : area_of 1 (divided false 4 2) ≡ codes "001"
+unfolding computing
+remainder_of_whole = refl
+
+-- by 0: there is no number, and nothing is stored
+nothing_by_zero : area_of 2 (divided false 4 6) ≡ codes "7"
+unfolding computing
+nothing_by_zero = refl
+
+no_remainder_by_zero : area_of 1 (divided false 4 6) ≡ codes "005"
+unfolding computing
+no_remainder_by_zero = refl
+
+-- 0.25 less 2 is -1.75
+abbrev negative : List DataInstruction
+negative = number 5 ∷ number 0 ∷ i.Calculate calculation.Subtract ∷ []
+
+cut_towards_zero : numbers_of (works tables (negative ++ i.Calculate (calculation.Truncate 1) ∷ []) begun) ≡ Some (record { coefficient = negsuc 16; scale = 1 }) ∷ []
+unfolding computing
+cut_towards_zero = refl
+
+negative_truncated : area_of 3 (works tables (negative ++ item 4 ∷ i.Store false false ∷ []) begun) ≡ codes "017-"
+unfolding computing
+negative_truncated = refl
+
+negative_rounded : area_of 3 (works tables (negative ++ item 4 ∷ i.Store true false ∷ []) begun) ≡ codes "018-"
+unfolding computing
+negative_rounded = refl
+
+-- without S the absolute value
+absolute_stored : area_of 1 (works tables (negative ++ item 2 ∷ i.Store false false ∷ []) begun) ≡ codes "001"
+unfolding computing
+absolute_stored = refl
+
+sign_changed : numbers_of (works tables (number 5 ∷ i.Calculate calculation.Negate ∷ []) begun) ≡ Some (record { coefficient = negsuc 24; scale = 2 }) ∷ []
+sign_changed = refl
+
+-- the number below the newest once more
+number_copied : numbers_of (works tables (number 0 ∷ number 1 ∷ duplicate 1 ∷ []) begun)
+    ≡ Some (record { coefficient = pos 2; scale = 0 }) ∷ Some (record { coefficient = pos 4; scale = 0 }) ∷ Some (record { coefficient = pos 2; scale = 0 }) ∷ []
+number_copied = refl
+
+nothing_below : works tables (number 0 ∷ duplicate 1 ∷ []) begun ≡ Stuck
+nothing_below = refl
+
+newest_discarded : numbers_of (works tables (number 0 ∷ number 1 ∷ discard ∷ []) begun) ≡ Some (record { coefficient = pos 2; scale = 0 }) ∷ []
+newest_discarded = refl
+
+no_number_to_store : works tables (item 2 ∷ i.Store false false ∷ []) begun ≡ Stuck
+no_number_to_store = refl
+
+-- what is known of a copy: two numbers are wanted for the one below the newest
+copy_known : effect tables (duplicate 1) (record empty { stacks = record { numbers = 2; places = [] } }) ≡ Some (record empty { stacks = record { numbers = 3; places = [] } })
+copy_known = refl
+
+no_copy_known : effect tables (duplicate 1) (record empty { stacks = record { numbers = 1; places = [] } }) ≡ None
+no_copy_known = refl

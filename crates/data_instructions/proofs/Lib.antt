@@ -1,9 +1,16 @@
 pub mod Same
 pub mod Known
 pub mod Lengths
+pub mod Calculations
 pub mod Safety
 pub mod Entries
 pub mod Integers
 pub mod Codes
 pub mod Chains
+pub mod Expressions
+pub mod ArithmeticCodes
+pub mod ArithmeticChains
+pub mod Conditions
+pub mod ConditionChains
 mod Examples
+mod ConditionExamples

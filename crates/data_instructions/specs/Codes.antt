@@ -24,6 +24,7 @@ use Rattle.data_instructions.specs.declared.index.TextIndex.{TextIndex}
 use Rattle.data_instructions.specs.declared.tables.DataItem.{DataItem}
 use Rattle.data_instructions.specs.declared.tables.LiteralSender.{LiteralSender}
 use Rattle.data_instructions.specs.declared.tables.DataTables.{DataTables}
+use Rattle.data_instructions.specs.declared.calculation.Calculation.TheVariants as c
 use Rattle.data_instructions.specs.declared.instruction.DataInstruction.{DataInstruction}
 use Rattle.data_instructions.specs.declared.instruction.DataInstruction.TheVariants as i
 use Rattle.data_instructions.specs.Tables.{sender_of}
@@ -63,8 +64,8 @@ module _ (items : List Placed) (tables : DataTables) where
 
   abbrev pub IsAdjustmentCode : Adjustment → List DataInstruction → Type 0
   IsAdjustmentCode adjustment.Nothing code = code ≡ []
-  IsAdjustmentCode (adjustment.Plus n) code = (number : NumberIndex) × HasInteger tables number (number_of n) × (code ≡ i.Literal number ∷ i.Add ∷ [])
-  IsAdjustmentCode (adjustment.Minus n) code = (number : NumberIndex) × HasInteger tables number (number_of n) × (code ≡ i.Literal number ∷ i.Subtract ∷ [])
+  IsAdjustmentCode (adjustment.Plus n) code = (number : NumberIndex) × HasInteger tables number (number_of n) × (code ≡ i.Literal number ∷ i.Calculate c.Add ∷ [])
+  IsAdjustmentCode (adjustment.Minus n) code = (number : NumberIndex) × HasInteger tables number (number_of n) × (code ≡ i.Literal number ∷ i.Calculate c.Subtract ∷ [])
 
   -- The number of a subscript comes on the stack of numbers. Its item is an integer, as the rules want it.
   abbrev pub IsSubscriptCode : written.Subscript → List DataInstruction → Type 0

@@ -9,3 +9,5 @@ pub mod Joining
 pub mod Codes
 pub mod Statements
 pub mod Chains
+pub mod ArithmeticCodes
+pub mod ConditionCodes

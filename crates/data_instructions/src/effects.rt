@@ -6,10 +6,12 @@ ghost use Rattle.text_ops.specs.Lengths as lengths;
 ghost use Rattle.source_tree.specs.MoveRules as rules;
 ghost use Rattle.data_instructions.specs.Shapes as spec;
 
+use crate::calculation::Calculation;
 use crate::index::ItemIndex;
 use crate::instruction::DataInstruction;
 use crate::shape::{PlaceShape, Shape, Stacks};
 use crate::tables::{DataItem, DataTables};
+use crate::test::Test;
 use edited_move::{Receiving, Sending, is_permitted, is_short};
 use items::{Item, Kind, Numeric, OperationalSign, Taken, Usage};
 use std::alloc::AllocError;
@@ -81,15 +83,22 @@ fn without(count: usize, stacks: Stacks) -> Option<Stacks>
     None
 }
 
+/// So many numbers more.
+fn and_more(count: usize, stacks: Stacks) -> Result<Option<Stacks>, AllocError>
+    ensures { IfOk result (λ after. after ≡ spec.and_more count stacks) }
+{
+    let Stacks { numbers, places } = stacks;
+    let Some(numbers) = numbers.checked_add(count) else {
+        return Err(AllocError);
+    };
+    Ok(Some(Stacks { numbers, places }))
+}
+
 /// One number more.
 fn and_one(stacks: Stacks) -> Result<Option<Stacks>, AllocError>
     ensures { IfOk result (λ after. after ≡ spec.and_one stacks) }
 {
-    let Stacks { numbers, places } = stacks;
-    let Some(numbers) = numbers.checked_add(1) else {
-        return Err(AllocError);
-    };
-    Ok(Some(Stacks { numbers, places }))
+    and_more(1, stacks)
 }
 
 /// A new place.
@@ -162,6 +171,57 @@ fn and_one_of(stacks: Option<Stacks>) -> Result<Option<Stacks>, AllocError>
     }
 }
 
+/// How many numbers a calculation takes from the stack.
+fn taken_by(calculation: Calculation) -> usize
+    ensures { result ≡ spec.taken_by calculation }
+{
+    match calculation {
+        Calculation::Add | Calculation::Subtract | Calculation::Multiply | Calculation::Divide => 2,
+        Calculation::Duplicate { depth } => depth as usize + 1,
+        Calculation::Negate | Calculation::Truncate { .. } | Calculation::Discard => 1,
+    }
+}
+
+/// How many numbers it puts there.
+fn put_by(calculation: Calculation) -> usize
+    ensures { result ≡ spec.put_by calculation }
+{
+    match calculation {
+        Calculation::Duplicate { depth } => depth as usize + 2,
+        Calculation::Discard => 0,
+        _ => 1,
+    }
+}
+
+/// The numbers after a calculation.
+fn calculating(calculation: Calculation, stacks: Stacks) -> Result<Option<Stacks>, AllocError>
+    ensures { IfOk result (λ after. after ≡ spec.calculating calculation stacks) }
+{
+    match without(taken_by(calculation), stacks) {
+        Some(rest) => and_more(put_by(calculation), rest),
+        None => Ok(None),
+    }
+}
+
+/// Takes the newest number and the newest place.
+fn storing(stacks: Stacks) -> Option<Stacks>
+    ensures { result ≡ spec.storing stacks }
+{
+    without_place(without(1, stacks)?)
+}
+
+/// The stacks after a test.
+fn stacks_tested(one: Test, stacks: Stacks) -> Option<Stacks>
+    ensures { result ≡ spec.stacks_tested one stacks }
+{
+    match one {
+        Test::Compare { .. } | Test::Class { .. } => without_place(stacks),
+        Test::CompareNumbers { .. } => without(2, stacks),
+        Test::CompareLiteral { .. } | Test::OrEqual { .. } | Test::OrWithin { .. } | Test::Invert =>
+            Some(stacks),
+    }
+}
+
 /// The stacks after an instruction.
 fn stacks_after(
     tables: &DataTables,
@@ -181,13 +241,16 @@ fn stacks_after(
             Some(_) => and_one(stacks),
             None => Ok(None),
         },
-        DataInstruction::Add | DataInstruction::Subtract => and_one_of(without(2, stacks)),
+        DataInstruction::Calculate(calculation) => calculating(calculation, stacks),
+        DataInstruction::Store { .. } => Ok(storing(stacks)),
+        DataInstruction::Test(test) => Ok(stacks_tested(test, stacks)),
+        DataInstruction::VoidIfTrue => and_one_of(without(1, stacks)),
         DataInstruction::Take | DataInstruction::Move | DataInstruction::Append => {
             Ok(without_place(stacks))
         }
-        DataInstruction::TakeLiteral { .. } | DataInstruction::AppendLiteral { .. } => {
-            Ok(Some(stacks))
-        }
+        DataInstruction::ClearTruth
+        | DataInstruction::TakeLiteral { .. }
+        | DataInstruction::AppendLiteral { .. } => Ok(Some(stacks)),
     }
 }
 
@@ -240,6 +303,45 @@ fn moving(
     }
 }
 
+/// The sender, which has to be there.
+fn held(sender: Option<Taken>) -> Option<Option<Taken>>
+    ensures { result ≡ spec.and_then sender spec.held }
+{
+    Some(Some(sender?))
+}
+
+/// What is known of the sender, where an entry of the table of senders is there.
+fn with_entry(
+    tables: &DataTables,
+    number: usize,
+    rest: Option<Option<Taken>>,
+) -> Option<Option<Taken>>
+    ensures { result ≡ spec.with_entry tables.now number rest }
+{
+    if number < tables.senders.len() {
+        rest
+    } else {
+        None
+    }
+}
+
+/// What is taken after a test.
+fn sender_tested(tables: &DataTables, one: Test, sender: Option<Taken>) -> Option<Option<Taken>>
+    ensures { result ≡ spec.sender_tested tables.now one sender }
+{
+    match one {
+        Test::Compare { .. } => held(sender),
+        Test::CompareLiteral { literal, .. } | Test::OrEqual { literal } => {
+            with_entry(tables, literal.number as usize, held(sender))
+        }
+        Test::OrWithin { first } => {
+            let first = first.number as usize;
+            with_entry(tables, first, with_entry(tables, first + 1, held(sender)))
+        }
+        Test::CompareNumbers { .. } | Test::Class { .. } | Test::Invert => Some(sender),
+    }
+}
+
 /// What is taken after an instruction.
 fn sender_after(
     tables: &DataTables,
@@ -255,6 +357,7 @@ fn sender_after(
             Some(Some(tables.senders.get(literal.number as usize)?.taken))
         }
         DataInstruction::Move => moving(tables, newest, sender),
+        DataInstruction::Test(test) => sender_tested(tables, test, sender),
         _ => Some(sender),
     }
 }

@@ -1,6 +1,8 @@
 //! The instructions on data.
 
+use crate::calculation::Calculation;
 use crate::index::{ItemIndex, NumberIndex, SenderIndex, TextIndex};
+use crate::test::Test;
 use std::mem::size_of;
 
 /// An instruction that uses none of the budget, and after which the next one comes, unless it ends in a fault.
@@ -15,10 +17,19 @@ pub enum DataInstruction {
     Push,
     /// Puts a numeric literal on the stack of numbers.
     Literal { number: NumberIndex },
-    /// Takes two numbers, and puts their sum on the stack: the one below and the newest.
-    Add,
-    /// The same with their difference: the one below without the newest.
-    Subtract,
+    /// Computes with numbers of the stack.
+    Calculate(Calculation),
+    /// Takes the newest number and a place, and stores the number there as arithmetic statements do (COBOL-85, Nucleus, "The
+    /// ROUNDED phrase", "The ON SIZE ERROR phrase"); an edited item is edited by its picture. Fault 90 where the item is neither
+    /// numeric nor numeric edited. After a size error the truth is true: then nothing is stored where an item is kept or there
+    /// is no number, and else the low digits.
+    Store { rounded: bool, keep: bool },
+    /// The truth becomes false.
+    ClearTruth,
+    /// Sets the truth by what is asked.
+    Test(Test),
+    /// Where the truth is true, the newest number becomes none.
+    VoidIfTrue,
     /// Takes a place, and keeps its bytes as the sender.
     Take,
     /// Keeps a literal as the sender.

@@ -2,6 +2,7 @@
 //! code, so that an instruction whose operands are known is never stuck.
 #![tactic(auto)]
 
+mod calculation;
 mod effects;
 mod fault;
 mod index;
@@ -12,12 +13,15 @@ mod order;
 mod place;
 mod shape;
 mod tables;
+mod test;
 
+pub use calculation::Calculation;
 pub use effects::{DATE, accepting, dating, effect, showing};
 pub use fault::ProgramFault;
 pub use index::{ItemIndex, NumberIndex, SenderIndex, TextIndex};
 pub use instruction::DataInstruction;
-pub use laws::{joining_law, safety_law, shape_law, statement_law};
+pub use laws::{condition_law, expression_law, joining_law, safety_law, shape_law, statement_law};
 pub use place::Place;
 pub use shape::{PlaceShape, PlaceShapes, Shape, Stacks};
 pub use tables::{DataItem, DataTables, LiteralSender};
+pub use test::Test;

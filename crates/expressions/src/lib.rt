@@ -16,7 +16,9 @@ pub use arithmetic::expression;
 pub use laws::{expression_law, literal_law, looking_law, operand_law, reference_law};
 pub use literals::{begins_literal, literal};
 pub use marks::{PlusOrMinus, begins_left, left, right};
-pub use operands::{Operands, begins_operand, number_operand, operand};
+pub use operands::{
+    NumberOperands, Operands, begins_number_operand, begins_operand, number_operand, operand,
+};
 pub use passing::{
     after_reference_before, begins_expression, begins_operator, past_parentheses, past_reference,
 };

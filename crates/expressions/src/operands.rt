@@ -4,7 +4,7 @@ ghost use Rattle.std.specs.Prelude.{◌≡◌};
 ghost use Rattle.grammar.specs.Reading.{Reads};
 ghost use Rattle.expressions.specs.Operands as spec;
 
-use crate::literals::{begins_literal, literal, number_literal};
+use crate::literals::{begins_literal, begins_number, literal, number_literal};
 use crate::references::reference;
 use grammar::{Part, ReadFault, Tokens, begins_name};
 use source_tree::Operand;
@@ -62,6 +62,13 @@ pub fn number_operand(alloc: Global, tokens: &mut Tokens<'_>) -> Result<Operand,
     }
 }
 
+/// The next token begins an operand that is a number.
+pub fn begins_number_operand(tokens: &Tokens<'_>) -> bool
+    ensures { result ≡ spec.begins_number_operand tokens.now }
+{
+    begins_name(tokens) || begins_number(tokens)
+}
+
 /// Operands in a list.
 pub struct Operands;
 
@@ -80,5 +87,26 @@ impl Part<Operand> for Operands {
 
     fn begins(&self, tokens: &Tokens<'_>) -> bool {
         begins_operand(tokens)
+    }
+}
+
+/// Operands that are numbers, in a list.
+pub struct NumberOperands;
+
+impl Part<Operand> for NumberOperands {
+    ghost use Rattle.expressions.specs.Operands as spec;
+
+    ghost ready = { λ _. Unit {0} };
+
+    ghost reading = { λ _. spec.number_operand_reader };
+
+    ghost beginning = { λ _. spec.begins_number_operand };
+
+    fn read(&self, alloc: Global, tokens: &mut Tokens<'_>) -> Result<Operand, ReadFault> {
+        number_operand(alloc, tokens)
+    }
+
+    fn begins(&self, tokens: &Tokens<'_>) -> bool {
+        begins_number_operand(tokens)
     }
 }

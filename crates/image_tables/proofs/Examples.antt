@@ -8,7 +8,11 @@ use Rattle.items.specs.declared.usage.OperationalSign.TheVariants as s
 use Rattle.items.specs.declared.taken.Taken.TheVariants as t
 use Rattle.items.specs.declared.taken.Figurative.TheVariants as f
 use Rattle.data_instructions.specs.declared.tables.DataTables.{DataTables}
+use Rattle.data_instructions.specs.declared.calculation.Calculation.TheVariants as c
+use Rattle.data_instructions.specs.declared.test.Test.TheVariants as test
 use Rattle.data_instructions.specs.declared.instruction.DataInstruction.TheVariants as i
+use Rattle.source_tree.specs.declared.condition.Relation.TheVariants as relation
+use Rattle.source_tree.specs.declared.condition.Class.TheVariants as class
 use Rattle.image_tables.specs.declared.fault.ImageFault.TheVariants as faults
 use Rattle.image_tables.specs.Spelling.{count_bytes, short_bytes, wide_bytes, text_bytes}
 use Rattle.image_tables.specs.Reading.{count_at, short_at, wide_at, byte_at, told_at, flag_of, entries_at, table_at, text_at}
@@ -17,6 +21,7 @@ use Rattle.image_tables.specs.Pictures.{run_bytes, symbol_of, run_at, editing_at
 use Rattle.image_tables.specs.Fractions.{fraction_bytes, fraction_at}
 use Rattle.image_tables.specs.Senders.{sender_bytes, plain_taken_of, taken_at, sender_at}
 use Rattle.image_tables.specs.Tables.{data_item_bytes, tables_bytes, data_item_at, tables_at}
+use Rattle.image_tables.specs.Tests.{relation_of, class_of}
 use Rattle.image_tables.specs.Instructions.{data_instruction_bytes, plain_instruction_of, data_instruction_at}
 
 text_spelt : text_bytes (65 ∷ 10 ∷ []) ≡ 0 ∷ 0 ∷ 0 ∷ 0 ∷ 0 ∷ 0 ∷ 0 ∷ 2 ∷ 65 ∷ 10 ∷ []
@@ -54,9 +59,28 @@ zero_spelt : sender_bytes (record { taken = t.Figurative f.Zero; bytes = [] }) �
 unfolding count_bytes
 zero_spelt = refl
 
-index_spelt : data_instruction_bytes (i.Index 12 258) ≡ 7 ∷ 0 ∷ 0 ∷ 0 ∷ 12 ∷ 0 ∷ 0 ∷ 1 ∷ 2 ∷ []
+index_spelt : data_instruction_bytes (i.Index 12 258) ≡ 17 ∷ 0 ∷ 0 ∷ 0 ∷ 12 ∷ 0 ∷ 0 ∷ 1 ∷ 2 ∷ []
 unfolding short_bytes
 index_spelt = refl
+
+-- ROUNDED, where SIZE ERROR keeps the item
+store_spelt : data_instruction_bytes (i.Store true true) ≡ 31 ∷ []
+store_spelt = refl
+
+truncate_spelt : data_instruction_bytes (i.Calculate (c.Truncate 18)) ≡ 37 ∷ 18 ∷ []
+truncate_spelt = refl
+
+duplicate_spelt : data_instruction_bytes (i.Calculate (c.Duplicate 258)) ≡ 38 ∷ 0 ∷ 0 ∷ 1 ∷ 2 ∷ []
+unfolding short_bytes
+duplicate_spelt = refl
+
+-- not equal to the literal 258
+compare_literal_spelt : data_instruction_bytes (i.Test (test.CompareLiteral relation.NotEqual (record { number = 258 }))) ≡ 41 ∷ 0 ∷ 0 ∷ 1 ∷ 2 ∷ 4 ∷ []
+unfolding short_bytes
+compare_literal_spelt = refl
+
+class_spelt : data_instruction_bytes (i.Test (test.Class class.AlphabeticLower)) ≡ 43 ∷ 3 ∷ []
+class_spelt = refl
 
 -- ---- what is refused
 
@@ -94,14 +118,41 @@ no_editing : editing_at (2 ∷ []) ≡ Err faults.Value
 unfolding editing_at byte_at
 no_editing = refl
 
--- 5 begins another instruction
-no_instruction : data_instruction_at (5 ∷ []) ≡ Err faults.Value
+-- 15 begins another instruction, and 27 and 47 none
+no_instruction : data_instruction_at (15 ∷ []) ≡ Err faults.Value
 unfolding data_instruction_at byte_at plain_instruction_of
 no_instruction = refl
 
-cut_instruction : data_instruction_at (6 ∷ 0 ∷ 0 ∷ 0 ∷ []) ≡ Err faults.Length
+between : data_instruction_at (27 ∷ []) ≡ Err faults.Value
+unfolding data_instruction_at byte_at plain_instruction_of
+between = refl
+
+behind_the_last : data_instruction_at (47 ∷ []) ≡ Err faults.Value
+unfolding data_instruction_at byte_at plain_instruction_of
+behind_the_last = refl
+
+cut_instruction : data_instruction_at (16 ∷ 0 ∷ 0 ∷ 0 ∷ []) ≡ Err faults.Length
 unfolding data_instruction_at byte_at short_at
 cut_instruction = refl
+
+-- no relation has byte 7, and no class 5
+no_relation : data_instruction_at (40 ∷ 7 ∷ []) ≡ Err faults.Value
+unfolding data_instruction_at byte_at told_at relation_of
+no_relation = refl
+
+no_class : data_instruction_at (43 ∷ 5 ∷ []) ≡ Err faults.Value
+unfolding data_instruction_at byte_at told_at class_of
+no_class = refl
+
+-- without its relation
+cut_compare : data_instruction_at (41 ∷ 0 ∷ 0 ∷ 0 ∷ 1 ∷ []) ≡ Err faults.Length
+unfolding data_instruction_at byte_at told_at short_at
+cut_compare = refl
+
+-- without its scale
+cut_truncate : data_instruction_at (37 ∷ []) ≡ Err faults.Length
+unfolding data_instruction_at byte_at
+cut_truncate = refl
 
 -- ---- tables
 

@@ -7,6 +7,7 @@ pub mod Pictures
 pub mod Fractions
 pub mod Senders
 pub mod DataTables
+pub mod Tests
 pub mod Instructions
 -- Reading entries one after the other
 pub mod Entries

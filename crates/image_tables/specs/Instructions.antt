@@ -1,22 +1,56 @@
--- The instructions on data in an image (own choice). The first bytes 1 to 5 are those of other instructions.
-use Rattle.std.specs.Prelude.{ℕ, ◌==◌, List, [], ◌∷◌, ◌++◌, Option, None, Some, Ok, if◌then◌else◌}
+-- The instructions on data in an image (own choice). Smaller first bytes are those of other instructions.
+use Rattle.std.specs.Prelude.{ℕ, ◌==◌, Bool, true, false, List, [], ◌∷◌, ◌++◌, Option, None, Some, Ok, if◌then◌else◌}
+use Rattle.data_instructions.specs.declared.calculation.Calculation.{Calculation}
+use Rattle.data_instructions.specs.declared.calculation.Calculation.TheVariants as c
+use Rattle.data_instructions.specs.declared.test.Test.TheVariants as t
 use Rattle.data_instructions.specs.declared.instruction.DataInstruction.{DataInstruction}
 use Rattle.data_instructions.specs.declared.instruction.DataInstruction.TheVariants as i
-use Rattle.image_tables.specs.Spelling.{short_bytes, IsShort}
+use Rattle.image_tables.specs.Spelling.{short_bytes, IsByte, IsShort}
 use Rattle.image_tables.specs.Reading.{Read, ◌>>=◌, or_value, byte_at, short_at}
+use Rattle.image_tables.specs.Tests.{test_bytes, HasEntry, relating_at, class_at, compare_literal_at, compare, compare_numbers, or_equal, or_within}
+
+-- a store, by whether it rounds and whether it keeps the item after a size error
+abbrev pub store_byte : Bool → Bool → ℕ
+store_byte false false = 28
+store_byte true false = 29
+store_byte false true = 30
+store_byte true true = 31
+
+abbrev pub calculation_bytes : Calculation → List ℕ
+calculation_bytes c.Add = 32 ∷ []
+calculation_bytes c.Subtract = 33 ∷ []
+calculation_bytes c.Multiply = 34 ∷ []
+calculation_bytes c.Divide = 35 ∷ []
+calculation_bytes c.Negate = 36 ∷ []
+calculation_bytes (c.Truncate scale) = 37 ∷ scale ∷ []
+calculation_bytes (c.Duplicate depth) = 38 ∷ short_bytes depth
+calculation_bytes c.Discard = 39 ∷ []
 
 abbrev pub data_instruction_bytes : DataInstruction → List ℕ
-data_instruction_bytes (i.Place item) = 6 ∷ short_bytes item.number
-data_instruction_bytes (i.Index stride count) = 7 ∷ (short_bytes stride ++ short_bytes count)
-data_instruction_bytes i.Push = 8 ∷ []
-data_instruction_bytes (i.Literal number) = 9 ∷ short_bytes number.number
-data_instruction_bytes i.Add = 10 ∷ []
-data_instruction_bytes i.Subtract = 11 ∷ []
-data_instruction_bytes i.Take = 12 ∷ []
-data_instruction_bytes (i.TakeLiteral literal) = 13 ∷ short_bytes literal.number
-data_instruction_bytes i.Move = 14 ∷ []
-data_instruction_bytes i.Append = 15 ∷ []
-data_instruction_bytes (i.AppendLiteral text) = 16 ∷ short_bytes text.number
+data_instruction_bytes (i.Place item) = 16 ∷ short_bytes item.number
+data_instruction_bytes (i.Index stride count) = 17 ∷ (short_bytes stride ++ short_bytes count)
+data_instruction_bytes i.Push = 18 ∷ []
+data_instruction_bytes (i.Literal number) = 19 ∷ short_bytes number.number
+data_instruction_bytes i.Take = 20 ∷ []
+data_instruction_bytes (i.TakeLiteral literal) = 21 ∷ short_bytes literal.number
+data_instruction_bytes i.Move = 22 ∷ []
+data_instruction_bytes i.Append = 23 ∷ []
+data_instruction_bytes (i.AppendLiteral text) = 24 ∷ short_bytes text.number
+data_instruction_bytes i.ClearTruth = 25 ∷ []
+data_instruction_bytes i.VoidIfTrue = 26 ∷ []
+data_instruction_bytes (i.Store rounded keep) = store_byte rounded keep ∷ []
+data_instruction_bytes (i.Calculate one) = calculation_bytes one
+data_instruction_bytes (i.Test one) = test_bytes one
+
+abbrev pub HasNumber : Calculation → Type 0
+HasNumber (c.Truncate scale) = IsByte scale
+HasNumber (c.Duplicate depth) = IsShort depth
+HasNumber c.Add = Unit {0}
+HasNumber c.Subtract = Unit {0}
+HasNumber c.Multiply = Unit {0}
+HasNumber c.Divide = Unit {0}
+HasNumber c.Negate = Unit {0}
+HasNumber c.Discard = Unit {0}
 
 -- Each number of the instruction fits its bytes. This is so of each `DataInstruction` that a program holds.
 abbrev pub HasShorts : DataInstruction → Type 0
@@ -24,25 +58,42 @@ HasShorts (i.Place item) = IsShort item.number
 HasShorts (i.Index stride count) = IsShort stride × IsShort count
 HasShorts i.Push = Unit {0}
 HasShorts (i.Literal number) = IsShort number.number
-HasShorts i.Add = Unit {0}
-HasShorts i.Subtract = Unit {0}
 HasShorts i.Take = Unit {0}
 HasShorts (i.TakeLiteral literal) = IsShort literal.number
 HasShorts i.Move = Unit {0}
 HasShorts i.Append = Unit {0}
 HasShorts (i.AppendLiteral text) = IsShort text.number
+HasShorts i.ClearTruth = Unit {0}
+HasShorts i.VoidIfTrue = Unit {0}
+HasShorts (i.Store rounded keep) = Unit {0}
+HasShorts (i.Calculate one) = HasNumber one
+HasShorts (i.Test one) = HasEntry one
 
 -- ---- reading
+
+abbrev pub store : Bool → Bool → DataInstruction
+store rounded keep = i.Store rounded keep
 
 -- an instruction of one byte
 unfoldable pub plain_instruction_of : ℕ → Option DataInstruction
 plain_instruction_of byte =
-    if byte == 8 then Some i.Push
-    else if byte == 10 then Some i.Add
-    else if byte == 11 then Some i.Subtract
-    else if byte == 12 then Some i.Take
-    else if byte == 14 then Some i.Move
-    else if byte == 15 then Some i.Append
+    if byte == 18 then Some i.Push
+    else if byte == 20 then Some i.Take
+    else if byte == 22 then Some i.Move
+    else if byte == 23 then Some i.Append
+    else if byte == 25 then Some i.ClearTruth
+    else if byte == 26 then Some i.VoidIfTrue
+    else if byte == 28 then Some (store false false)
+    else if byte == 29 then Some (store true false)
+    else if byte == 30 then Some (store false true)
+    else if byte == 31 then Some (store true true)
+    else if byte == 32 then Some (i.Calculate c.Add)
+    else if byte == 33 then Some (i.Calculate c.Subtract)
+    else if byte == 34 then Some (i.Calculate c.Multiply)
+    else if byte == 35 then Some (i.Calculate c.Divide)
+    else if byte == 36 then Some (i.Calculate c.Negate)
+    else if byte == 39 then Some (i.Calculate c.Discard)
+    else if byte == 46 then Some (i.Test t.Invert)
     else None
 
 -- an instruction with one number
@@ -57,6 +108,14 @@ index_at bytes = do
   count ← short_at stride.1
   Ok (i.Index stride.0 count.0, count.1)
 
+abbrev pub truncate : ℕ → DataInstruction
+truncate scale = i.Calculate (c.Truncate scale)
+
+abbrev pub truncate_at : List ℕ → Read DataInstruction
+truncate_at bytes = do
+  scale ← byte_at bytes
+  Ok (truncate scale.0, scale.1)
+
 abbrev pub place : ℕ → DataInstruction
 place number = i.Place (record { number = number })
 
@@ -69,15 +128,31 @@ take_literal number = i.TakeLiteral (record { number = number })
 abbrev pub append_literal : ℕ → DataInstruction
 append_literal number = i.AppendLiteral (record { number = number })
 
+abbrev pub duplicate : ℕ → DataInstruction
+duplicate depth = i.Calculate (c.Duplicate depth)
+
+-- the test whose first byte this is, or what a byte is alone
+abbrev pub test_from : ℕ → List ℕ → Read DataInstruction
+test_from byte bytes =
+    if byte == 40 then relating_at compare bytes
+    else if byte == 41 then compare_literal_at bytes
+    else if byte == 42 then relating_at compare_numbers bytes
+    else if byte == 43 then class_at bytes
+    else if byte == 44 then naming_at or_equal bytes
+    else if byte == 45 then naming_at or_within bytes
+    else (or_value (plain_instruction_of byte) >>= λ one. Ok (one, bytes))
+
 -- the instruction whose first byte this is
 abbrev pub instruction_from : ℕ → List ℕ → Read DataInstruction
 instruction_from byte bytes =
-    if byte == 6 then naming_at place bytes
-    else if byte == 7 then index_at bytes
-    else if byte == 9 then naming_at literal bytes
-    else if byte == 13 then naming_at take_literal bytes
-    else if byte == 16 then naming_at append_literal bytes
-    else (or_value (plain_instruction_of byte) >>= λ one. Ok (one, bytes))
+    if byte == 16 then naming_at place bytes
+    else if byte == 17 then index_at bytes
+    else if byte == 19 then naming_at literal bytes
+    else if byte == 21 then naming_at take_literal bytes
+    else if byte == 24 then naming_at append_literal bytes
+    else if byte == 37 then truncate_at bytes
+    else if byte == 38 then naming_at duplicate bytes
+    else test_from byte bytes
 
 unfoldable pub data_instruction_at : List ℕ → Read DataInstruction
 data_instruction_at bytes = do

@@ -6,5 +6,6 @@ pub mod Pictures
 pub mod Fractions
 pub mod Senders
 pub mod Tables
+pub mod Tests
 pub mod Instructions
 pub use Rattle.answers.specs.Answer

@@ -13,6 +13,7 @@ mod number;
 mod sender;
 mod table;
 mod tables;
+mod test;
 mod text;
 mod usage;
 

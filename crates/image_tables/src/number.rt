@@ -1,11 +1,12 @@
 //! Numbers in an image, the highest byte first.
 
-ghost use Rattle.std.specs.Prelude.{◌≡◌, ◌++◌, OnOk};
+ghost use Rattle.std.specs.Prelude.{◌≡◌, ◌++◌, ◌∷◌, OnOk};
 ghost use Rattle.answers.specs.Answer.{Gives};
 ghost use Rattle.image_tables.specs.Faults.{fault_of};
 ghost use Rattle.image_tables.specs.Spelling.{count_bytes, short_bytes, wide_bytes, IsCount, IsShort, IsWide};
 ghost use Rattle.image_tables.specs.Reading.{count_at, short_at, wide_at};
 
+use crate::byte::put_byte;
 use crate::fault::{ImageError, ImageFault};
 use crate::table::TableEntry;
 use byteorder::{BigEndian, ByteOrder};
@@ -50,6 +51,15 @@ pub fn put_short(out: &mut Vec<u8>, number: u32) -> Result<(), AllocError>
     let mut bytes = [0; SHORT_WIDTH];
     BigEndian::write_u32(&mut bytes, number);
     out.extend_from_slice(&bytes)
+}
+
+/// Puts a byte, and a number of four bytes behind it.
+pub fn put_naming(out: &mut Vec<u8>, first: u8, number: u32) -> Result<(), AllocError>
+    ensures bytes { OnOk result (out.new.items ≡ out.old.items ++ (first ∷ short_bytes number)) }
+    ensures fits { IsShort number }
+{
+    put_byte(out, first)?;
+    put_short(out, number)
 }
 
 /// The number of four bytes in front, and the bytes after it. 71 where there are fewer.

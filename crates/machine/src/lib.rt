@@ -2,9 +2,11 @@
 //! it at each moment, and only a failed device keeps it from its end.
 #![tactic(auto)]
 
+mod accept;
 mod ended;
 mod loaded;
 mod machine;
+mod outside;
 mod registers;
 mod room;
 mod show;

@@ -6,7 +6,7 @@ ghost use Rattle.machine.specs.Standing.{IsLoaded};
 
 use crate::room::room_along;
 use code_image::{Code, CounterIndex};
-use run_time_data::Data;
+use run_time_data::{Data, longest_item};
 use std::alloc::{AllocError, Global};
 
 /// What a run changes, in room that is made once.
@@ -14,6 +14,8 @@ use std::alloc::{AllocError, Global};
 pub(crate) struct Registers {
     /// One for each address.
     pub(crate) counters: Vec<u64>,
+    /// Where a console line is read, as much of it as an item takes.
+    pub(crate) input: Vec<u8>,
     /// What instructions on data work on.
     pub(crate) scratch: Data,
     /// The line of the statement that last used one of the budget; 0 before the first.
@@ -27,10 +29,12 @@ impl Registers {
         ensures { IfOk result (IsLoaded code.now) }
     {
         let counters = vec![in alloc; 0; code.instructions.len()]?;
+        let input = vec![in alloc; 0; longest_item(&code.tables)]?;
         let room = room_along(alloc, code)?;
         let scratch = Data::new(alloc, &code.tables, room)?;
         Ok(Registers {
             counters,
+            input,
             scratch,
             line: 0,
         })

@@ -3,3 +3,4 @@ pub mod Grown
 pub mod Within
 pub mod ItemCalls
 pub mod Picked
+pub mod ConditionCalls

@@ -1,5 +1,5 @@
 -- The items of entries, with their names and those around them.
-use Rattle.std.specs.Prelude.{◌≡◌, List, [], ◌∷◌, ◌++◌, Some, slice_get}
+use Rattle.std.specs.Prelude.{List, [], ◌∷◌, ◌++◌}
 use Rattle.source_tree.specs.declared.name.Name.{Name}
 use Rattle.source_tree.specs.declared.entry.ItemEntry.{ItemEntry}
 use Rattle.source_tree.specs.declared.reference.QualifiedName.{QualifiedName}
@@ -8,8 +8,7 @@ use Rattle.source_tree.specs.Levels.{Forest, End, Tree}
 use Rattle.source_tree.specs.Names.{with_name}
 use Rattle.source_tree.specs.Places.{Placed}
 use Rattle.names.specs.declared.look_up.LookUp.{LookUp}
-use Rattle.names.specs.declared.look_up.LookUp.TheVariants.{Unknown, One, Several}
-use Rattle.names.specs.Positions.{Called}
+use Rattle.names.specs.Positions.{Called, IsFound}
 
 abbrev pub called_item : Placed → Called
 called_item one = record { name = one.entry.name; around = one.groups }
@@ -25,6 +24,4 @@ entry_calls groups one inner = record { name = one.name; around = groups } ∷ i
 
 -- What was found is what the name names: nothing, the item of that number alone, or several items.
 abbrev pub IsNamed : List Placed → QualifiedName → LookUp → Type 0
-IsNamed items reference Unknown = tree.items_named items reference ≡ []
-IsNamed items reference (One n) = (one : Placed) × (slice_get items n ≡ Some one) × (tree.items_named items reference ≡ one ∷ [])
-IsNamed items reference Several = (one : Placed) × (other : Placed) × (more : List Placed) × (tree.items_named items reference ≡ one ∷ other ∷ more)
+IsNamed items reference = IsFound items (tree.items_named items reference)

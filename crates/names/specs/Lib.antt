@@ -1,3 +1,4 @@
 pub mod Positions
 pub mod Table
 pub mod Items
+pub mod Conditions

@@ -1,5 +1,5 @@
 -- What names name, by the order of declaration.
-use Rattle.std.specs.Prelude.{ℕ, zero, suc, Bool, false, ◌&&◌, bytes_eq, if◌then◌else◌, List, [], ◌∷◌, ◌++◌, length, Option, Some, None, get_or}
+use Rattle.std.specs.Prelude.{◌≡◌, ℕ, zero, suc, Bool, false, ◌&&◌, bytes_eq, if◌then◌else◌, List, [], ◌∷◌, ◌++◌, length, Option, Some, None, get_or, slice_get}
 use Rattle.source_tree.specs.declared.name.Name.{Name}
 use Rattle.source_tree.specs.declared.reference.QualifiedName.{QualifiedName}
 use Rattle.source_tree.specs.Names.{is_within, is_called}
@@ -45,3 +45,9 @@ with_one n _ = Several
 
 abbrev pub look_up : QualifiedName → List Called → LookUp
 look_up reference calls = found (positions (is_named reference) calls (length calls))
+
+-- What was found is what is named: nothing, the thing of that number alone, or several things.
+abbrev pub IsFound : {A : Type 0} → List A → List A → LookUp → Type 0
+IsFound all named Unknown = named ≡ []
+IsFound {A} all named (One n) = (one : A) × (slice_get all n ≡ Some one) × (named ≡ one ∷ [])
+IsFound {A} all named Several = (one : A) × (other : A) × (more : List A) × (named ≡ one ∷ other ∷ more)

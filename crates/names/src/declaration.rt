@@ -1,6 +1,7 @@
 //! The names of items, in the order of their entries.
 
 ghost use Rattle.std.specs.Prelude.{◌≡◌, ◌++◌, [], map, length, IfOk};
+ghost use Rattle.std.specs.Option.{option_copied};
 ghost use Rattle.source_tree.specs.EntryRules.{entry_rules};
 ghost use Rattle.source_tree.specs.Levels.{nested};
 ghost use Rattle.source_tree.specs.Names.{with_name};
@@ -14,13 +15,13 @@ use entries::{Sibling, levels_are_told, next_item};
 use source_tree::{Entry, Name};
 use std::alloc::{AllocError, Global};
 
-/// The names around the entries of a group, the nearest first.
-fn names_within<'a>(
+/// The names around what stands in an item of that name, the nearest first.
+pub(crate) fn names_within<'a>(
     alloc: Global,
-    name: &'a Option<Name>,
+    name: Option<&'a Name>,
     groups: &[&'a Name],
 ) -> Result<Vec<&'a Name>, AllocError>
-    ensures { IfOk result (λ all. names_of all.items ≡ with_name name.now (names_of groups.now)) }
+    ensures { IfOk result (λ all. names_of all.items ≡ with_name (option_copied name.entry) (names_of groups.now)) }
 {
     let mut all = Vec::from_slice(alloc, groups)?;
     if let Some(name) = name {
@@ -42,9 +43,10 @@ fn declare_item<'a>(
     ensures table { IfOk result IsTable }
     ensures calls { IfOk result (λ new. calls_in new ≡ calls_in table.entry ++ spec.entry_calls (names_of groups.now) one.entry.entry.now (nested one.entry.inner.now)) }
 {
+    let name = one.entry.name.as_ref();
     let around = Vec::from_slice(alloc, groups)?;
-    let declared = table.with(one.entry.name.as_ref(), around)?;
-    let within = names_within(alloc, &one.entry.name, groups)?;
+    let declared = table.with(name, around)?;
+    let within = names_within(alloc, name, groups)?;
     declare_group(alloc, one.inner, &within, declared)
 }
 

@@ -21,7 +21,7 @@ pub struct Declared<'a> {
 /// What is declared, by its names. Each thing has a number: how many were declared before it.
 #[derive(Drop)]
 pub struct NameTable<'a> {
-    declared: Vec<Declared<'a>>,
+    pub(crate) declared: Vec<Declared<'a>>,
     /// The last thing of each name, by the name's characters.
     last: IndexMap<&'a [u8], usize>,
     /// For each thing the one before it that has the same name.

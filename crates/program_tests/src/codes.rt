@@ -1,5 +1,8 @@
 //! Rows of code, its images and its runs: HELLO at each budget, failing shows, images cut and changed.
 
+ghost use Rattle.std.specs.Prelude.{All};
+ghost use Rattle.machine.specs.Ends.{IsDigit};
+
 use crate::asserted::{same, same_in};
 use check_rules::check;
 use code_image::{Code, ImageError, Instruction, from_bytes, to_bytes, verify};
@@ -132,7 +135,20 @@ pub(crate) fn run_on(
     code: Code,
     budget: u64,
 ) -> Result<(Ended, Vec<u8>), Fail> {
-    let machine = Machine::new(alloc, verify(alloc, code)?, DAY)?;
+    run_on_day(alloc, station, code, budget, DAY)
+}
+
+/// The same on a day.
+pub(crate) fn run_on_day(
+    alloc: Global,
+    station: &mut MemoryStation,
+    code: Code,
+    budget: u64,
+    day: [u8; 6],
+) -> Result<(Ended, Vec<u8>), Fail>
+    requires { All IsDigit day }
+{
+    let machine = Machine::new(alloc, verify(alloc, code)?, day)?;
     let ended = machine.run(station, budget);
     Ok((ended, station.shown()?))
 }
@@ -244,8 +260,8 @@ fn hello_image(alloc: Global) -> Result<Vec<u8>, AllocError> {
     // one code paragraph that starts at 0, and seven instructions
     put_counts(&mut image, &[1, 0, 7])?;
     image.extend_from_slice(&[1, 0, 0, 0, 5])?;
-    image.extend_from_slice(&[16, 0, 0, 0, 0])?;
-    image.extend_from_slice(&[16, 0, 0, 0, 1, 2])?;
+    image.extend_from_slice(&[24, 0, 0, 0, 0])?;
+    image.extend_from_slice(&[24, 0, 0, 0, 1, 2])?;
     image.extend_from_slice(&[1, 0, 0, 0, 6])?;
     image.extend_from_slice(&[3, 3])?;
     Ok(image)
@@ -416,7 +432,7 @@ fn bytes_that_are_no_image(rt: HostRuntime) -> Result<(), Fail> {
     same(&rt, fault(alloc, b"COBIMG02"), 70);
     same(&rt, fault(alloc, b"COBIMG01"), 71);
     // an instruction of an unknown kind, and one whose item is missing
-    for (kind, number) in [(0, 72), (17, 72), (255, 72), (6, 71)] {
+    for (kind, number) in [(0, 72), (47, 72), (255, 72), (16, 71)] {
         let mut image = hello_image(alloc)?;
         image.pop();
         image.push(kind)?;

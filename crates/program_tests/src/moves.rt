@@ -161,7 +161,7 @@ const FAULTS: [(&str, ProgramFault, u32, &str); 10] = [
 ];
 
 /// The code of a program with these entries and statements.
-fn code_of_text(alloc: Global, entries: &str, statements: &str) -> Result<Code, Fail> {
+pub(crate) fn code_of_text(alloc: Global, entries: &str, statements: &str) -> Result<Code, Fail> {
     let source = format!(in alloc; "{HEADER}{entries}       PROCEDURE DIVISION.\n{statements}")?;
     let program = tree(alloc, source.as_str())??;
     code_of(alloc, &program)

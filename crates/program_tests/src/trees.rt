@@ -392,6 +392,10 @@ fn push_statement(to: &mut String, alloc: Global, statement: &Statement) -> Resu
             }
             to.push_str(")")?;
         }
+        Verb::Text(Text::Accept { .. }) => to.push_str("A")?,
+        Verb::Text(Text::AcceptDate { .. }) => to.push_str("AD")?,
+        // what stands in its phrases is shown by tests of `statements`
+        Verb::Arithmetic(_) => to.push_str("R")?,
         Verb::Ending(Ending::StopRun) => to.push_str("S")?,
         Verb::Ending(Ending::Continue) => to.push_str("C")?,
     }

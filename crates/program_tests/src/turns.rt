@@ -131,7 +131,7 @@ fn the_bytes_of_a_loop(rt: HostRuntime) -> Result<(), Fail> {
     expected.extend_from_slice(&[1, 0, 0, 0, 4])?;
     expected.extend_from_slice(&[1, 0, 0, 0, 5])?;
     // the text is added to the line, which is shown
-    expected.extend_from_slice(&[16, 0, 0, 0, 0, 2])?;
+    expected.extend_from_slice(&[24, 0, 0, 0, 0, 2])?;
     // turn: back to the tick
     expected.extend_from_slice(&[5, 0, 0, 0, 0, 0, 0, 0, 1, 0, 0, 0, 0, 0, 0, 0, 2])?;
     expected.extend_from_slice(&[1, 0, 0, 0, 9, 3, 3])?;

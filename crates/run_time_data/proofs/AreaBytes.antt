@@ -47,7 +47,7 @@ set_same [] i = refl
 set_same (x ∷ xs) zero = refl
 set_same (x ∷ xs) (suc i) = ap (λ ys. x ∷ ys) (set_same xs i)
 
-area_same : {A : Type 0} (vs : List (Vec ℕ A)) (now : Storage) (area : ℕ) (v w : Vec ℕ A) → storage_of vs ≡ now → area < length vs → v ≡ slice_index_or vs area v → w.items ≡ v.items
+pub area_same : {A : Type 0} (vs : List (Vec ℕ A)) (now : Storage) (area : ℕ) (v w : Vec ℕ A) → storage_of vs ≡ now → area < length vs → v ≡ slice_index_or vs area v → w.items ≡ v.items
     → storage_of (slice_set vs area w) ≡ now
 area_same vs now area v w is within here same =
     map-set (λ v. v.items) vs area w

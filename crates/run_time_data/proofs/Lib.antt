@@ -1,3 +1,5 @@
 pub mod AreaBytes
 pub mod Readies
 pub mod Staying
+pub mod KeptNumbers
+pub mod Cutting

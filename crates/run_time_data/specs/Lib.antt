@@ -8,3 +8,4 @@ pub mod Comes
 pub mod Ready
 pub mod Subscripts
 pub mod Lines
+pub mod KeptNumbers

@@ -5,12 +5,16 @@ ghost use Rattle.items.specs.Items.{IsOf};
 ghost use Rattle.items.specs.Texts.{padded};
 ghost use Rattle.source_tree.specs.References.{part_of, storing};
 ghost use Rattle.source_tree.specs.Moving.{move_to};
+ghost use Rattle.source_tree.specs.Arithmetic as arithmetic;
 ghost use Rattle.data_instructions.specs.Tables.{item_place};
 ghost use Rattle.run_time_data.specs.Finds.{StandsAt, Receives};
 ghost use Rattle.run_time_data.specs.Writing.{Stores};
+ghost use Rattle.run_time_data.specs.KeptNumbers.{StoresNumber};
 
+use crate::keeping::store_part;
 use crate::receiving::{move_part, pad_part};
 use data_instructions::DataItem;
+use decimal18::Dec;
 use items::{DataFault, Taken, part};
 use sqlite_items::Items;
 use std::alloc::{AllocError, Global};
@@ -71,6 +75,25 @@ impl Areas {
     {
         let area = &mut self.areas[one.area as usize];
         move_part(one, area.as_mut_slice(), offset, taken, from)
+    }
+
+    /// Stores a number in an item that stands at an offset, and answers whether a size error arose. Where the item receives no
+    /// numbers, nothing changes.
+    #[inline]
+    pub fn store(
+        &mut self,
+        one: &DataItem,
+        offset: usize,
+        number: Option<Dec>,
+        rounded: bool,
+        keep: bool,
+    ) -> Result<bool, DataFault>
+        requires { StandsAt one.now self.old offset }
+        ensures stores { StoresNumber result self.old self.new (arithmetic.store keep rounded (item_place one.now offset) number) }
+        ensures lengths { map length self.new ≡ map length self.old }
+    {
+        let area = &mut self.areas[one.area as usize];
+        store_part(one, area.as_mut_slice(), offset, number, rounded, keep)
     }
 
     /// Stores characters in an item that stands at an offset, cut or padded with spaces.

@@ -7,7 +7,7 @@ ghost use Rattle.run_time_data.specs.Data.{scratch_of};
 ghost use Rattle.run_time_data.specs.Comes.{Comes, Keeps};
 ghost use Rattle.data_instructions.specs.declared.tables.DataItem.{DataItem};
 ghost use Rattle.data_instructions.specs.declared.tables.LiteralSender.{LiteralSender};
-ghost use Rattle.run_time_data.specs.Finds.{HasSenderRoom};
+ghost use Rattle.run_time_data.specs.Finds.{HasItemRoom, HasSenderRoom};
 ghost use Rattle.run_time_data.specs.Ready.{HasRoomOf, IsReady};
 
 use crate::areas::Areas;
@@ -44,10 +44,12 @@ pub struct Data {
     pub sender: Sender,
     /// The line that is being made up.
     pub line: Buffer,
+    /// A size error arose, or what a test found.
+    pub truth: bool,
 }
 
 /// The greatest length of an item, in bytes.
-fn longest_item(items: &[DataItem]) -> usize
+fn longest_of(items: &[DataItem]) -> usize
     ensures { (k : ℕ) (one : DataItem) → slice_get items.now k ≡ Some one → one.item.length ≤ result }
 {
     let mut longest = 0;
@@ -68,11 +70,18 @@ fn longest_literal(senders: &[LiteralSender]) -> usize
     longest
 }
 
+/// Room for each item, in bytes: of a console line no more counts (`cutting_law`).
+pub fn longest_item(tables: &DataTables) -> usize
+    ensures { HasItemRoom tables.now result }
+{
+    longest_of(tables.items.as_slice())
+}
+
 /// Room for whatever is sent.
 fn sender_room(tables: &DataTables) -> usize
     ensures { HasSenderRoom tables.now result }
 {
-    longest_item(tables.items.as_slice()).max(longest_literal(tables.senders.as_slice()))
+    longest_item(tables).max(longest_literal(tables.senders.as_slice()))
 }
 
 impl Data {
@@ -93,6 +102,7 @@ impl Data {
             places,
             sender,
             line,
+            truth: false,
         })
     }
 
@@ -107,8 +117,11 @@ impl Data {
             DataInstruction::Index { stride, count } => self.index(stride, count),
             DataInstruction::Push => self.push(tables),
             DataInstruction::Literal { number } => self.literal(tables, number),
-            DataInstruction::Add => self.add(),
-            DataInstruction::Subtract => self.subtract(),
+            DataInstruction::Calculate(one) => self.calculate(one),
+            DataInstruction::Store { rounded, keep } => self.store_number(tables, rounded, keep),
+            DataInstruction::Test(one) => self.test(tables, one),
+            DataInstruction::ClearTruth => self.clear_truth(),
+            DataInstruction::VoidIfTrue => self.void_if_true(),
             DataInstruction::Take => self.take(tables),
             DataInstruction::TakeLiteral { literal } => self.take_literal(tables, literal),
             DataInstruction::Move => self.receive(tables),

@@ -1,7 +1,8 @@
 //! How data stay with what is known of them.
 
-ghost use Rattle.std.specs.Prelude.{◌≡◌, Some};
-ghost use Rattle.data_instructions.specs.Scratch.{Step, Went, started};
+ghost use Rattle.std.specs.Prelude.{◌≡◌, ℕ, List, take, Some};
+ghost use Rattle.data_instructions.specs.Scratch.{Scratch, Step, Went, started};
+ghost use Rattle.data_instructions.specs.Table.{accepted};
 ghost use Rattle.data_instructions.specs.Shapes.{empty, accepting, dating};
 ghost use Rattle.data_instructions.specs.Fits.{Safe};
 ghost use Rattle.data_instructions.specs.Tables.{IsTables};
@@ -10,7 +11,7 @@ ghost use Rattle.data_instructions.specs.declared.shape.Shape.{Shape};
 ghost use Rattle.run_time_data.specs.declared.data.Data.{Data};
 ghost use Rattle.run_time_data.specs.Data.{scratch_of};
 ghost use Rattle.run_time_data.specs.Comes.{Keeps};
-ghost use Rattle.run_time_data.specs.Finds.{FindsItem, HasSenderRoom};
+ghost use Rattle.run_time_data.specs.Finds.{FindsItem, HasItemRoom, HasSenderRoom};
 ghost use Rattle.run_time_data.specs.Ready.{HasRoom, IsAt};
 
 /// At the start nothing is known (`start`). Where data go on from an instruction that is safe with a shape, they stand at that
@@ -24,4 +25,9 @@ pub fn staying_law()
 pub fn finding_law()
     ensures accept { (tables : DataTables) (d : Data) (shape after : Shape) → IsAt tables d shape → accepting shape ≡ Some after → FindsItem tables d.areas d.places.newest_first }
     ensures date { (tables : DataTables) (d : Data) (shape after : Shape) → IsAt tables d shape → dating tables shape ≡ Some after → FindsItem tables d.areas d.places.newest_first }
+{}
+
+/// Of a console line no more counts than the longest item has.
+pub fn cutting_law()
+    ensures { (tables : DataTables) (line : List ℕ) (room : ℕ) (s : Scratch) → HasItemRoom tables room → accepted tables (take room line) s ≡ accepted tables line s }
 {}

@@ -4,7 +4,9 @@
 
 mod areas;
 mod buffer;
+mod calculating;
 mod data;
+mod keeping;
 mod laws;
 mod moving;
 mod numbers;
@@ -12,10 +14,12 @@ mod receiving;
 mod sender;
 mod showing;
 mod stack;
+mod storing;
+mod testing;
 
 pub use areas::Areas;
 pub use buffer::Buffer;
-pub use data::{Data, Room};
-pub use laws::{finding_law, staying_law};
+pub use data::{Data, Room, longest_item};
+pub use laws::{cutting_law, finding_law, staying_law};
 pub use sender::Sender;
 pub use stack::Stack;

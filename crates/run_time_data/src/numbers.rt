@@ -1,7 +1,6 @@
 //! Instructions on the stack of numbers.
 
 ghost use Rattle.std.specs.Prelude.{◌≡◌, ◌+◌, ◌*◌, ◌<◌, ◌≤◌, ◌^◌, length, slice_get, Some};
-ghost use Rattle.decimal18.specs.Arithmetic.{sum, difference};
 ghost use Rattle.items.specs.Items.{IsOfLength, number_in};
 ghost use Rattle.data_instructions.specs.Scratch.{step_at};
 ghost use Rattle.data_instructions.specs.Table as spec;
@@ -39,19 +38,6 @@ fn bytes_before(subscript: Option<Dec>, stride: u32, count: u32) -> Result<usize
     Ok((integer as usize - 1) * stride as usize)
 }
 
-/// A sum, if both are numbers and it is one.
-fn total(left: Option<Dec>, right: Option<Dec>) -> Option<Dec>
-    ensures { result ≡ spec.computed sum left right }
-{
-    left?.add(right?).ok()
-}
-
-fn remainder(left: Option<Dec>, right: Option<Dec>) -> Option<Dec>
-    ensures { result ≡ spec.computed difference left right }
-{
-    left?.sub(right?).ok()
-}
-
 impl Data {
     /// `literal`: a number of the table.
     pub fn literal(&mut self, tables: &DataTables, literal: NumberIndex) -> Result<(), ProgramFault>
@@ -62,32 +48,6 @@ impl Data {
     {
         let number = tables.numbers.as_slice()[literal.number as usize];
         self.numbers.push(Some(number));
-        Ok(())
-    }
-
-    /// `add`: two numbers become their sum.
-    pub fn add(&mut self) -> Result<(), ProgramFault>
-        requires operands { 2 ≤ length self.old.numbers.newest_first }
-        requires room { length self.old.numbers.newest_first ≤ self.old.numbers.room }
-        ensures does { Comes result (scratch_of self.new) (spec.combined sum self.old.numbers.newest_first (scratch_of self.old)) }
-        ensures keeps { Keeps self.old self.new }
-    {
-        let right = self.numbers.pop();
-        let left = self.numbers.pop();
-        self.numbers.push(total(left, right));
-        Ok(())
-    }
-
-    /// `subtract`: two numbers become the one below without the newest.
-    pub fn subtract(&mut self) -> Result<(), ProgramFault>
-        requires operands { 2 ≤ length self.old.numbers.newest_first }
-        requires room { length self.old.numbers.newest_first ≤ self.old.numbers.room }
-        ensures does { Comes result (scratch_of self.new) (spec.combined difference self.old.numbers.newest_first (scratch_of self.old)) }
-        ensures keeps { Keeps self.old self.new }
-    {
-        let right = self.numbers.pop();
-        let left = self.numbers.pop();
-        self.numbers.push(remainder(left, right));
         Ok(())
     }
 

@@ -1,6 +1,6 @@
 //! Stacks of a room that is made once.
 
-ghost use Rattle.std.specs.Prelude.{◌≡◌, ◌<◌, [], ◌∷◌, length, IfOk};
+ghost use Rattle.std.specs.Prelude.{◌≡◌, ◌<◌, [], ◌∷◌, length, slice_get, Some, IfOk};
 
 use std::alloc::{AllocError, Global};
 use std::marker::Model;
@@ -50,5 +50,13 @@ impl<T: Copy> Stack<T> {
     {
         self.used -= 1;
         self.room[self.used]
+    }
+
+    /// The one that stands so many below the newest.
+    pub fn below(&self, depth: usize) -> T
+        requires { depth < length self.now.newest_first }
+        ensures { slice_get self.now.newest_first depth ≡ Some result }
+    {
+        self.room[self.used - 1 - depth]
     }
 }

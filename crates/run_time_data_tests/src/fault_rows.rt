@@ -2,7 +2,7 @@
 use crate::asserted::{holds, same, same_in};
 use crate::run::{begin, run};
 use crate::samples::{CELL, COLUMN, I, LABEL, N, ONE, ROW, TWO, X, ZERO, tables};
-use data_instructions::{DataInstruction, ProgramFault, Shape};
+use data_instructions::{Calculation, DataInstruction, ProgramFault, Shape};
 use run_time_data::Room;
 use std::alloc::Global;
 use std::process::Abort;
@@ -19,6 +19,10 @@ const PUSH_ONE: DataInstruction = DataInstruction::Literal { number: ONE };
 
 const PUSH_TWO: DataInstruction = DataInstruction::Literal { number: TWO };
 
+const ADD: DataInstruction = DataInstruction::Calculate(Calculation::Add);
+
+const SUBTRACT: DataInstruction = DataInstruction::Calculate(Calculation::Subtract);
+
 /// Ends in this fault, with so much in the line.
 fn faults(rt: &impl Abort, alloc: Global, code: &[DataInstruction], number: u8, line: &[u8]) {
     let tables = tables(rt, alloc);
@@ -32,20 +36,12 @@ fn faults(rt: &impl Abort, alloc: Global, code: &[DataInstruction], number: u8, 
 
 #[test]
 fn subscripts(rt: HostRuntime) {
-    let none = [AT_CELL, PUSH_ONE, PUSH_ONE, DataInstruction::Subtract, ROW];
+    let none = [AT_CELL, PUSH_ONE, PUSH_ONE, SUBTRACT, ROW];
     faults(&rt, rt.alloc(), &none, 91, b"");
-    let fourth = [AT_CELL, PUSH_TWO, PUSH_TWO, DataInstruction::Add, ROW];
+    let fourth = [AT_CELL, PUSH_TWO, PUSH_TWO, ADD, ROW];
     faults(&rt, rt.alloc(), &fourth, 91, b"");
     let column = [
-        AT_CELL,
-        PUSH_TWO,
-        ROW,
-        PUSH_TWO,
-        PUSH_TWO,
-        PUSH_ONE,
-        DataInstruction::Add,
-        DataInstruction::Add,
-        COLUMN,
+        AT_CELL, PUSH_TWO, ROW, PUSH_TWO, PUSH_TWO, PUSH_ONE, ADD, ADD, COLUMN,
     ];
     faults(&rt, rt.alloc(), &column, 91, b"");
 }
@@ -63,6 +59,16 @@ fn no_numbers(rt: HostRuntime) {
     faults(&rt, rt.alloc(), &sent, 90, b"E=");
     let pushed = [DataInstruction::Place { item: X }, DataInstruction::Push];
     faults(&rt, rt.alloc(), &pushed, 90, b"");
+}
+
+#[test]
+fn no_receiver_of_numbers(rt: HostRuntime) {
+    let store = DataInstruction::Store {
+        rounded: false,
+        keep: true,
+    };
+    let text = [PUSH_ONE, DataInstruction::Place { item: X }, store];
+    faults(&rt, rt.alloc(), &text, 90, b"");
 }
 
 /// Nothing of the item is shown whose bytes are no number.

@@ -1,9 +1,13 @@
-//! Tests of `data_instructions` and `run_time_data`: MOVE, DISPLAY and ACCEPT of the items of a table by code written by hand,
+//! Tests of `data_instructions` and `run_time_data`: MOVE, DISPLAY, arithmetic, conditions and ACCEPT of items by code written by hand,
 //! faults, tables that aren't in order, and what is known where ways meet. Nothing here is built into the product.
 #![tactic(auto)]
 
 #[cfg(test)]
+mod arithmetic_rows;
+#[cfg(test)]
 mod asserted;
+#[cfg(test)]
+mod condition_rows;
 #[cfg(test)]
 mod fault_rows;
 #[cfg(test)]

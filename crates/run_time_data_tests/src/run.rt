@@ -115,10 +115,8 @@ pub fn accept(
         panic!(rt; "nothing is known");
     };
     fits(rt, &after, room);
-    match working.accept(tables, line) {
-        Ok(()) => after,
-        Err(_) => panic!(rt; "no fault"),
-    }
+    working.accept(tables, line);
+    after
 }
 
 /// Moves the day to the newest place.

@@ -4,6 +4,8 @@
 //!        02 ROW OCCURS 3.                    01 E PIC -(3)9.99.
 //!           03 CELL PIC S9(3)V99 OCCURS 4.   01 X PIC X(6).
 //!           03 NAME PIC X(4).                01 N PIC 9(4).   01 D PIC 9(6).
+//!     01 C PIC S9(3)V99.                     01 R PIC S9(3)V99.
+//!     01 B PIC Z9.9 BLANK WHEN ZERO.
 use data_instructions::{
     DataInstruction, DataItem, DataTables, ItemIndex, LiteralSender, NumberIndex, SenderIndex,
     TextIndex,
@@ -36,6 +38,12 @@ pub const D: ItemIndex = ItemIndex { number: 7 };
 /// All of `T`.
 pub const T: ItemIndex = ItemIndex { number: 8 };
 
+pub const C: ItemIndex = ItemIndex { number: 9 };
+
+pub const R: ItemIndex = ItemIndex { number: 10 };
+
+pub const B: ItemIndex = ItemIndex { number: 11 };
+
 /// The subscript of a row.
 pub const ROW: DataInstruction = DataInstruction::Index {
     stride: 24,
@@ -53,6 +61,27 @@ pub const ONE: NumberIndex = NumberIndex { number: 0 };
 
 pub const TWO: NumberIndex = NumberIndex { number: 1 };
 
+/// 5, 7, -7, 20, 99, 999, 1.005, 12345.678, 999.995 and 0.
+pub const FIVE: NumberIndex = NumberIndex { number: 2 };
+
+pub const SEVEN: NumberIndex = NumberIndex { number: 3 };
+
+pub const SEVEN_LESS: NumberIndex = NumberIndex { number: 4 };
+
+pub const TWENTY: NumberIndex = NumberIndex { number: 5 };
+
+pub const NINETY_NINE: NumberIndex = NumberIndex { number: 6 };
+
+pub const MANY: NumberIndex = NumberIndex { number: 7 };
+
+pub const LITTLE_MORE: NumberIndex = NumberIndex { number: 8 };
+
+pub const LONG: NumberIndex = NumberIndex { number: 9 };
+
+pub const NEARLY: NumberIndex = NumberIndex { number: 10 };
+
+pub const NOTHING: NumberIndex = NumberIndex { number: 11 };
+
 /// `"AB"`, `-12.5`, `"123456789"` and ZERO.
 pub const AB: SenderIndex = SenderIndex { number: 0 };
 
@@ -61,6 +90,13 @@ pub const TWELVE: SenderIndex = SenderIndex { number: 1 };
 pub const DIGITS: SenderIndex = SenderIndex { number: 2 };
 
 pub const ZERO: SenderIndex = SenderIndex { number: 3 };
+
+/// 1, 3 and 5, of a digit each.
+pub const ONE_SENT: SenderIndex = SenderIndex { number: 4 };
+
+pub const THREE_SENT: SenderIndex = SenderIndex { number: 5 };
+
+pub const FIVE_SENT: SenderIndex = SenderIndex { number: 6 };
 
 /// `"E="` and `"|"`.
 pub const LABEL: TextIndex = TextIndex { number: 0 };
@@ -101,13 +137,18 @@ fn at_start(kind: Kind, length: u32, area: u32) -> DataItem {
     }
 }
 
-fn edited(rt: &impl Abort, alloc: Global, text: &[u8], length: u32, area: u32) -> DataItem {
+fn edited(
+    rt: &impl Abort,
+    alloc: Global,
+    text: &[u8],
+    blank_when_zero: bool,
+    length: u32,
+    area: u32,
+) -> DataItem {
     let Ok(picture) = Picture::read(alloc, text) else {
         panic!(rt; "no picture");
     };
-    let kind = Kind::NumericEdited {
-        blank_when_zero: false,
-    };
+    let kind = Kind::NumericEdited { blank_when_zero };
     DataItem {
         item: Item { kind, length },
         editing: Some(picture),
@@ -126,11 +167,14 @@ fn data_items(rt: &impl Abort, alloc: Global) -> Items<DataItem> {
     add(rt, &mut items, name);
     add(rt, &mut items, at_start(number(2, 0, unsigned), 2, 1));
     add(rt, &mut items, at_start(number(2, 0, signed), 2, 2));
-    add(rt, &mut items, edited(rt, alloc, b"-(3)9.99", 7, 3));
+    add(rt, &mut items, edited(rt, alloc, b"-(3)9.99", false, 7, 3));
     add(rt, &mut items, at_start(TEXT, 6, 4));
     add(rt, &mut items, at_start(number(4, 0, unsigned), 4, 5));
     add(rt, &mut items, at_start(number(6, 0, unsigned), 6, 6));
     add(rt, &mut items, at_start(Kind::Group, 72, 0));
+    add(rt, &mut items, at_start(number(5, 2, signed), 5, 7));
+    add(rt, &mut items, at_start(number(5, 2, signed), 5, 8));
+    add(rt, &mut items, edited(rt, alloc, b"Z9.9", true, 4, 9));
     items
 }
 
@@ -155,6 +199,10 @@ fn senders(rt: &impl Abort, alloc: Global) -> Items<LiteralSender> {
         bytes: Items::new(alloc),
     };
     add(rt, &mut senders, zero);
+    let digit = number(1, 0, OperationalSign::Unsigned);
+    add(rt, &mut senders, literal(rt, alloc, digit, b"1"));
+    add(rt, &mut senders, literal(rt, alloc, digit, b"3"));
+    add(rt, &mut senders, literal(rt, alloc, digit, b"5"));
     senders
 }
 
@@ -167,21 +215,33 @@ fn areas(rt: &impl Abort, alloc: Global) -> Items<Items<u8>> {
     add(rt, &mut areas, bytes(rt, alloc, b"12AB  "));
     add(rt, &mut areas, bytes(rt, alloc, b"0000"));
     add(rt, &mut areas, bytes(rt, alloc, b"000000"));
+    add(rt, &mut areas, bytes(rt, alloc, b"00000"));
+    add(rt, &mut areas, bytes(rt, alloc, b"00000"));
+    add(rt, &mut areas, bytes(rt, alloc, b"    "));
     areas
+}
+
+fn numbers(rt: &impl Abort, alloc: Global) -> Items<Dec> {
+    let mut numbers = Items::new(alloc);
+    for integer in [1, 2, 5, 7, -7, 20, 99, 999] {
+        add(rt, &mut numbers, Dec::short(integer, 0));
+    }
+    for thousandths in [1005, 12_345_678, 999_995] {
+        add(rt, &mut numbers, Dec::short(thousandths, 3));
+    }
+    add(rt, &mut numbers, Dec::short(0, 0));
+    numbers
 }
 
 /// The tables of those items and literals.
 pub fn tables(rt: &impl Abort, alloc: Global) -> DataTables {
-    let mut numbers = Items::new(alloc);
-    add(rt, &mut numbers, Dec::short(1, 0));
-    add(rt, &mut numbers, Dec::short(2, 0));
     let mut texts = Items::new(alloc);
     add(rt, &mut texts, bytes(rt, alloc, b"E="));
     add(rt, &mut texts, bytes(rt, alloc, b"|"));
     DataTables {
         areas: areas(rt, alloc),
         items: data_items(rt, alloc),
-        numbers,
+        numbers: numbers(rt, alloc),
         senders: senders(rt, alloc),
         texts,
     }

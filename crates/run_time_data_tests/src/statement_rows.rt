@@ -5,7 +5,7 @@ use crate::run::{accept, begin, date, run};
 use crate::samples::{
     AB, BAR, CELL, COLUMN, D, DIGITS, E, I, J, LABEL, N, NAME, ONE, ROW, T, TWELVE, TWO, tables,
 };
-use data_instructions::{DataInstruction, Shape};
+use data_instructions::{Calculation, DataInstruction, Shape};
 use run_time_data::Room;
 use std::alloc::Global;
 use std::process::Abort;
@@ -42,9 +42,9 @@ const PLUS_ONE: DataInstruction = DataInstruction::Literal { number: ONE };
 
 const TWO_LESS: DataInstruction = DataInstruction::Literal { number: TWO };
 
-const ADD: DataInstruction = DataInstruction::Add;
+const ADD: DataInstruction = DataInstruction::Calculate(Calculation::Add);
 
-const SUBTRACT: DataInstruction = DataInstruction::Subtract;
+const SUBTRACT: DataInstruction = DataInstruction::Calculate(Calculation::Subtract);
 
 const SHOW_BAR: DataInstruction = DataInstruction::AppendLiteral { text: BAR };
 

@@ -2,7 +2,8 @@
 use crate::asserted::holds;
 use crate::samples::tables;
 use data_instructions::{
-    DataInstruction, ItemIndex, LiteralSender, NumberIndex, SenderIndex, TextIndex,
+    Calculation, DataInstruction, ItemIndex, LiteralSender, NumberIndex, SenderIndex, Test,
+    TextIndex,
 };
 use items::Taken;
 use sqlite_items::Items;
@@ -24,32 +25,39 @@ fn order(rt: &impl Abort, alloc: Global) {
 /// An area of which the last item lies a byte too short.
 fn short_area(rt: &impl Abort, alloc: Global) {
     let mut tables = tables(rt, alloc);
-    holds(rt, tables.areas.len() == 7);
-    let Ok(five) = Items::from_slice(alloc, b"00000") else {
+    holds(rt, tables.areas.len() == 10);
+    let Ok(short) = Items::from_slice(alloc, b"000") else {
         panic!(rt; "no memory");
     };
     let _ = tables.areas.pop();
-    holds(rt, tables.areas.push(five).is_ok());
+    holds(rt, tables.areas.push(short).is_ok());
     holds(rt, !tables.are_in_order());
 }
 
 fn names(rt: &impl Abort, alloc: Global) {
     let tables = tables(rt, alloc);
-    for number in 0..10 {
+    for number in 0..14 {
         let item = ItemIndex { number };
         let place = DataInstruction::Place { item };
-        holds(rt, place.names_entries(&tables) == (number < 9));
+        holds(rt, place.names_entries(&tables) == (number < 12));
         let literal = SenderIndex { number };
         let sent = DataInstruction::TakeLiteral { literal };
-        holds(rt, sent.names_entries(&tables) == (number < 4));
+        holds(rt, sent.names_entries(&tables) == (number < 7));
+        let equal = DataInstruction::Test(Test::OrEqual { literal });
+        holds(rt, equal.names_entries(&tables) == (number < 7));
+        let within = DataInstruction::Test(Test::OrWithin { first: literal });
+        holds(rt, within.names_entries(&tables) == (number < 6));
         let text = TextIndex { number };
         let shown = DataInstruction::AppendLiteral { text };
         holds(rt, shown.names_entries(&tables) == (number < 2));
         let number = NumberIndex { number };
         let pushed = DataInstruction::Literal { number };
-        holds(rt, pushed.names_entries(&tables) == (number.number < 2));
+        holds(rt, pushed.names_entries(&tables) == (number.number < 12));
     }
-    holds(rt, DataInstruction::Add.names_entries(&tables));
+    holds(
+        rt,
+        DataInstruction::Calculate(Calculation::Add).names_entries(&tables),
+    );
 }
 
 #[test]

@@ -47,7 +47,8 @@ pub fn run_image<S: Station>(
     ensures image { ForImage result image.now }
     // Where they are refused, or memory runs out, nothing was done.
     ensures unbegun { IfUnbegun result (station.new ≡ station.old) }
-    // At each moment a beginning of the image's run was shown, and nothing else was done.
+    // At each moment a beginning of the image's run was shown, of the console's lines the first were taken, and nothing
+    // else was done.
     ensures moments { S.is_honest station.old → (run : Run) → HasRun image.now (given_on (S.state station.old) day budget) run →
         Through (S.history station.old) (S.history station.new) (S.state station.new) (Moment run (S.state station.old)) }
     // At the end all of it was, and the end is the run's.

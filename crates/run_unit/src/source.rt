@@ -41,7 +41,8 @@ pub fn run_source<S: Station>(
     // A source text is run only if it has a tree. One with a tree is refused for want of memory alone.
     ensures accepted { IfOk result (λ _. (tree : Program) × IsTreeOf source.now tree) }
     ensures only { (tree : Program) → IsTreeOf source.now tree → IfErr result (λ e. e ≡ Memory) }
-    // At each moment of the call a beginning of what the tree means was shown, and nothing else was done.
+    // At each moment of the call a beginning of what the tree means was shown, of the console's lines the first were taken, and
+    // nothing else was done.
     ensures moments { S.is_honest station.old → (tree : Program) → IsTreeOf source.now tree →
         Through (S.history station.old) (S.history station.new) (S.state station.new) (Moment (meaning tree (given_on (S.state station.old) day budget)) (S.state station.old)) }
     // At the end all of it was, and the end is the meaning's.

@@ -1,5 +1,5 @@
 -- Programs on items and what they do.
-use Rattle.std.proofs.Common.{◌≡◌, ℕ, true, List, [], ◌∷◌, None, Some, refl}
+use Rattle.std.proofs.Common.{◌≡◌, ℕ, true, List, [], ◌∷◌, None, refl}
 use Rattle.std.specs.Prelude.{codes, map}
 use Rattle.station.specs.State.{Shown}
 use Rattle.source_tree.specs.declared.expression.Operand.{Operand}
@@ -38,7 +38,7 @@ program storage statements = record {
 }
 
 abbrev runs : Program → Run
-runs one = meaning one (record { budget = 9; day = codes "260730" })
+runs one = meaning one (record { budget = 9; day = codes "260730"; lines = [] })
 
 -- 77 N PIC 99 VALUE 7. 01 T. 05 X PIC X OCCURS 2.
 abbrev some : List Entry
@@ -54,7 +54,7 @@ moved : runs (program some (display 7 (the_item (codes "N") ∷ [])
     ∷ display 9 (the_item (codes "N") ∷ the_item (codes "T") ∷ [])
     ∷ move 10 (the_item (codes "N")) (plain (codes "T") ∷ [])
     ∷ display 11 (the_item (codes "T") ∷ [])
-    ∷ [])) ≡ record { events = map Shown (codes "07\n12  \n12\n"); end = Stopped }
+    ∷ [])) ≡ record { events = map Shown (codes "07\n12  \n12\n"); end = Stopped; lines = [] }
 unfolding computing out-Statement roll-Statement denote.Hole.Carrier.out denote.Hole.Carrier.roll
 moved = refl
 
@@ -66,6 +66,6 @@ the_occurrence = operand.Item (reference (codes "X") (counted (codes "3") ∷ []
 out_of_range : runs (program some (display 7 (the_item (codes "N") ∷ [])
     ∷ display 8 (the_item (codes "N") ∷ the_item (codes "T") ∷ the_occurrence ∷ [])
     ∷ display 9 (the_item (codes "N") ∷ [])
-    ∷ [])) ≡ record { events = map Shown (codes "07\n"); end = Faulted fault.Subscript 8 }
+    ∷ [])) ≡ record { events = map Shown (codes "07\n"); end = Faulted fault.Subscript 8; lines = [] }
 unfolding computing out-Statement roll-Statement denote.Hole.Carrier.out denote.Hole.Carrier.roll
 out_of_range = refl

@@ -1,14 +1,20 @@
 -- A depth above the budget changes nothing.
 use Rattle.std.proofs.Common.{◌≡◌, ℕ, zero, suc, ◌<◌, ◌≤◌, List, [], ◌∷◌, refl, ap, ◌∙◌, arith}
+use Rattle.std.specs.Prelude.{Bool, true, false, Option, Some, None, Ok, Err}
 use Rattle.source_tree.specs.declared.performing.Performed.{Performed}
 use Rattle.source_tree.specs.declared.performing.Performed.TheVariants.{Statements}
 use Rattle.source_tree.specs.declared.performing.Turns.{Turns}
 use Rattle.source_tree.specs.declared.performing.Turns.TheVariants.{Once, Times}
+use Rattle.source_tree.specs.declared.phrases.Phrases.{Phrases}
+use Rattle.source_tree.specs.declared.arithmetic.Arithmetic.{Arithmetic}
 use Rattle.source_tree.specs.declared.statement.Verb.{Verb}
 use Rattle.source_tree.specs.declared.statement.Verb.TheVariants as verb
 use Rattle.source_tree.specs.declared.statement.Statement.{Statement, out-Statement}
 use Rattle.source_tree.specs.declared.program.Paragraph.{Paragraph}
-use Rattle.source_tree.specs.State.{State, Outcome, Done, Over, then_do, in_turn, spend_from, spend}
+use Rattle.source_tree.specs.State.{State, Outcome, Done, Over, then_do, in_turn, spend_from, spend, with_value}
+use Rattle.source_tree.specs.Places.{Placed}
+use Rattle.source_tree.specs.Evaluated.{Evaluated}
+use Rattle.source_tree.specs.Arithmetic.{Stored, operation, is_there, in_phrase, phrase_for, calculating}
 use Rattle.source_tree.specs.Setting.{Setting}
 use Rattle.source_tree.specs.Performing.{turns, turns_of, repeat, body}
 use Rattle.source_tree.specs.Meaning.{step, exec, sentence, paragraph, range}
@@ -54,11 +60,31 @@ body_agrees : {S : Type 0} (n : ℕ) (run other : S → State → Outcome) → (
     → (one : Performed S) → Agrees n (body run one) (body other one)
 body_agrees n run other r a (Statements statements) = in_turn_agrees n run other r a statements
 
+-- The stores are the same; a phrase runs with the budget that is left.
+module _ {S : Type 0} (n : ℕ) (run other : S → State → Outcome) (r : (one : S) → IsRun (run one)) (a : (one : S) → Agrees n (run one) (other one)) where
+  pub in_phrase_agrees : (phrase : Option (List S)) → Agrees n (in_phrase run phrase) (in_phrase other phrase)
+  in_phrase_agrees None = record { by = λ s le. refl }
+  in_phrase_agrees (Some statements) = in_turn_agrees n run other r a statements
+
+  phrase_agrees : (phrases : Phrases S) (error : Bool) → Agrees n (phrase_for run phrases error) (phrase_for other phrases error)
+  phrase_agrees phrases true = in_phrase_agrees phrases.arose
+  phrase_agrees phrases false = in_phrase_agrees phrases.did_not
+
+  value_same : (phrases : Phrases S) (e : Evaluated Stored) (s : State) → s.budget ≤ n
+      → with_value e s (λ after. phrase_for run phrases after.size_error (record s { storage = after.storage }))
+      ≡ with_value e s (λ after. phrase_for other phrases after.size_error (record s { storage = after.storage }))
+  value_same phrases (Ok after) s le = (phrase_agrees phrases after.size_error).by (record s { storage = after.storage }) le
+  value_same phrases (Err fault) s le = refl
+
+  calculating_agrees : (items : List Placed) (one : Arithmetic S) → Agrees n (calculating items run one) (calculating items other one)
+  calculating_agrees items one = record { by = λ s le. value_same one.phrases (operation items (is_there one.phrases.arose) one.operation s.storage) s le }
+
 module _ (around : Setting) where
   -- the statements in a statement run with less budget than it began with
   step_same : {S : Type 0} (n : ℕ) (run other : S → State → Outcome) → ((one : S) → IsRun (run one)) → ((one : S) → Agrees n (run one) (other one))
       → (line : ℕ) (one : Verb S) → Agrees n (step around run line one) (step around other line one)
   step_same n run other r a line (verb.Moving one) = record { by = λ s le. refl }
+  step_same n run other r a line (verb.Arithmetic one) = calculating_agrees n run other r a around.items one
   step_same n run other r a line (verb.Performing one) = repeat_agrees n line one.turns (body run one.performed) (body other one.performed) (body_runs run r one.performed) (body_agrees n run other r a one.performed)
   step_same n run other r a line (verb.Text one) = record { by = λ s le. refl }
   step_same n run other r a line (verb.Ending one) = record { by = λ s le. refl }

@@ -1,6 +1,7 @@
 pub mod Givens
 pub mod Runs
 pub mod Depth
+pub mod Repeating
 pub mod Programs
 pub mod Counts
 pub mod Examples

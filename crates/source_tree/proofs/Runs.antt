@@ -1,7 +1,7 @@
 -- What holds of each run of a stretch: the budget never rises, output only grows, and with more budget a stretch that
 -- doesn't end for want of it does the same and has so much more left.
 use Rattle.std.proofs.Common.{◌≡◌, ℕ, zero, suc, ◌+◌, ◌≤◌, List, [], ◌∷◌, ◌++◌, refl, sym, ap, ◌∙◌, subst, arith}
-use Rattle.std.specs.Prelude.{map, Ok, Err}
+use Rattle.std.specs.Prelude.{Bool, true, false, map, Option, Some, None, Ok, Err}
 use Rattle.std.proofs.lemmas.List.{append-nil, append_assoc}
 use Rattle.station.specs.State.{Event, Shown}
 use Rattle.source_tree.specs.declared.text.Text.{Text}
@@ -18,12 +18,18 @@ use Rattle.source_tree.specs.declared.statement.Verb.TheVariants as verb
 use Rattle.source_tree.specs.declared.statement.Statement.{Statement, out-Statement}
 use Rattle.source_tree.specs.declared.program.Paragraph.{Paragraph}
 use Rattle.source_tree.specs.Storage.{Storage}
+use Rattle.source_tree.specs.Places.{Placed}
 use Rattle.source_tree.specs.Evaluated.{Evaluated}
 use Rattle.source_tree.specs.State.{State, Stopped, Budget, Faulted, Outcome, Done, Over, showing, then_do, in_turn, spend_from, spend, with_value, changing, outcome_events}
 use Rattle.source_tree.specs.Showing.{displayed}
 use Rattle.source_tree.specs.Setting.{Setting}
 use Rattle.source_tree.specs.Moving.{moving}
 use Rattle.source_tree.specs.Texts.{texts}
+use Rattle.source_tree.specs.Accepting.{next_line, later_lines, accept_line, accept_date}
+use Rattle.source_tree.specs.Arithmetic.{Stored, operation, is_there, in_phrase, phrase_for, calculating}
+use Rattle.source_tree.specs.declared.phrases.Phrases.{Phrases}
+use Rattle.source_tree.specs.declared.arithmetic.Arithmetic.{Arithmetic}
+use Rattle.source_tree.specs.declared.reference.Reference.{Reference}
 use Rattle.source_tree.specs.Performing.{turns, turns_of, repeat, body, performing}
 use Rattle.source_tree.specs.Meaning.{finish, step, exec, sentence, paragraph, range}
 use Rattle.station.specs.State.{Begins}
@@ -143,8 +149,34 @@ storing_runs after = record { falls = λ s. omega arith; grows = λ s. itself s.
 pub changing_runs : (change : Storage → Evaluated Storage) → IsRun (changing change)
 changing_runs change = value_runs (λ after s. Done (record s { storage = after })) storing_runs change
 
+-- ACCEPT leaves fewer lines, whatever the budget.
+accepting_runs : (lines : List (List ℕ) → List (List ℕ)) (after : Storage) → IsRun (λ s. Done (record s { storage = after; lines = lines s.lines }))
+accepting_runs lines after = record { falls = λ s. omega arith; grows = λ s. itself s.events; alike = λ k s. refl }
+
+accept_runs : (around : Setting) (receiver : Reference) → IsRun (texts around (text.Accept receiver))
+accept_runs around receiver =
+    let find : State → Evaluated Storage = λ s. accept_line around.items (next_line s.lines) receiver s.storage in
+    let go : Storage → State → Outcome = λ after s. Done (record s { storage = after; lines = later_lines s.lines }) in
+    record {
+      falls = λ s. value_within go (accepting_runs later_lines) (find s) s;
+      grows = λ s. value_grows go (accepting_runs later_lines) (find s) s;
+      alike = λ k s. value_alike go (accepting_runs later_lines) (find s) k s;
+    }
+
+accept_date_runs : (around : Setting) (receiver : Reference) → IsRun (texts around (text.AcceptDate receiver))
+accept_date_runs around receiver =
+    let find : State → Evaluated Storage = λ s. accept_date around.items s.day receiver s.storage in
+    let go : Storage → State → Outcome = λ after s. Done (record s { storage = after }) in
+    record {
+      falls = λ s. value_within go storing_runs (find s) s;
+      grows = λ s. value_grows go storing_runs (find s) s;
+      alike = λ k s. value_alike go storing_runs (find s) k s;
+    }
+
 texts_runs : (around : Setting) (one : Text) → IsRun (texts around one)
 texts_runs around (text.Display operands advancing) = value_runs (λ bytes s. Done (showing bytes s)) show_runs (displayed around.items operands advancing)
+texts_runs around (text.Accept receiver) = accept_runs around receiver
+texts_runs around (text.AcceptDate receiver) = accept_date_runs around receiver
 
 finish_runs : (one : Ending) → IsRun (finish one)
 finish_runs ending.StopRun = stop_runs
@@ -165,9 +197,26 @@ module _ {S : Type 0} (run : S → State → Outcome) (r : (one : S) → IsRun (
   performing_runs : (line : ℕ) (one : Performing S) → IsRun (performing run line one)
   performing_runs line one = repeat_runs line one.turns (body run one.performed) (body_runs one.performed)
 
+-- A phrase behind stores.
+module _ {S : Type 0} (run : S → State → Outcome) (r : (one : S) → IsRun (run one)) where
+  pub in_phrase_runs : (phrase : Option (List S)) → IsRun (in_phrase run phrase)
+  in_phrase_runs None = done_runs
+  in_phrase_runs (Some statements) = in_turn_runs run r statements
+
+  phrase_runs : (phrases : Phrases S) (error : Bool) → IsRun (phrase_for run phrases error)
+  phrase_runs phrases true = in_phrase_runs phrases.arose
+  phrase_runs phrases false = in_phrase_runs phrases.did_not
+
+  calculating_runs : (items : List Placed) (one : Arithmetic S) → IsRun (calculating items run one)
+  calculating_runs items one =
+      value_runs (λ after s. phrase_for run one.phrases after.size_error (record s { storage = after.storage }))
+      (λ (after : Stored). then_runs (λ s. Done (record s { storage = after.storage })) (phrase_for run one.phrases after.size_error) (storing_runs after.storage) (phrase_runs one.phrases after.size_error))
+      (operation items (is_there one.phrases.arose) one.operation)
+
 module _ (around : Setting) where
   step_runs : {S : Type 0} (run : S → State → Outcome) → ((one : S) → IsRun (run one)) → (line : ℕ) (one : Verb S) → IsRun (step around run line one)
   step_runs run r line (verb.Moving one) = changing_runs (moving around.items one)
+  step_runs run r line (verb.Arithmetic one) = calculating_runs run r around.items one
   step_runs run r line (verb.Performing one) = performing_runs run r line one
   step_runs run r line (verb.Text one) = texts_runs around one
   step_runs run r line (verb.Ending one) = finish_runs one

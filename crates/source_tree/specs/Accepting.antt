@@ -1,5 +1,5 @@
 -- ACCEPT (COBOL-85, Nucleus, "The ACCEPT statement").
-use Rattle.std.specs.Prelude.{ℕ, List, [], ◌∷◌, Ok}
+use Rattle.std.specs.Prelude.{ℕ, List, [], ◌∷◌, drop, Ok}
 use Rattle.items.specs.declared.usage.OperationalSign.TheVariants as operational
 use Rattle.items.specs.declared.usage.Usage.TheVariants as usage
 use Rattle.items.specs.Texts.{padded}
@@ -15,6 +15,10 @@ use Rattle.source_tree.specs.Moving.{move_to}
 abbrev pub next_line : List (List ℕ) → List ℕ
 next_line [] = []
 next_line (line ∷ more) = line
+
+-- those behind it
+abbrev pub later_lines : List (List ℕ) → List (List ℕ)
+later_lines lines = drop 1 lines
 
 -- The line is stored as bytes, cut or padded with spaces.
 abbrev pub accept_line : List Placed → List ℕ → Reference → Storage → Evaluated Storage

@@ -7,6 +7,8 @@ pub record Given : Type 0 where
   pub budget : ℕ
   -- the day that the program is told: six ASCII digits, YYMMDD
   pub day : List ℕ
+  -- the lines of the console
+  pub lines : List (List ℕ)
 
 -- the same with another budget
 abbrev pub with_budget : ℕ → Given → Given
@@ -15,4 +17,4 @@ with_budget budget given = record given { budget = budget }
 -- What a run is given that begins on a station in this state, on this day and with this budget. Above, it stays as it is
 -- named here: what a run is given besides, from the station or from its caller, changes no clause.
 unfoldable pub given_on : State → List ℕ → ℕ → Given
-given_on station day budget = record { budget = budget; day = day }
+given_on station day budget = record { budget = budget; day = day; lines = station.lines }

@@ -16,6 +16,11 @@ pub mod Evaluated
 pub mod LookUp
 pub mod References
 pub mod Moving
+pub mod Computed
+pub mod Arithmetic
+pub mod Conditions
+pub mod Branching
+pub mod Until
 pub mod Showing
 pub mod Texts
 pub mod Accepting
@@ -27,6 +32,8 @@ pub mod EntryRules
 pub mod NameRules
 pub mod MoveRules
 pub mod TextRules
+pub mod ArithmeticRules
+pub mod ConditionRules
 pub mod Rules
 pub mod Meaning
 pub use Rattle.station.specs.State as Events

@@ -16,6 +16,7 @@ use Rattle.source_tree.specs.Starts.{areas_at_start}
 use Rattle.source_tree.specs.State.{State, End, Stopped, Budget, Outcome, Done, Over, then_do, in_turn, spend, changing}
 use Rattle.source_tree.specs.Setting.{Setting, setting}
 use Rattle.source_tree.specs.Moving.{moving}
+use Rattle.source_tree.specs.Arithmetic.{calculating}
 use Rattle.source_tree.specs.Performing.{performing}
 use Rattle.source_tree.specs.Texts.{texts}
 
@@ -26,6 +27,7 @@ finish ending.Continue s = Done s
 -- One statement at this line after it has used one of the budget, by its family. `run` runs the statements that stand in it.
 abbrev pub step : Setting → {S : Type 0} → (S → State → Outcome) → ℕ → Verb S → State → Outcome
 step around run line (verb.Moving one) s = changing (moving around.items one) s
+step around run line (verb.Arithmetic one) s = calculating around.items run one s
 step around run line (verb.Performing one) s = performing run line one s
 step around run line (verb.Text one) s = texts around one s
 step around run line (verb.Ending one) s = finish one s
@@ -62,6 +64,7 @@ start program given = record {
   budget = given.budget;
   line = 0;
   day = given.day;
+  lines = given.lines;
   storage = areas_at_start program.storage;
   events = [];
 }
@@ -70,15 +73,16 @@ start program given = record {
 abbrev pub run_from : ℕ → Program → State → Outcome
 run_from depth program s = range (exec (setting program) depth) (paragraphs program) (length (paragraphs program)) s
 
--- What is told of a run: its events and its end.
+-- What is told of a run: its events, its end, and the console lines that it leaves.
 pub record Run : Type 0 where
   pub events : List Event
   pub end : End
+  pub lines : List (List ℕ)
 
 -- a program that is done has stopped
 abbrev pub told : Outcome → Run
-told (Done s) = record { events = s.events; end = Stopped }
-told (Over end s) = record { events = s.events; end = end }
+told (Done s) = record { events = s.events; end = Stopped; lines = s.lines }
+told (Over end s) = record { events = s.events; end = end; lines = s.lines }
 
 -- the program's run with what it is given
 abbrev pub meaning : Program → Given → Run

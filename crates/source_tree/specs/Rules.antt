@@ -1,9 +1,11 @@
 -- The rules of a program: those that it breaks, and where; its entries first, and then its statements in order.
-use Rattle.std.specs.Prelude.{List, [], ◌++◌}
+use Rattle.std.specs.Prelude.{List, [], ◌++◌, Option, Some, None}
 use Rattle.source_tree.specs.declared.moving.Moving.{Moving}
 use Rattle.source_tree.specs.declared.moving.Moving.TheVariants.{Move}
 use Rattle.source_tree.specs.declared.text.Text.{Text}
-use Rattle.source_tree.specs.declared.text.Text.TheVariants.{Display}
+use Rattle.source_tree.specs.declared.text.Text.TheVariants.{Display, Accept, AcceptDate}
+use Rattle.source_tree.specs.declared.phrases.Phrases.{Phrases}
+use Rattle.source_tree.specs.declared.arithmetic.Arithmetic.{Arithmetic}
 use Rattle.source_tree.specs.declared.performing.Performed.{Performed}
 use Rattle.source_tree.specs.declared.performing.Performed.TheVariants.{Statements}
 use Rattle.source_tree.specs.declared.statement.Verb.{Verb}
@@ -19,21 +21,44 @@ use Rattle.source_tree.specs.Places.{Placed, items_of}
 use Rattle.source_tree.specs.Broken.{Broken, each}
 use Rattle.source_tree.specs.EntryRules.{entry_rules}
 use Rattle.source_tree.specs.MoveRules.{move_rules}
-use Rattle.source_tree.specs.TextRules.{display_rules}
+use Rattle.source_tree.specs.TextRules.{display_rules, accept_line_rules, accept_date_rules}
+use Rattle.source_tree.specs.ArithmeticRules.{operation_rules}
+use Rattle.source_tree.specs.ConditionRules.{condition_rules}
+use Rattle.source_tree.specs.declared.branching.Branching.{Branching}
+use Rattle.source_tree.specs.declared.branching.Branching.TheVariants.{If}
 
 abbrev pub moving_rules : List Placed → Moving → List Broken
 moving_rules items (Move sender receivers) = move_rules items sender receivers
 
 abbrev pub text_rules : List Placed → Text → List Broken
 text_rules items (Display operands advancing) = display_rules items operands
+text_rules items (Accept receiver) = accept_line_rules items receiver
+text_rules items (AcceptDate receiver) = accept_date_rules items receiver
+
+-- A phrase that is absent breaks none; `inside` has the rules of the statements in one.
+abbrev pub phrase_rules : {S : Type 0} → (S → List Broken) → Option (List S) → List Broken
+phrase_rules inside None = []
+phrase_rules inside (Some statements) = each inside statements
+
+abbrev pub phrases_rules : {S : Type 0} → (S → List Broken) → Phrases S → List Broken
+phrases_rules inside phrases = phrase_rules inside phrases.arose ++ phrase_rules inside phrases.did_not
+
+abbrev pub arithmetic_rules : List Placed → {S : Type 0} → (S → List Broken) → Arithmetic S → List Broken
+arithmetic_rules items inside one = operation_rules items one.operation ++ phrases_rules inside one.phrases
 
 -- What is performed; `inside` has the rules of the statements in it.
 abbrev pub performed_rules : {S : Type 0} → (S → List Broken) → Performed S → List Broken
 performed_rules inside (Statements statements) = each inside statements
 
+-- IF, which no tree has yet
+abbrev pub branching_rules : List Placed → {S : Type 0} → (S → List Broken) → Branching S → List Broken
+branching_rules items inside (If condition statements otherwise) =
+    condition_rules items condition ++ each inside statements ++ phrase_rules inside otherwise
+
 -- a statement, by its family
 abbrev pub verb_rules : List Placed → {S : Type 0} → (S → List Broken) → Verb S → List Broken
 verb_rules items inside (verb.Moving one) = moving_rules items one
+verb_rules items inside (verb.Arithmetic one) = arithmetic_rules items inside one
 verb_rules items inside (verb.Performing one) = performed_rules inside one.performed
 verb_rules items inside (verb.Text one) = text_rules items one
 verb_rules items inside (verb.Ending one) = []

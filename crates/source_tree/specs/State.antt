@@ -11,6 +11,8 @@ pub record State : Type 0 where
   pub line : ℕ
   -- the day that the program is told
   pub day : List ℕ
+  -- the console lines that are still to be read
+  pub lines : List (List ℕ)
   -- the bytes of working storage
   pub storage : Storage
   -- what was told so far, the first of it first

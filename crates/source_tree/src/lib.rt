@@ -1,6 +1,8 @@
 //! The trees of source texts, and what a run of one shows and how it ends: the meaning that every compiled program keeps.
 #![tactic(auto)]
 
+mod arithmetic;
+mod branching;
 mod condition;
 mod ending;
 mod entry;
@@ -16,7 +18,10 @@ mod reference;
 mod statement;
 mod table;
 mod text;
+mod until;
 
+pub use arithmetic::{Arithmetic, DivisionOrder, Operation, Receiver};
+pub use branching::Branching;
 pub use condition::{Class, Condition, Relation, Side, SignTest};
 pub use ending::Ending;
 pub use entry::{
@@ -36,3 +41,4 @@ pub use reference::{Adjustment, QualifiedName, Reference, Subscript};
 pub use statement::{Statement, Verb};
 pub use table::Dimension;
 pub use text::Text;
+pub use until::{TestTime, Until, Varying};

@@ -1,5 +1,6 @@
 //! Statements.
 
+use crate::arithmetic::Arithmetic;
 use crate::ending::Ending;
 use crate::moving::Moving;
 use crate::performing::Performing;
@@ -10,6 +11,7 @@ use lexical::Place;
 #[derive(Debug, Drop)]
 pub enum Verb<S> {
     Moving(Moving),
+    Arithmetic(Arithmetic<S>),
     Performing(Performing<S>),
     Text(Text),
     Ending(Ending),

@@ -1,6 +1,7 @@
-//! Statements on texts: DISPLAY.
+//! Statements on texts: DISPLAY and ACCEPT.
 
 use crate::expression::Operand;
+use crate::reference::Reference;
 use sqlite_items::Items;
 
 #[derive(Debug, Drop)]
@@ -10,5 +11,13 @@ pub enum Text {
         operands: Items<Operand>,
         /// The line is ended after the operands: NO ADVANCING was not written.
         advancing: bool,
+    },
+    /// ACCEPT, of the console's next line.
+    Accept {
+        receiver: Reference,
+    },
+    /// ACCEPT FROM DATE.
+    AcceptDate {
+        receiver: Reference,
     },
 }

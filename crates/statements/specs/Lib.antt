@@ -1,4 +1,12 @@
 pub mod Verbs
+pub mod Accepting
+pub mod Receivers
+pub mod Adding
+pub mod Subtracting
+pub mod Multiplying
+pub mod Dividing
+pub mod Computing
+pub mod Arithmetic
 pub mod Continuing
 pub mod Display
 pub mod Moving

@@ -8,6 +8,8 @@ use Rattle.grammar.specs.Reading.{Parser, ◌>>=◌, ◌>>◌, pure, refuse, her
 use Rattle.statements.specs.declared.verb.VerbWord.{VerbWord}
 use Rattle.statements.specs.declared.verb.VerbWord.TheVariants as v
 use Rattle.statements.specs.Verbs.{verb_at, begins_statement}
+use Rattle.statements.specs.Accepting.{accepting_reader}
+use Rattle.statements.specs.Arithmetic.{arithmetic_reader}
 use Rattle.statements.specs.Continuing.{continuing_reader}
 use Rattle.statements.specs.Display.{display_reader}
 use Rattle.statements.specs.Moving.{moving_reader}
@@ -21,6 +23,8 @@ statements statement = several statement begins_statement
 module _ (depth : ℕ) (statement : Parser Statement) where
   abbrev pub by_verb : Option VerbWord → Parser (Verb Statement)
   by_verb None = refuse
+  by_verb (Some v.Accept) = accepting_reader
+  by_verb (Some (v.Arithmetic one)) = arithmetic_reader depth (statements statement) one
   by_verb (Some v.Continue) = continuing_reader
   by_verb (Some v.Display) = display_reader
   by_verb (Some v.Move) = moving_reader

@@ -1,5 +1,5 @@
 -- Which tokens spell which statement: one line for each verb, whose rule stands in a file of its own.
-use Rattle.std.specs.Prelude.{ℕ, zero, suc, List}
+use Rattle.std.specs.Prelude.{ℕ, zero, suc, true, false, List}
 use Rattle.source_tree.specs.declared.moving.Moving.{Moving}
 use Rattle.source_tree.specs.declared.moving.Moving.TheVariants.{Move}
 use Rattle.source_tree.specs.declared.text.Text.{Text}
@@ -12,6 +12,8 @@ use Rattle.source_tree.specs.declared.statement.Statement.{Statement, out-Statem
 use Rattle.source_tree.specs.declared.program.Sentence.{Sentence}
 use Rattle.grammar.specs.Parts.{Part, ◌then◌, several, tested, here, period}
 use Rattle.statements.specs.Verbs.{begins_statement}
+use Rattle.statements.specs.Accepting.{accepting}
+use Rattle.statements.specs.Arithmetic.{arithmetic}
 use Rattle.statements.specs.Continuing.{continuing}
 use Rattle.statements.specs.Display.{display}
 use Rattle.statements.specs.Moving.{moving}
@@ -27,6 +29,8 @@ moving_line (Move sender receivers) = moving sender receivers
 
 abbrev pub text_line : Text → Part
 text_line (text.Display operands advancing) = display operands advancing
+text_line (text.Accept receiver) = accepting receiver true
+text_line (text.AcceptDate receiver) = accepting receiver false
 
 abbrev pub ending_line : Ending → Part
 ending_line ending.StopRun = stop_run
@@ -41,6 +45,7 @@ module _ (depth : ℕ) (statement : Statement → Part) where
   -- begin, so that what stands belongs to the innermost statement that can take it (COBOL-85, Nucleus, "Statements").
   abbrev pub verb_line : Verb Statement → Part
   verb_line (verb.Moving one) = moving_line one
+  verb_line (verb.Arithmetic one) = arithmetic depth (statements statement) one
   verb_line (verb.Performing one) = performing (statements statement) one
   verb_line (verb.Text one) = text_line one
   verb_line (verb.Ending one) = ending_line one

@@ -5,16 +5,23 @@ use Rattle.tokens.specs.declared.reserved.Reserved.TheVariants as w
 use Rattle.tokens.specs.declared.token.Kind.{Kind}
 use Rattle.tokens.specs.declared.token.Kind.TheVariants as k
 use Rattle.tokens.specs.declared.token.Token.{Token}
+use Rattle.statements.specs.declared.verb.ArithmeticVerb.TheVariants as a
 use Rattle.statements.specs.declared.verb.VerbWord.{VerbWord}
 use Rattle.statements.specs.declared.verb.VerbWord.TheVariants as v
 
 -- the verb that a word is
 abbrev pub verb_of : Reserved → Option VerbWord
+verb_of w.Accept = Some v.Accept
+verb_of w.Add = Some (v.Arithmetic a.Add)
+verb_of w.Compute = Some (v.Arithmetic a.Compute)
 verb_of w.Continue = Some v.Continue
 verb_of w.Display = Some v.Display
+verb_of w.Divide = Some (v.Arithmetic a.Divide)
 verb_of w.Move = Some v.Move
+verb_of w.Multiply = Some (v.Arithmetic a.Multiply)
 verb_of w.Perform = Some v.Perform
 verb_of w.Stop = Some v.Stop
+verb_of w.Subtract = Some (v.Arithmetic a.Subtract)
 verb_of _ = None
 
 abbrev pub verb_in : Kind → Option VerbWord

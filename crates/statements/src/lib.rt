@@ -2,14 +2,22 @@
 //! the tokens.
 #![tactic(auto)]
 
+mod accepting;
+mod adding;
+mod arithmetic;
+mod computing;
 mod continuing;
 mod display;
+mod dividing;
 mod moving;
+mod multiplying;
 mod nesting;
 mod performing;
+mod receivers;
 mod sentences;
 mod stop_run;
+mod subtracting;
 mod verb;
 
 pub use sentences::sentence;
-pub use verb::{VerbWord, begins_statement, verb_at, verb_of};
+pub use verb::{ArithmeticVerb, VerbWord, begins_statement, verb_at, verb_of};

@@ -6,6 +6,7 @@ ghost use Rattle.grammar.specs.Reading.{Reads};
 ghost use Rattle.statements.specs.Reading as spec;
 ghost use Rattle.statements.specs.Nests.{Nests};
 
+use crate::accepting::accepting;
 use crate::continuing::continuing;
 use crate::display::display;
 use crate::moving::moving;
@@ -63,6 +64,8 @@ impl<F: Fn(Global, &mut Tokens<'_>, usize) -> Result<Statement, ReadFault>> Nest
         ensures { Reads (spec.verb self.now.depth (spec.statement self.now.depth) tokens.old) result tokens.new }
     {
         match verb_at(tokens) {
+            Some(VerbWord::Accept) => accepting(self.alloc, tokens),
+            Some(VerbWord::Arithmetic(verb)) => self.arithmetic(verb, tokens),
             Some(VerbWord::Continue) => continuing(tokens),
             Some(VerbWord::Display) => display(self.alloc, tokens),
             Some(VerbWord::Move) => moving(self.alloc, tokens),

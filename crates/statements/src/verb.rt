@@ -6,9 +6,21 @@ ghost use Rattle.statements.specs.Verbs as spec;
 use grammar::Tokens;
 use tokens::{Kind, Reserved};
 
+/// A verb of an arithmetic statement.
+#[derive(Clone, Copy, Debug, PartialEq, Eq)]
+pub enum ArithmeticVerb {
+    Add,
+    Subtract,
+    Multiply,
+    Divide,
+    Compute,
+}
+
 /// A reserved word that is a verb.
 #[derive(Clone, Copy, Debug, PartialEq, Eq)]
 pub enum VerbWord {
+    Accept,
+    Arithmetic(ArithmeticVerb),
     Continue,
     Display,
     Move,
@@ -21,11 +33,17 @@ pub fn verb_of(word: Reserved) -> Option<VerbWord>
     ensures { result ≡ spec.verb_of word }
 {
     match word {
+        Reserved::Accept => Some(VerbWord::Accept),
+        Reserved::Add => Some(VerbWord::Arithmetic(ArithmeticVerb::Add)),
+        Reserved::Compute => Some(VerbWord::Arithmetic(ArithmeticVerb::Compute)),
         Reserved::Continue => Some(VerbWord::Continue),
         Reserved::Display => Some(VerbWord::Display),
+        Reserved::Divide => Some(VerbWord::Arithmetic(ArithmeticVerb::Divide)),
         Reserved::Move => Some(VerbWord::Move),
+        Reserved::Multiply => Some(VerbWord::Arithmetic(ArithmeticVerb::Multiply)),
         Reserved::Perform => Some(VerbWord::Perform),
         Reserved::Stop => Some(VerbWord::Stop),
+        Reserved::Subtract => Some(VerbWord::Arithmetic(ArithmeticVerb::Subtract)),
         _ => None,
     }
 }

@@ -3,6 +3,8 @@
 #![tactic(auto)]
 
 #[cfg(test)]
+mod arithmetic_rows;
+#[cfg(test)]
 mod asserted;
 mod if_statement;
 mod laws;
@@ -10,6 +12,8 @@ mod nesting;
 #[cfg(test)]
 mod rows;
 mod tree;
+#[cfg(test)]
+mod written;
 
 pub use if_statement::branching;
 pub use laws::if_law;

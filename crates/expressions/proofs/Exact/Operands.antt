@@ -9,14 +9,14 @@ use Rattle.source_tree.specs.declared.literal.Literal.{Literal}
 use Rattle.source_tree.specs.declared.expression.Operand.{Operand}
 use Rattle.source_tree.specs.declared.expression.Operand.TheVariants as operand_as
 use Rattle.grammar.specs.declared.fault.Halt.{Halt}
-use Rattle.grammar.specs.Parts.{begins_name, name_in, several, tested}
+use Rattle.grammar.specs.Parts.{begins_name, begins_telling, name_in, several, tested}
 use Rattle.grammar.specs.Reading as read
 use Rattle.grammar.specs.Reading.{one_token}
 use Rattle.grammar.proofs.Outcomes.{Reached, step, unstep, value, last}
 use Rattle.grammar.proofs.Looking.{tests_tested}
 use Rattle.grammar.proofs.Lists as lists
 use Rattle.grammar.proofs.Lists.{Sound, Complete, Shrinks, Starts}
-use Rattle.grammar.proofs.Parts.{one_token_sound, one_token_complete, telling_shrinks}
+use Rattle.grammar.proofs.Parts.{one_token_sound, one_token_complete, telling_shrinks, telling_starts}
 use Rattle.expressions.specs.Marks.{left_in, sign_in, begins_left, begins_sign}
 use Rattle.expressions.specs.Literals.{literal_reader, begins_literal, number_value_by, number_literal_in, literal_at}
 use Rattle.expressions.specs.References.{reference_reader}
@@ -115,6 +115,22 @@ number_operand_complete (operand_as.Literal one) i rest s =
 pub number_operand_shrinks : Shrinks g.number_operand
 number_operand_shrinks (operand_as.Item one) i rest s = reference_shrinks one i rest s
 number_operand_shrinks (operand_as.Literal one) i rest s = telling_shrinks number_literal_in one i rest s
+
+pub number_operand_starts : Starts g.begins_number_operand g.number_operand
+number_operand_starts (operand_as.Item one) i rest s = ap (λ b. b || begins_telling number_literal_in i) (reference_starts one i rest s)
+number_operand_starts (operand_as.Literal one) i rest s = either (begins_name i) (begins_telling number_literal_in i) (telling_starts number_literal_in one i rest s)
+
+-- ---- numbers in a list
+
+pub number_operands_sound : Sound (several g.number_operand (tested g.begins_number_operand)) (read.several g.number_operand_reader g.begins_number_operand)
+number_operands_sound = lists.several_sound g.number_operand g.number_operand_reader (tested g.begins_number_operand) g.begins_number_operand (tests_tested g.begins_number_operand) number_operand_sound
+
+pub number_operands_complete : {Allowed : Halt → Type 0} → Complete Allowed (several g.number_operand (tested g.begins_number_operand)) (read.several g.number_operand_reader g.begins_number_operand)
+number_operands_complete {Allowed = Allowed} =
+    lists.several_complete g.number_operand g.number_operand_reader (tested g.begins_number_operand) g.begins_number_operand (tests_tested g.begins_number_operand) Allowed (number_operand_complete {Allowed = Allowed}) number_operand_shrinks number_operand_starts
+
+pub number_operands_shrink : Shrinks (several g.number_operand (tested g.begins_number_operand))
+number_operands_shrink = lists.several_shrinks g.number_operand (tested g.begins_number_operand) number_operand_shrinks
 
 -- it begins with no parenthesis and no operator
 

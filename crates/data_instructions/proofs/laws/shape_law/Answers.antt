@@ -1,4 +1,5 @@
 use Rattle.data_instructions.proofs.Chains.{effects_append, move_known, display_known, accept_known, date_known}
+use Rattle.data_instructions.proofs.ArithmeticChains.{arithmetic_known}
 use Rattle.data_instructions.proofs.laws.shape_law.Goals as goal
 
 pub returns-clause-chain : goal.returns-clause-chain
@@ -15,3 +16,6 @@ returns-clause-accepts c = accept_known
 
 pub returns-clause-dates : goal.returns-clause-dates
 returns-clause-dates c = date_known
+
+pub returns-clause-calculates : goal.returns-clause-calculates
+returns-clause-calculates c = λ items tables keep one code is lies. arithmetic_known items tables keep one code is lies

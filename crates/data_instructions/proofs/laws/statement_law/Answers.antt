@@ -1,4 +1,5 @@
 use Rattle.data_instructions.proofs.Codes.{works_append, place_taken, move_works, display_works, accept_works, date_works}
+use Rattle.data_instructions.proofs.ArithmeticCodes.{arithmetic_works}
 use Rattle.data_instructions.proofs.laws.statement_law.Goals as goal
 
 pub returns-clause-chain : goal.returns-clause-chain
@@ -18,3 +19,6 @@ returns-clause-accepts c = λ items tables receiver code order is line. accept_w
 
 pub returns-clause-dates : goal.returns-clause-dates
 returns-clause-dates c = λ items tables receiver code order is day. date_works items tables order day receiver code is
+
+pub returns-clause-calculates : goal.returns-clause-calculates
+returns-clause-calculates c = λ items tables keep one code order is. arithmetic_works items tables order keep one code is

@@ -25,6 +25,6 @@ returns-clause-moments g c = λ honest tree is.
 
 pub returns-clause-own : goal.returns-clause-own
 returns-clause-own g c =
-    let has = c.in_ok-image.ensures.image.2 (record { budget = c.args.budget; day = [] }) in
+    let has = c.in_ok-image.ensures.image.2 (record { budget = c.args.budget; day = []; lines = [] }) in
     end_of_image c.spelling_law.ensures c.as_slice.result.now c.run_image.result
     (subst (λ bytes. IsImage bytes) (sym c.as_slice.ensures.value) (has.code, has.is)) c.run_image.ensures.image

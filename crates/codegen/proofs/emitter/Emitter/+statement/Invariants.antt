@@ -1,4 +1,4 @@
-use Rattle.std.proofs.Common.{◌≡◌, drop}
+use Rattle.std.proofs.Common.{◌≡◌, ◌+◌, ◌*◌, drop}
 use Rattle.check_rules.specs.Named.{items_in}
 use Rattle.codegen.specs.Pieces.{joined, in_order}
 use Rattle.codegen.specs.Layout.{statement_piece}
@@ -7,3 +7,25 @@ use Rattle.codegen.proofs.emitter.Emitter.+statement.Given as goal
 -- what is there, and what is still to come, are the whole
 abbrev pub invariant-emit_statements-loop-one : goal.invariant-emit_statements-loop-one
 invariant-emit_statements-loop-one l = joined l.code (in_order (statement_piece (items_in l.self.declarations.now)) (drop l.one-index l.all) l.code) ≡ joined l.initial.code (in_order (statement_piece (items_in l.self.declarations.now)) l.all l.initial.code)
+
+-- Each goes down by the depth of the statements in it, and a caller stands above what it hands the same ones to.
+abbrev pub decreases-emit_statement : goal.decreases-emit_statement
+decreases-emit_statement l = 8 * goal.size-emit_statement l
+
+abbrev pub decreases-emit_statements : goal.decreases-emit_statements
+decreases-emit_statements l = 8 * goal.size-emit_statements l + 1
+
+abbrev pub decreases-emit_times : goal.decreases-emit_times
+decreases-emit_times l = 8 * goal.size-emit_times l + 2
+
+abbrev pub decreases-emit_performing : goal.decreases-emit_performing
+decreases-emit_performing l = 8 * goal.size-emit_performing l + 3
+
+abbrev pub decreases-emit_phrase : goal.decreases-emit_phrase
+decreases-emit_phrase l = 8 * goal.size-emit_phrase l + 2
+
+abbrev pub decreases-emit_phrases : goal.decreases-emit_phrases
+decreases-emit_phrases l = 8 * goal.size-emit_phrases l + 3
+
+abbrev pub decreases-emit_calculating : goal.decreases-emit_calculating
+decreases-emit_calculating l = 8 * goal.size-emit_calculating l + 4

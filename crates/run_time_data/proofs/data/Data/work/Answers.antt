@@ -1,7 +1,7 @@
 use Rattle.std.proofs.Common.{subst}
 use Rattle.data_instructions.specs.declared.instruction.DataInstruction.{DataInstruction}
 use Rattle.run_time_data.specs.Ready.{IsReady}
-use Rattle.run_time_data.proofs.Readies.{ready_place, ready_index, ready_push, ready_literal, ready_add, ready_subtract, ready_take, ready_take_literal, ready_move, ready_append, ready_append_literal}
+use Rattle.run_time_data.proofs.Readies.{ready_place, ready_index, ready_push, ready_literal, ready_calculate, ready_store, ready_void, ready_take, ready_take_literal, ready_move, ready_append, ready_append_literal}
 use Rattle.run_time_data.proofs.data.Data.work.Goals as goal
 
 pub place-requires-clause-item : goal.place-requires-clause-item
@@ -31,17 +31,23 @@ literal-requires-clause-literal c = (ready_literal c.args.tables.now c.args.self
 pub literal-requires-clause-room : goal.literal-requires-clause-room
 literal-requires-clause-room c = (ready_literal c.args.tables.now c.args.self.now c.in-Literal.number (subst (λ (one : DataInstruction). IsReady c.args.tables.now c.args.self.now one) c.in-Literal.is c.requires)).1
 
-pub add-requires-clause-operands : goal.add-requires-clause-operands
-add-requires-clause-operands c = (ready_add c.args.tables.now c.args.self.now (subst (λ (one : DataInstruction). IsReady c.args.tables.now c.args.self.now one) c.in-Add.is c.requires)).0
+pub calculate-requires-clause-operands : goal.calculate-requires-clause-operands
+calculate-requires-clause-operands c = (ready_calculate c.args.tables.now c.args.self.now c.in-Calculate.one (subst (λ (one : DataInstruction). IsReady c.args.tables.now c.args.self.now one) c.in-Calculate.is c.requires)).0
 
-pub add-requires-clause-room : goal.add-requires-clause-room
-add-requires-clause-room c = (ready_add c.args.tables.now c.args.self.now (subst (λ (one : DataInstruction). IsReady c.args.tables.now c.args.self.now one) c.in-Add.is c.requires)).1
+pub calculate-requires-clause-room : goal.calculate-requires-clause-room
+calculate-requires-clause-room c = (ready_calculate c.args.tables.now c.args.self.now c.in-Calculate.one (subst (λ (one : DataInstruction). IsReady c.args.tables.now c.args.self.now one) c.in-Calculate.is c.requires)).1
 
-pub subtract-requires-clause-operands : goal.subtract-requires-clause-operands
-subtract-requires-clause-operands c = (ready_subtract c.args.tables.now c.args.self.now (subst (λ (one : DataInstruction). IsReady c.args.tables.now c.args.self.now one) c.in-Subtract.is c.requires)).0
+pub store_number-requires-clause-operand : goal.store_number-requires-clause-operand
+store_number-requires-clause-operand c = (ready_store c.args.tables.now c.args.self.now c.in-Store.rounded c.in-Store.keep (subst (λ (one : DataInstruction). IsReady c.args.tables.now c.args.self.now one) c.in-Store.is c.requires)).0
 
-pub subtract-requires-clause-room : goal.subtract-requires-clause-room
-subtract-requires-clause-room c = (ready_subtract c.args.tables.now c.args.self.now (subst (λ (one : DataInstruction). IsReady c.args.tables.now c.args.self.now one) c.in-Subtract.is c.requires)).1
+pub store_number-requires-clause-number : goal.store_number-requires-clause-number
+store_number-requires-clause-number c = (ready_store c.args.tables.now c.args.self.now c.in-Store.rounded c.in-Store.keep (subst (λ (one : DataInstruction). IsReady c.args.tables.now c.args.self.now one) c.in-Store.is c.requires)).1
+
+pub void_if_true-requires-clause-number : goal.void_if_true-requires-clause-number
+void_if_true-requires-clause-number c = (ready_void c.args.tables.now c.args.self.now (subst (λ (one : DataInstruction). IsReady c.args.tables.now c.args.self.now one) c.in-VoidIfTrue.is c.requires)).0
+
+pub void_if_true-requires-clause-room : goal.void_if_true-requires-clause-room
+void_if_true-requires-clause-room c = (ready_void c.args.tables.now c.args.self.now (subst (λ (one : DataInstruction). IsReady c.args.tables.now c.args.self.now one) c.in-VoidIfTrue.is c.requires)).1
 
 pub take-requires-clause-operand : goal.take-requires-clause-operand
 take-requires-clause-operand c = (ready_take c.args.tables.now c.args.self.now (subst (λ (one : DataInstruction). IsReady c.args.tables.now c.args.self.now one) c.in-Take.is c.requires))

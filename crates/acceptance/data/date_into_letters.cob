@@ -1,0 +1,10 @@
+       IDENTIFICATION DIVISION.
+       PROGRAM-ID. RULES.
+       DATA DIVISION.
+       WORKING-STORAGE SECTION.
+       77  X PIC X(6).
+       77  A PIC A(6).
+       PROCEDURE DIVISION.
+           ACCEPT A FROM DATE.
+           ACCEPT X FROM DATE.
+           STOP RUN.

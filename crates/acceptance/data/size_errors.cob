@@ -1,0 +1,52 @@
+       IDENTIFICATION DIVISION.
+       PROGRAM-ID. SIZES.
+       DATA DIVISION.
+       WORKING-STORAGE SECTION.
+       77  N PIC 99 VALUE 99.
+       77  M PIC 9 VALUE 3.
+       77  BIG PIC 9(18) VALUE 999999999999999999.
+       77  RES PIC 9(18) VALUE 5.
+       77  A PIC 9.
+       77  B PIC S9.
+       77  Q PIC 9 VALUE 4.
+       77  R PIC 9 VALUE 7.
+       PROCEDURE DIVISION.
+       MAIN.
+           ADD 1 TO N ON SIZE ERROR DISPLAY "ADD OVER".
+           DISPLAY N.
+           ADD 1 TO N M SIZE ERROR DISPLAY "ONE OVER"
+               NOT SIZE ERROR DISPLAY "NONE" END-ADD.
+           DISPLAY N M.
+           ADD 1 TO M NOT ON SIZE ERROR DISPLAY "FITS" END-ADD.
+           DISPLAY M.
+           ADD 1 TO N.
+           DISPLAY N.
+           COMPUTE A ROUNDED = 2.5.
+           COMPUTE B ROUNDED = -2.5.
+           DISPLAY A B.
+           MULTIPLY BIG BY BIG GIVING RES
+               ON SIZE ERROR DISPLAY "KEPT" RES.
+           MULTIPLY BIG BY BIG GIVING RES.
+           DISPLAY RES.
+           COMPUTE RES = BIG * BIG * BIG.
+           DISPLAY RES.
+           COMPUTE RES = BIG * BIG * BIG
+               ON SIZE ERROR DISPLAY "TOO LARGE".
+           DIVIDE 0 INTO M ON SIZE ERROR DISPLAY "BY ZERO".
+           DISPLAY M.
+           DIVIDE 100 BY 7 GIVING Q REMAINDER R
+               ON SIZE ERROR DISPLAY "NO QUOTIENT".
+           DISPLAY Q R.
+           DIVIDE 100 BY 7 GIVING Q REMAINDER R.
+           DISPLAY Q R.
+           DIVIDE 17 BY 3 GIVING Q ROUNDED REMAINDER R.
+           DISPLAY Q R.
+           ADD 1 TO N SIZE ERROR
+               ADD 99 TO N SIZE ERROR DISPLAY "INNER"
+               NOT SIZE ERROR DISPLAY "INNER FITS" END-ADD
+           NOT SIZE ERROR
+               ADD 99 TO N SIZE ERROR DISPLAY "SECOND"
+               NOT SIZE ERROR DISPLAY "SECOND FITS" END-ADD
+           END-ADD.
+           DISPLAY N.
+           STOP RUN.

@@ -1,0 +1,10 @@
+       IDENTIFICATION DIVISION.
+       PROGRAM-ID. RULES.
+       DATA DIVISION.
+       WORKING-STORAGE SECTION.
+       77  E PIC ZZ9.
+       77  N PIC 9(3).
+       PROCEDURE DIVISION.
+           ADD 1 N GIVING E ROUNDED.
+           ADD 1 TO E.
+           STOP RUN.

@@ -1,0 +1,9 @@
+       IDENTIFICATION DIVISION.
+       PROGRAM-ID. RULES.
+       DATA DIVISION.
+       WORKING-STORAGE SECTION.
+       77  A PIC X(3).
+       77  N PIC 9(3).
+       PROCEDURE DIVISION.
+           ADD A TO N.
+           STOP RUN.

@@ -1,0 +1,10 @@
+       IDENTIFICATION DIVISION.
+       PROGRAM-ID. RULES.
+       DATA DIVISION.
+       WORKING-STORAGE SECTION.
+       77  N PIC 9(3).
+       PROCEDURE DIVISION.
+           COMPUTE N = N * 2
+               ON SIZE ERROR DISPLAY "N"
+               NOT SIZE ERROR MOVE 1 TO NN.
+           STOP RUN.

@@ -1,0 +1,26 @@
+-- What is asked of the item that a reference names.
+use Rattle.std.specs.Prelude.{not, List, [], Option, Some, None}
+use Rattle.items.specs.declared.item.Kind.{Kind}
+use Rattle.items.specs.declared.taken.Taken.{Taken}
+use Rattle.edited_move.specs.Moves.{wants_number}
+use Rattle.lexical.specs.declared.place.Place.{Place}
+use Rattle.source_tree.specs.Places.{Placed}
+use Rattle.source_tree.specs.Broken.{Broken, where_so}
+use Rattle.source_tree.specs.ArithmeticRules.{is_numeric_kind}
+use Rattle.check_rules.specs.declared.asked.Asked.{Asked}
+use Rattle.check_rules.specs.declared.asked.Asked.TheVariants as asked
+use Rattle.check_rules.specs.Sending.{may_go, sent_of}
+
+abbrev pub asks_kind : Asked → Kind → Place → List Broken
+asks_kind asked.Nothing kind place = []
+asks_kind (asked.Receives sent) kind place = where_so (not (may_go sent kind)) 49 place
+asks_kind asked.Numeric kind place = where_so (not (is_numeric_kind kind)) 51 place
+asks_kind asked.StoresNumber kind place = where_so (not (wants_number kind)) 51 place
+
+abbrev pub asks : Asked → Place → Placed → List Broken
+asks one place found = asks_kind one found.item.kind place
+
+-- what a sender asks of receivers; nothing, if there is no sender
+abbrev pub asked_by : Option Taken → Asked
+asked_by None = asked.Nothing
+asked_by (Some from) = asked.Receives (sent_of from)

@@ -1,0 +1,48 @@
+-- Parts of the rules of arithmetic statements and expressions.
+use Rattle.std.specs.Prelude.{List, [], ◌++◌}
+use Rattle.source_tree.specs.declared.arithmetic.Receiver.{Receiver}
+use Rattle.source_tree.specs.declared.arithmetic.Operation.{Operation}
+use Rattle.source_tree.specs.declared.arithmetic.Operation.TheVariants.{Add, AddGiving, Subtract, SubtractGiving, Multiply, MultiplyGiving, Divide, DivideGiving, DivideRemainder, Compute}
+use Rattle.source_tree.specs.declared.expression.Operator.{Operator}
+use Rattle.source_tree.specs.declared.expression.Expression.{Expression}
+use Rattle.source_tree.specs.Places.{Placed}
+use Rattle.source_tree.specs.Broken.{Broken, each}
+use Rattle.source_tree.specs.NameRules.{item_rules}
+use Rattle.source_tree.specs.ArithmeticRules.{number_rules, number_receiver, updated_rules, given_rules, expression_rules}
+use Rattle.check_rules.specs.declared.asked.Asked.{Asked}
+use Rattle.check_rules.specs.Asking.{asks}
+
+-- an operand behind an operator
+abbrev pub further_rules : List Placed → Operator × Expression → List Broken
+further_rules items one = expression_rules items one.1
+
+-- a receiver of which that is asked
+abbrev pub receiver_rules : List Placed → Asked → Receiver → List Broken
+receiver_rules items asked one = item_rules items (asks asked) one.item
+
+-- What stands in front of the receivers; in COMPUTE nothing.
+abbrev pub operands_rules : List Placed → Operation → List Broken
+operands_rules items (Add operands receivers) = each (number_rules items) operands
+operands_rules items (AddGiving operands receivers) = each (number_rules items) operands
+operands_rules items (Subtract operands receivers) = each (number_rules items) operands
+operands_rules items (SubtractGiving operands minuend receivers) = each (number_rules items) operands ++ number_rules items minuend
+operands_rules items (Multiply factor receivers) = number_rules items factor
+operands_rules items (MultiplyGiving factor by receivers) = number_rules items factor ++ number_rules items by
+operands_rules items (Divide divisor receivers) = number_rules items divisor
+operands_rules items (DivideGiving first order second receivers) = number_rules items first ++ number_rules items second
+operands_rules items (DivideRemainder first order second quotient remainder) = number_rules items first ++ number_rules items second
+operands_rules items (Compute receivers value) = []
+
+-- The receivers, and what stands behind them.
+abbrev pub receivers_rules : List Placed → Operation → List Broken
+receivers_rules items (Add operands receivers) = updated_rules items receivers
+receivers_rules items (AddGiving operands receivers) = given_rules items receivers
+receivers_rules items (Subtract operands receivers) = updated_rules items receivers
+receivers_rules items (SubtractGiving operands minuend receivers) = given_rules items receivers
+receivers_rules items (Multiply factor receivers) = updated_rules items receivers
+receivers_rules items (MultiplyGiving factor by receivers) = given_rules items receivers
+receivers_rules items (Divide divisor receivers) = updated_rules items receivers
+receivers_rules items (DivideGiving first order second receivers) = given_rules items receivers
+receivers_rules items (DivideRemainder first order second quotient remainder) =
+    item_rules items number_receiver quotient.item ++ item_rules items number_receiver remainder
+receivers_rules items (Compute receivers value) = given_rules items receivers ++ expression_rules items value

@@ -1,0 +1,81 @@
+//! The rules of operands that are numbers, and of arithmetic expressions: 51 besides those of references and literals (COBOL-85,
+//! Nucleus, "Arithmetic expressions").
+
+ghost use Rattle.std.specs.Prelude.{◌≡◌};
+ghost use Rattle.entry_rules.specs.Checks.{Finds};
+ghost use Rattle.source_tree.specs.Broken.{each};
+ghost use Rattle.source_tree.specs.ArithmeticRules as spec;
+ghost use Rattle.check_rules.specs.Named.{IsDeclared, items_in};
+ghost use Rattle.check_rules.specs.Operations.{further_rules};
+
+use crate::asked::Asked;
+use crate::declarations::Declarations;
+use crate::forms::literal_rules;
+use entry_rules::{BrokenRule, Rule};
+use source_tree::{Expression, Figurative, LiteralValue, Operand, Operator};
+
+/// A numeric literal, or ZERO.
+fn is_number(value: &LiteralValue) -> bool
+    ensures { result ≡ spec.is_number value.now }
+{
+    matches!(
+        value,
+        LiteralValue::Numeric(_) | LiteralValue::Figurative(Figurative::Zero)
+    )
+}
+
+impl<'a> Declarations<'a> {
+    /// An operand that is a number: a numeric item, a numeric literal or ZERO.
+    pub fn number_rules(&self, one: &Operand) -> Result<(), BrokenRule>
+        requires { IsDeclared self.now }
+        ensures { Finds result (spec.number_rules (items_in self.now) one.now) }
+    {
+        match one {
+            Operand::Item(reference) => self.item_rules(Asked::Numeric, reference),
+            Operand::Literal(literal) => {
+                Rule::Number.broken_if(!is_number(&literal.value), literal.place)?;
+                literal_rules(literal)
+            }
+        }
+    }
+
+    /// Operands that are numbers, in order.
+    pub(crate) fn numbers_rules(&self, all: &[Operand]) -> Result<(), BrokenRule>
+        requires { IsDeclared self.now }
+        ensures { Finds result (each (spec.number_rules (items_in self.now)) all.now) }
+    {
+        for one in all {
+            self.number_rules(one)?;
+        }
+        Ok(())
+    }
+
+    /// An expression, with those in it.
+    #[cycle(expression)]
+    #[tactic(auto, using(crate::proofs::Layers::operand_is, crate::proofs::Layers::negated_is, crate::proofs::Layers::chain_is))]
+    pub fn expression_rules(&self, one: &Expression) -> Result<(), BrokenRule>
+        requires { IsDeclared self.now }
+        ensures { Finds result (spec.expression_rules (items_in self.now) one.now) }
+    {
+        match one {
+            Expression::Operand(operand) => self.number_rules(operand),
+            Expression::Negated(inner) => self.expression_rules(inner.get()),
+            Expression::Chain { first, more } => {
+                self.expression_rules(first.get())?;
+                self.further_rules(more.as_slice())
+            }
+        }
+    }
+
+    /// Operands behind operators, in order.
+    #[cycle(expression)]
+    fn further_rules(&self, all: &[(Operator, Expression)]) -> Result<(), BrokenRule>
+        requires { IsDeclared self.now }
+        ensures { Finds result (each (further_rules (items_in self.now)) all.now) }
+    {
+        for (_, one) in all {
+            self.expression_rules(one)?;
+        }
+        Ok(())
+    }
+}

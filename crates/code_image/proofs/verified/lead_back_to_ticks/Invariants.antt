@@ -1,7 +1,0 @@
-use Rattle.std.proofs.Common.{ℕ, ◌<◌}
-use Rattle.std.specs.Prelude.{slice_get}
-use Rattle.code_image.specs.Demands.{LeadsBack}
-use Rattle.code_image.proofs.verified.lead_back_to_ticks.Given as goal
-
-abbrev pub invariant-loop-address : goal.invariant-loop-address
-invariant-loop-address l = (k : ℕ) → k < l.address → LeadsBack l.instructions k (slice_get l.instructions k)

@@ -1,0 +1,199 @@
+-- The code of conditions does what they mean.
+use Rattle.std.proofs.Common.{◌≡◌, ℕ, ◌+◌, List, [], ◌∷◌, ◌++◌, refl, sym, ◌∙◌, ap, Option, Some, None}
+use Rattle.std.specs.Prelude.{Bool, true, false, ◌||◌, Ok, Err}
+use Rattle.text_ops.specs.Classes.{is_class}
+use Rattle.source_tree.specs.declared.literal.Literal.{Literal}
+use Rattle.source_tree.specs.declared.entry.ValueRange.{ValueRange}
+use Rattle.source_tree.specs.declared.reference.Reference.{Reference}
+use Rattle.source_tree.specs.declared.expression.Operand.{Operand}
+use Rattle.source_tree.specs.declared.expression.Operand.TheVariants as operand
+use Rattle.source_tree.specs.declared.expression.Expression.{Expression}
+use Rattle.source_tree.specs.declared.condition.Relation.{Relation}
+use Rattle.source_tree.specs.declared.condition.Relation.TheVariants as relation
+use Rattle.source_tree.specs.declared.condition.SignTest.{SignTest}
+use Rattle.source_tree.specs.declared.condition.Class.{Class}
+use Rattle.source_tree.specs.declared.condition.Side.{Side}
+use Rattle.source_tree.specs.Places.{Placed}
+use Rattle.source_tree.specs.Literals.{Sender, item_sender, literal_sender}
+use Rattle.source_tree.specs.Evaluated.{Evaluated, ◌>>=◌, needed}
+use Rattle.source_tree.specs.References.{part_of, place_behind, place_of, occurrence}
+use Rattle.source_tree.specs.References as tree
+use Rattle.source_tree.specs.Moving.{taken_of}
+use Rattle.source_tree.specs.Computed.{Computed, Reckoning, expression_value}
+use Rattle.source_tree.specs.Conditions.{senders_stand, numbers_stand, lies_within, in_range, in_ranges, unless, class_of, zero_value, sign_relation, side_number, relation_of, class_holds, value_holds, condition_holds, name_holds}
+use Rattle.data_instructions.specs.declared.tables.DataTables.{DataTables}
+use Rattle.data_instructions.specs.declared.test.Test.TheVariants as t
+use Rattle.data_instructions.specs.declared.instruction.DataInstruction.{DataInstruction}
+use Rattle.data_instructions.specs.declared.instruction.DataInstruction.TheVariants as i
+use Rattle.data_instructions.specs.Tables.{IsTables, item_place, sender_of}
+use Rattle.data_instructions.specs.Scratch.{Scratch, Step, Went, step_with, step_at}
+use Rattle.data_instructions.specs.Table.{placed, pushed, taken, compared_at, truth_from, or_found, with_literal, classed, work}
+use Rattle.data_instructions.specs.Codes.{go_on, works}
+use Rattle.data_instructions.specs.ArithmeticCodes.{Computes}
+use Rattle.data_instructions.specs.ConditionCodes.{Decides, negation, IsComparedCode, IsRelationCode, IsSignCode, IsClassCode, IsRangeTest, AreValuesCode, IsNameCode, sign_truth, class_truth}
+use Rattle.data_instructions.proofs.Codes.{go_with, with_same, with_bind, works_append, taking_works, sender_works, subscripts_works}
+use Rattle.data_instructions.proofs.Expressions.{number_works}
+
+-- the sender that was taken, if one was found
+abbrev kept : {A : Type 0} → Evaluated A → (A → Sender) → Option Sender
+kept (Ok x) take = Some (take x)
+kept (Err fault) take = None
+
+-- Where none was found, no truth is either.
+kept_same : {A : Type 0} (r : Evaluated A) (take : A → Sender) (truth_of : A → Evaluated Bool) (s : Scratch)
+    → step_with r (λ x. step_with (truth_of x) (λ truth. Went (record s { truth = truth; sender = Some (take x) })))
+    ≡ step_with r (λ x. step_with (truth_of x) (λ truth. Went (record s { truth = truth; sender = kept r take })))
+kept_same (Ok x) take truth_of s = refl
+kept_same (Err fault) take truth_of s = refl
+
+module _ (tables : DataTables) where
+  -- two values are compared
+  numbers_work : (left right : Reckoning) (one : Relation) (front back : List DataInstruction) → Computes tables left front → Computes tables right back → (s : Scratch)
+      → works tables (front ++ (back ++ (i.Test (t.CompareNumbers one) ∷ []))) s ≡ step_with (left s.storage >>= (λ x. right s.storage >>= numbers_stand one x)) (λ truth. Went (record s { truth = truth }))
+  numbers_work left right one front back computes computes_other s =
+      works_append tables front (back ++ last) s
+      ∙ ap (λ step. go_on step (works tables (back ++ last))) (computes s)
+      ∙ go_with (left s.storage) (λ x. pushed x s) (works tables (back ++ last))
+      ∙ with_same (left s.storage) _ _ compares
+      ∙ sym (with_bind (left s.storage) (λ x. right s.storage >>= numbers_stand one x) done)
+    where
+      last : List DataInstruction
+      last = i.Test (t.CompareNumbers one) ∷ []
+
+      done : Bool → Step
+      done truth = Went (record s { truth = truth })
+
+      compares : (x : Computed) → works tables (back ++ last) (record s { numbers = x ∷ s.numbers }) ≡ step_with (right s.storage >>= numbers_stand one x) done
+      compares x =
+          let u : Scratch = record s { numbers = x ∷ s.numbers } in
+          works_append tables back last u
+          ∙ ap (λ step. go_on step (works tables last)) (computes_other u)
+          ∙ go_with (right s.storage) (λ y. pushed y u) (works tables last)
+          ∙ with_same (right s.storage) _ _ (λ y. go_with (numbers_stand one x y) done (works tables []))
+          ∙ sym (with_bind (right s.storage) (numbers_stand one x) done)
+
+  inverted : (negated truth : Bool) (s : Scratch) → works tables (negation negated) (record s { truth = truth }) ≡ Went (record s { truth = unless negated truth })
+  inverted true truth s = refl
+  inverted false truth s = refl
+
+module _ (items : List Placed) (tables : DataTables) where
+  pub sign_works : (value : Expression) (negated : Bool) (one : SignTest) (code : List DataInstruction) → IsSignCode items tables value negated one code → Decides tables (sign_truth items value negated one) code
+  sign_works value negated one code (front, computes, adds, back, is_back, is) s = record {
+    sender = s.sender;
+    by =
+        ap (λ c. works tables c s) is
+        ∙ numbers_work tables (expression_value items value) (λ storage. Ok zero_value) (sign_relation one negated) front back computes (number_works items tables _ back is_back) s;
+  }
+
+  -- a value of a condition name, of which the sender is looked at
+  range_works : (from : Literal) (last : Option Literal) (one : DataInstruction) → IsRangeTest items tables from last one → (x : Sender) (found : Bool) (s : Scratch)
+      → work tables one (record s { sender = Some x; truth = found }) ≡ step_with (in_range x from last) (λ fits. Went (record s { sender = Some x; truth = found || fits }))
+  range_works from None one (index, has, is) x found s =
+      let u : Scratch = record s { sender = Some x; truth = found } in
+      ap (λ c. work tables c u) is
+      ∙ ap (λ o. step_at o (λ entry. or_found (senders_stand relation.Equal x (sender_of entry)) u)) has.1
+      ∙ ap (λ y. or_found (senders_stand relation.Equal x y) u) has.2
+  range_works from (Some last) one (index, has, has_last, is) x found s =
+      let u : Scratch = record s { sender = Some x; truth = found } in
+      ap (λ c. work tables c u) is
+      ∙ ap (λ o. step_at o (λ entry. with_literal tables (index.number + 1) (λ z. or_found (lies_within x (sender_of entry) z) u))) has.1
+      ∙ ap (λ o. step_at o (λ entry. or_found (lies_within x (sender_of has.0) (sender_of entry)) u)) has_last.1
+      ∙ ap (λ y. or_found (lies_within x y (sender_of has_last.0)) u) has.2
+      ∙ ap (λ z. or_found (lies_within x (literal_sender from.value) z) u) has_last.2
+
+  values_work : (values : List ValueRange) (code : List DataInstruction) → AreValuesCode items tables values code → (x : Sender) (found : Bool) (s : Scratch)
+      → works tables code (record s { sender = Some x; truth = found }) ≡ step_with (in_ranges found x values) (λ truth. Went (record s { truth = truth; sender = Some x }))
+  values_work [] code is x found s = ap (λ c. works tables c (record s { sender = Some x; truth = found })) is
+  values_work (one ∷ more) code (front, is_front, back, is_back, is) x found s =
+      ap (λ c. works tables c (record s { sender = Some x; truth = found })) is
+      ∙ ap (λ step. go_on step (works tables back)) (range_works one.first one.last front is_front x found s)
+      ∙ go_with (in_range x one.first one.last) (λ fits. Went (record s { sender = Some x; truth = found || fits })) (works tables back)
+      ∙ with_same (in_range x one.first one.last) _ _ (λ fits. values_work more back is_back x (found || fits) s)
+      ∙ sym (with_bind (in_range x one.first one.last) (λ fits. in_ranges (found || fits) x more) (λ truth. Went (record s { truth = truth; sender = Some x })))
+
+module _ (items : List Placed) (tables : DataTables) (order : IsTables tables) where
+  -- the sender beside an operand
+  compared_works : (one : Relation) (other : Operand) (code : List DataInstruction) → IsComparedCode items tables one other code → (x : Sender) (s : Scratch)
+      → works tables code (record s { sender = Some x }) ≡ step_with (taken_of items other s.storage >>= senders_stand one x) (λ truth. Went (record s { truth = truth; sender = Some x }))
+  compared_works one (operand.Item reference) code is x s =
+      let done : Bool → Step = λ truth. Went (record s { truth = truth; sender = Some x }) in
+      taking_works items tables order (i.Test (t.Compare one)) (compared_at one) (λ u. refl) reference code is (record s { sender = Some x })
+      ∙ sym (with_bind (place_of items reference s.storage) (λ place. Ok (item_sender place.item (part_of s.storage place))) (λ y. step_with (senders_stand one x y) done))
+      ∙ sym (with_bind (taken_of items (operand.Item reference) s.storage) (senders_stand one x) done)
+  compared_works one (operand.Literal literal) code (index, has, is) x s =
+      let u : Scratch = record s { sender = Some x } in
+      let done : Bool → Step = λ truth. Went (record s { truth = truth; sender = Some x }) in
+      ap (λ c. works tables c u) is
+      ∙ ap (λ o. go_on (step_at o (λ entry. truth_from (senders_stand one x (sender_of entry)) u)) (works tables [])) has.1
+      ∙ ap (λ y. go_on (truth_from (senders_stand one x y) u) (works tables [])) has.2
+      ∙ go_with (senders_stand one x (literal_sender literal.value)) done (works tables [])
+
+  -- two operands alone
+  senders_work : (a b : Operand) (left : Side) (one : Relation) (right : Side) (code : List DataInstruction) → IsRelationCode items tables (Some a) (Some b) left one right code → Decides tables (relation_of items (Some a) (Some b) left one right) code
+  senders_work a b left one right code (front, is_front, back, is_back, is) s = record {
+    sender = kept (taken_of items a s.storage) (λ x. x);
+    by =
+        ap (λ c. works tables c s) is
+        ∙ works_append tables front back s
+        ∙ ap (λ step. go_on step (works tables back)) (sender_works items tables order a front is_front s)
+        ∙ go_with (taken_of items a s.storage) (λ x. Went (record s { sender = Some x })) (works tables back)
+        ∙ with_same (taken_of items a s.storage) _ _ (λ x. compared_works one b back is_back x s)
+        ∙ kept_same (taken_of items a s.storage) (λ x. x) (λ x. taken_of items b s.storage >>= senders_stand one x) s
+        ∙ sym (with_bind (taken_of items a s.storage) (λ x. taken_of items b s.storage >>= senders_stand one x) _);
+  }
+
+  -- a side that is no operand alone
+  sides_work : (left : Side) (one : Relation) (right : Side) (code : List DataInstruction) → IsRelationCode items tables None None left one right code → Decides tables (relation_of items None None left one right) code
+  sides_work left one right code (front, is_front, back, is_back, is) s = record {
+    sender = s.sender;
+    by = ap (λ c. works tables c s) is ∙ numbers_work tables (side_number items left) (side_number items right) one front back is_front.0 is_back.0 s;
+  }
+
+  pub relation_works : (a b : Option Operand) (left : Side) (one : Relation) (right : Side) (code : List DataInstruction) → IsRelationCode items tables a b left one right code → Decides tables (relation_of items a b left one right) code
+  relation_works (Some a) (Some b) left one right code is = senders_work a b left one right code is
+  relation_works (Some a) None left one right code is = sides_work left one right code is
+  relation_works None (Some b) left one right code is = sides_work left one right code is
+  relation_works None None left one right code is = sides_work left one right code is
+
+  pub class_works : (reference : Reference) (negated : Bool) (one : Class) (code : List DataInstruction) → IsClassCode items tables reference negated one code → Decides tables (class_truth items reference negated one) code
+  class_works reference negated one code (front, is_front, is) s = record {
+    sender = s.sender;
+    by =
+        ap (λ c. works tables c s) is
+        ∙ works_append tables front (negation negated) s
+        ∙ ap (λ step. go_on step (works tables (negation negated))) (taking_works items tables order (i.Test (t.Class one)) (classed one) (λ u. refl) reference front is_front s)
+        ∙ go_with (place_of items reference s.storage) (λ place. classed one place s) (works tables (negation negated))
+        ∙ with_same (place_of items reference s.storage) _ _ (λ place. inverted tables negated (is_class (class_of one) place.item.kind (part_of s.storage place)) s)
+        ∙ sym (with_bind (place_of items reference s.storage) (class_holds items negated one s.storage) (λ truth. Went (record s { truth = truth })));
+  }
+
+  pub name_works : (reference : Reference) (code : List DataInstruction) → IsNameCode items tables reference code → Decides tables (name_holds items reference) code
+  name_works reference code (found, named, index, entry, subscripts, each, values, is_values, is) s = record {
+    sender = kept behind sent;
+    by =
+        ap (λ c. works tables c s) is
+        ∙ ap (λ o. go_on (step_at o (λ one. placed index one s)) (works tables (subscripts ++ later))) entry
+        ∙ works_append tables subscripts later (record s { places = record { item = index; offset = found.item.offset } ∷ s.places })
+        ∙ ap (λ step. go_on step (works tables later)) (subscripts_works items tables order found.item.dimensions reference.subscripts subscripts each index found.item.offset s)
+        ∙ go_with behind (λ more. Went (at more)) (works tables later)
+        ∙ with_same behind _ _ (λ more. ap (λ o. go_on (step_at o (λ one. taken (item_place one (found.item.offset + more)) s)) (works tables (i.ClearTruth ∷ values))) entry ∙ values_work items tables found.condition.values values is_values (sent more) false s)
+        ∙ kept_same behind sent (λ more. in_ranges false (sent more) found.condition.values) s
+        ∙ sym (with_bind behind (λ more. Ok (place_behind found.item more)) (λ place. step_with (value_holds items found s.storage place) done))
+        ∙ sym (with_bind (occurrence items reference.subscripts found.item s.storage) (value_holds items found s.storage) done)
+        ∙ ap (λ o. step_with (needed o >>= condition_holds items reference s.storage) done) (sym named);
+  }
+    where
+      later : List DataInstruction
+      later = i.Take ∷ i.ClearTruth ∷ values
+
+      behind : Evaluated ℕ
+      behind = tree.bytes_before items found.item.dimensions reference.subscripts s.storage
+
+      sent : ℕ → Sender
+      sent more = item_sender found.item.item (part_of s.storage (place_behind found.item more))
+
+      at : ℕ → Scratch
+      at more = record s { places = record { item = index; offset = found.item.offset + more } ∷ s.places }
+
+      done : Bool → Step
+      done truth = Went (record s { truth = truth; sender = kept behind sent })

@@ -1,0 +1,44 @@
+//! Console lines that are taken.
+
+ghost use Rattle.std.specs.Prelude.{◌≡◌, ◌↔◌, ℕ, List, length, OnOk, OnErr};
+ghost use Rattle.station.specs.State.{took_line};
+ghost use Rattle.station.specs.History.{Moves};
+ghost use Rattle.station.specs.Failures.{CountsFailure};
+ghost use Rattle.source_tree.specs.Accepting.{next_line};
+ghost use Rattle.data_instructions.specs.Scratch.{Went};
+ghost use Rattle.data_instructions.specs.Table.{accepted};
+ghost use Rattle.run_time_data.specs.Data.{scratch_of};
+ghost use Rattle.run_time_data.specs.Comes.{Keeps};
+ghost use Rattle.run_time_data.specs.Finds.{FindsItem, HasItemRoom};
+
+use crate::ended::Refusal;
+use data_instructions::DataTables;
+use run_time_data::{Data, cutting_law};
+use station::Station;
+
+/// Takes the console's next line and stores it at the newest place; past the end of input an empty one. Where that fails,
+/// nothing was taken.
+pub(crate) fn accept_line<S: Station>(
+    station: &mut S,
+    input: &mut [u8],
+    tables: &DataTables,
+    scratch: &mut Data,
+) -> Result<(), Refusal>
+    requires operand { FindsItem tables.now scratch.old.areas scratch.old.places.newest_first }
+    requires room { HasItemRoom tables.now (length input.old) }
+    ensures sectors { S.sectors station.new ≡ S.sectors station.old }
+    ensures honest { S.is_honest station.old ↔ S.is_honest station.new }
+    ensures failures { CountsFailure result (S.failures station.old) (S.failures station.new) }
+    ensures taken { S.is_honest station.old → OnOk result (S.state station.new ≡ took_line (S.state station.old)) }
+    ensures untaken { S.is_honest station.old → OnErr result (S.state station.new ≡ S.state station.old) }
+    ensures moves { S.is_honest station.old → Moves (S.history station.old) (S.state station.old) (S.history station.new) (S.state station.new) }
+    ensures stored { OnOk result ((line : List ℕ) × (accepted tables.now line (scratch_of scratch.old) ≡ Went (scratch_of scratch.new))) }
+    ensures accepted { S.is_honest station.old → OnOk result (accepted tables.now (next_line (S.state station.old).lines) (scratch_of scratch.old) ≡ Went (scratch_of scratch.new)) }
+    ensures keeps { OnOk result (Keeps scratch.old scratch.new) }
+{
+    cutting_law();
+    let taken = station.line(input)?;
+    let count = taken.unwrap_or(0);
+    scratch.accept(tables, &input[..count]);
+    Ok(())
+}

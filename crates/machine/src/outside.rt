@@ -1,0 +1,61 @@
+//! What a run does with what is outside of it.
+
+ghost use Rattle.std.specs.Prelude.{◌≡◌, ◌<◌, ◌+◌, ◌↔◌, ℕ, List, length, slice_get, Some, OnOk};
+ghost use Rattle.station.specs.State.{State};
+ghost use Rattle.source_tree.specs.Meaning.{Run};
+ghost use Rattle.code_image.specs.Demands.{IsVerified};
+ghost use Rattle.machine.specs.Standing.{Stands};
+ghost use Rattle.machine.specs.Progress.{Running, IsOutside, GoesOn, IsCaused};
+
+use crate::accept::accept_line;
+use crate::ended::Ended;
+use crate::registers::Registers;
+use crate::show::show_line;
+use code_image::{Code, Instruction};
+use station::Station;
+
+/// Shows the line, takes a line of the console, or is told the day: the instruction at an address.
+pub(crate) fn converse<S: Station>(
+    code: &Code,
+    day: &[u8],
+    registers: &mut Registers,
+    station: &mut S,
+    address: usize,
+    one: Instruction,
+) -> Result<(), Ended>
+    requires verified { IsVerified code.now }
+    requires here { slice_get code.now.instructions address ≡ Some one }
+    requires outside { IsOutside one }
+    requires stands { Stands code.now registers.old address }
+    requires day { length day.now ≡ 6 }
+    ensures sectors { S.sectors station.new ≡ S.sectors station.old }
+    ensures honest { S.is_honest station.old ↔ S.is_honest station.new }
+    ensures cause { IsCaused result (S.failures station.old) (S.failures station.new) }
+    ensures within { address + 1 < length code.now.instructions }
+    ensures stands { OnOk result (Stands code.now registers.new (address + 1)) }
+    ensures on { S.is_honest station.old → (run : Run) (before : State) (past : List State) (left : ℕ) →
+        Running code.now day.now run before past address left registers.old (S.history station.old) (S.state station.old) →
+        GoesOn code.now day.now run before past (address + 1) left result registers.new (S.history station.new) (S.state station.new) }
+{
+    match one {
+        Instruction::Show => match show_line(station, &mut registers.scratch) {
+            Ok(()) => Ok(()),
+            Err(refusal) => Err(Ended::Refused(refusal)),
+        },
+        Instruction::Accept => {
+            let input = registers.input.as_mut_slice();
+            match accept_line(station, input, &code.tables, &mut registers.scratch) {
+                Ok(()) => Ok(()),
+                Err(refusal) => Err(Ended::Refused(refusal)),
+            }
+        }
+        Instruction::Date => match registers.scratch.date(&code.tables, day) {
+            Ok(()) => Ok(()),
+            Err(fault) => {
+                let line = registers.line;
+                Err(Ended::Faulted { fault, line })
+            }
+        },
+        _ => unreachable!(),
+    }
+}

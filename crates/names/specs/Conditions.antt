@@ -1,0 +1,44 @@
+-- The condition names of entries, with their names and those around them.
+use Rattle.std.specs.Prelude.{◌≡◌, ℕ, List, map, Option, Some, get_or, slice_get}
+use Rattle.std.specs.Option.{option_map}
+use Rattle.source_tree.specs.declared.entry.ConditionEntry.{ConditionEntry}
+use Rattle.source_tree.specs.declared.reference.QualifiedName.{QualifiedName}
+use Rattle.source_tree.specs.LookUp as tree
+use Rattle.source_tree.specs.LookUp.{NamedCondition, all_conditions}
+use Rattle.source_tree.specs.Names.{with_name}
+use Rattle.source_tree.specs.Places.{Placed}
+use Rattle.names.specs.declared.look_up.LookUp.{LookUp}
+use Rattle.names.specs.declared.conditions.DeclaredCondition.{DeclaredCondition}
+use Rattle.names.specs.declared.conditions.ConditionNames.{ConditionNames}
+use Rattle.names.specs.Positions.{Called, nothing, IsFound}
+use Rattle.names.specs.Table.{IsTable, calls_in}
+
+-- Its item is around it too.
+abbrev pub called_condition : NamedCondition → Called
+called_condition one = record { name = Some one.condition.name; around = with_name one.item.entry.name one.item.groups }
+
+-- a condition name and the number of its item
+abbrev pub pair_of : DeclaredCondition → ConditionEntry × ℕ
+pair_of one = (one.condition.now, one.item)
+
+-- the same, among items of these names
+abbrev pub condition_at : List Called → ConditionEntry × ℕ → Called
+condition_at calls one =
+    record { name = Some one.0.name; around = with_name (get_or calls one.1 nothing).name (get_or calls one.1 nothing).around }
+
+abbrev pub condition_of : List Placed → ConditionEntry × ℕ → Option NamedCondition
+condition_of items one = option_map (λ item. record { condition = one.0; item = item }) (slice_get items one.1)
+
+-- a condition name and the item of that number, if there is one
+abbrev pub found_at : List Placed → DeclaredCondition → Option NamedCondition
+found_at items one = condition_of items (pair_of one)
+
+-- These are the condition names of the items, in order.
+pub record AreConditions (items : List Placed) (all : ConditionNames) : Type 0 where
+  pub table : IsTable all.names
+  pub calls : calls_in all.names ≡ map called_condition (all_conditions items)
+  pub found : map (found_at items) all.conditions.items ≡ map Some (all_conditions items)
+
+-- What was found is what the name names: nothing, the condition name of that number alone, or several.
+abbrev pub IsConditionNamed : List Placed → QualifiedName → LookUp → Type 0
+IsConditionNamed items reference = IsFound (all_conditions items) (tree.conditions_named items reference)

@@ -1,0 +1,37 @@
+-- Of a console line no more counts than the longest item has.
+use Rattle.std.proofs.Common.{◌≡◌, ℕ, ◌-◌, ◌≤◌, List, [], ◌∷◌, ◌++◌, length, take, Option, Some, None, refl, ◌∙◌, ap, arith, length-take}
+use Rattle.std.specs.Prelude.{slice_get, replicate}
+use Rattle.std.proofs.lemmas.List.{take-take}
+use Rattle.items.specs.Texts.{space, padded}
+use Rattle.source_tree.specs.References.{ItemPlace, storing}
+use Rattle.data_instructions.specs.declared.place.Place.{Place}
+use Rattle.data_instructions.specs.declared.tables.DataItem.{DataItem}
+use Rattle.data_instructions.specs.declared.tables.DataTables.{DataTables}
+use Rattle.data_instructions.specs.Tables.{item_place}
+use Rattle.data_instructions.specs.Scratch.{Scratch, Step, Went, step_at}
+use Rattle.data_instructions.specs.Table.{at_newest, accepted}
+use Rattle.run_time_data.specs.Finds.{HasItemRoom}
+
+-- an item that isn't longer than the room takes no more
+padded_front : (size room : ℕ) (line : List ℕ) → size ≤ room → padded size (take room line) ≡ padded size line
+padded_front size room line least =
+    let few : size - length (take room line) ≡ size - length line = omega (arith, least, length-take room line) in
+    ap (λ (front : List ℕ). front ++ replicate (size - length (take room line)) space) (take-take size room line least)
+    ∙ ap (λ n. take size line ++ replicate n space) few
+
+module _ (tables : DataTables) (line : List ℕ) (room : ℕ) (s : Scratch) (enough : HasItemRoom tables room) where
+  abbrev stores : List ℕ → ItemPlace → Scratch → Step
+  stores text place t = Went (record t { storage = storing place (padded place.item.length text) t.storage })
+
+  at_item : (found : Option DataItem) (p : Place) (ps : List Place) → ((one : DataItem) → found ≡ Some one → one.item.length ≤ room)
+      → step_at found (λ one. stores (take room line) (item_place one p.offset) (record s { places = ps })) ≡ step_at found (λ one. stores line (item_place one p.offset) (record s { places = ps }))
+  at_item None p ps short = refl
+  at_item (Some one) p ps short =
+      ap (λ bytes. Went (record s { places = ps; storage = storing (item_place one p.offset) bytes s.storage })) (padded_front one.item.length room line (short one refl))
+
+  by_places : (ps : List Place) → at_newest tables ps (stores (take room line)) s ≡ at_newest tables ps (stores line) s
+  by_places [] = refl
+  by_places (p ∷ ps) = at_item (slice_get tables.items p.item.number) p ps (enough p.item.number)
+
+  pub accepts_front : accepted tables (take room line) s ≡ accepted tables line s
+  accepts_front = by_places s.places

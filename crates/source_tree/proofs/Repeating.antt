@@ -1,0 +1,157 @@
+-- Turns of UNTIL and the ways of an IF are runs, and two depths above the budget give the same. No tree has them yet.
+use Rattle.std.proofs.Common.{◌≡◌, ℕ, zero, suc, ◌+◌, ◌<◌, ◌≤◌, List, [], ◌∷◌, refl, ap, ◌∙◌, arith}
+use Rattle.std.specs.Prelude.{Bool, true, false, Option, Some, None, Ok, Err}
+use Rattle.source_tree.specs.declared.until.TestTime.{TestTime}
+use Rattle.source_tree.specs.declared.until.TestTime.TheVariants.{Before, After}
+use Rattle.source_tree.specs.declared.until.Until.{Until}
+use Rattle.source_tree.specs.declared.branching.Branching.{Branching}
+use Rattle.source_tree.specs.declared.branching.Branching.TheVariants.{If}
+use Rattle.source_tree.specs.Places.{Placed}
+use Rattle.source_tree.specs.Evaluated.{Evaluated}
+use Rattle.source_tree.specs.Conditions.{Truth, holds}
+use Rattle.source_tree.specs.Branching.{way, branching}
+use Rattle.source_tree.specs.Until.{done_if, unless_true, until_before, until_after, until_from, vary_begin, vary_on, until}
+use Rattle.source_tree.specs.State.{State, Budget, Outcome, Done, Over, then_do, in_turn, spend, with_value, changing}
+use Rattle.source_tree.specs.Arithmetic.{in_phrase}
+use Rattle.source_tree.proofs.Runs
+use Rattle.source_tree.proofs.Runs.{IsRun, itself, done_runs, then_runs, spend_runs, value_runs, changing_runs, in_turn_runs, in_phrase_runs}
+use Rattle.source_tree.proofs.Depth.{Agrees, then_agrees, spend_same, in_turn_agrees, in_phrase_agrees}
+
+-- no turn is left
+none_runs : IsRun (Over Budget)
+none_runs = record { falls = λ s. tt; grows = λ s. itself s.events; alike = λ k s. itself s.events }
+
+done_if_runs : (go : State → Outcome) → IsRun go → (truth : Bool) → IsRun (λ s. done_if go s truth)
+done_if_runs go r true = done_runs
+done_if_runs go r false = r
+
+pub unless_true_runs : (test : Truth) (go : State → Outcome) → IsRun go → IsRun (unless_true test go)
+unless_true_runs test go r = value_runs (λ truth s. done_if go s truth) (done_if_runs go r) test
+
+until_before_runs : (line depth : ℕ) (test : Truth) (onward_run go : State → Outcome) → IsRun onward_run → IsRun go → IsRun (until_before line depth test onward_run go)
+until_before_runs line zero test next go n r = none_runs
+until_before_runs line (suc depth) test next go n r =
+    let again = until_before line depth test next go in
+    let later = λ (s : State). then_do (next s) again in
+    let turn = λ (s : State). then_do (go s) later in
+    unless_true_runs test (λ s. spend line s turn)
+    (spend_runs line turn (then_runs go later r (then_runs next again n (until_before_runs line depth test next go n r))))
+
+until_after_runs : (line depth : ℕ) (test : Truth) (onward_run go : State → Outcome) → IsRun onward_run → IsRun go → IsRun (until_after line depth test onward_run go)
+until_after_runs line zero test next go n r = none_runs
+until_after_runs line (suc depth) test next go n r =
+    let again = until_after line depth test next go in
+    let later = λ (s : State). then_do (next s) again in
+    let turn = λ (s : State). then_do (go s) (unless_true test later) in
+    spend_runs line turn
+    (then_runs go (unless_true test later) r (unless_true_runs test later (then_runs next again n (until_after_runs line depth test next go n r))))
+
+pub turned_runs : (when : TestTime) (line depth : ℕ) (test : Truth) (onward_run go : State → Outcome) → IsRun onward_run → IsRun go → IsRun (until_from when line depth test onward_run go)
+turned_runs Before = until_before_runs
+turned_runs After = until_after_runs
+
+-- the turns of a PERFORM
+pub until_runs : (items : List Placed) (line depth : ℕ) (one : Until) (go : State → Outcome) → IsRun go → IsRun (until items line depth one go)
+until_runs items line depth one go r =
+    let next = changing (vary_on items one.varying) in
+    let loop = until_from one.test line depth (holds items one.condition) next go in
+    then_runs (changing (vary_begin items one.varying)) loop (changing_runs (vary_begin items one.varying))
+    (turned_runs one.test line depth (holds items one.condition) next go (changing_runs (vary_on items one.varying)) r)
+
+module _ {S : Type 0} (run : S → State → Outcome) (r : (one : S) → IsRun (run one)) where
+  way_runs : (statements : List S) (otherwise : Option (List S)) (truth : Bool) → IsRun (way run statements otherwise truth)
+  way_runs statements otherwise true = in_turn_runs run r statements
+  way_runs statements otherwise false = in_phrase_runs run r otherwise
+
+  pub branching_runs : (items : List Placed) (one : Branching S) → IsRun (branching items run one)
+  branching_runs items (If condition statements otherwise) =
+      value_runs (λ truth s. way run statements otherwise truth s) (way_runs statements otherwise) (holds items condition)
+
+-- ---- two depths
+
+-- A test that is made of storage, and what goes on.
+unless_true_same : (e : Evaluated Bool) (go other : State → Outcome) (s : State) → go s ≡ other s → with_value e s (done_if go s) ≡ with_value e s (done_if other s)
+unless_true_same (Ok true) go other s same = refl
+unless_true_same (Ok false) go other s same = same
+unless_true_same (Err fault) go other s same = refl
+
+unless_true_agrees : (n : ℕ) (test : Truth) (go other : State → Outcome) → Agrees n go other → Agrees n (unless_true test go) (unless_true test other)
+unless_true_agrees n test go other a = record { by = λ s le. unless_true_same (test s.storage) go other s (a.by s le) }
+
+-- Turns with two depths above the budget.
+module _ (test : Truth) (line : ℕ) (next : State → Outcome) (nr : IsRun next) where
+  -- one turn, where those behind it agree with less
+  before_step : (n d e : ℕ) (go other : State → Outcome) → IsRun go → Agrees n go other
+      → ((left : ℕ) → left < n → Agrees left (until_before line d test next go) (until_before line e test next other))
+      → Agrees n (until_before line (suc d) test next go) (until_before line (suc e) test next other)
+  before_step n d e go other r a h =
+      let again = until_before line d test next go in
+      let more = until_before line e test next other in
+      let turn = λ (s : State). then_do (go s) (λ t. then_do (next t) again) in
+      let turned = λ (s : State). then_do (other s) (λ t. then_do (next t) more) in
+      unless_true_agrees n test (λ s. spend line s turn) (λ s. spend line s turned) (record {
+        by = λ s le. spend_same s.budget line s turn turned (λ left lt.
+            (then_agrees left go other (λ t. then_do (next t) again) (λ t. then_do (next t) more) r (record { by = λ t within. a.by t (omega arith) })
+            (then_agrees left next next again more nr (record { by = λ t within. refl }) (h left (omega arith)))).by
+            (record s { budget = left; line = line }) (omega arith));
+      })
+
+  until_before_agrees : (n d e : ℕ) (go other : State → Outcome) → IsRun go → Agrees n go other → n < d → n < e
+      → Agrees n (until_before line d test next go) (until_before line e test next other)
+  until_before_agrees n zero e go other r a below under = absurd (omega arith)
+  until_before_agrees n (suc d) zero go other r a below under = absurd (omega arith)
+  until_before_agrees n (suc d) (suc e) go other r a below under =
+      before_step n d e go other r a (λ left lt. until_before_agrees left d e go other r (record { by = λ s le. a.by s (omega arith) }) (omega arith) (omega arith))
+
+  after_step : (n d e : ℕ) (go other : State → Outcome) → IsRun go → Agrees n go other
+      → ((left : ℕ) → left < n → Agrees left (until_after line d test next go) (until_after line e test next other))
+      → Agrees n (until_after line (suc d) test next go) (until_after line (suc e) test next other)
+  after_step n d e go other r a h =
+      let again = until_after line d test next go in
+      let more = until_after line e test next other in
+      let later = λ (t : State). then_do (next t) again in
+      let latter = λ (t : State). then_do (next t) more in
+      let turn = λ (s : State). then_do (go s) (unless_true test later) in
+      let turned = λ (s : State). then_do (other s) (unless_true test latter) in
+      record {
+        by = λ s le. spend_same s.budget line s turn turned (λ left lt.
+            (then_agrees left go other (unless_true test later) (unless_true test latter) r (record { by = λ t within. a.by t (omega arith) })
+            (unless_true_agrees left test later latter (then_agrees left next next again more nr (record { by = λ t within. refl }) (h left (omega arith))))).by
+            (record s { budget = left; line = line }) (omega arith));
+      }
+
+  until_after_agrees : (n d e : ℕ) (go other : State → Outcome) → IsRun go → Agrees n go other → n < d → n < e
+      → Agrees n (until_after line d test next go) (until_after line e test next other)
+  until_after_agrees n zero e go other r a below under = absurd (omega arith)
+  until_after_agrees n (suc d) zero go other r a below under = absurd (omega arith)
+  until_after_agrees n (suc d) (suc e) go other r a below under =
+      after_step n d e go other r a (λ left lt. until_after_agrees left d e go other r (record { by = λ s le. a.by s (omega arith) }) (omega arith) (omega arith))
+
+  turned_agrees : (when : TestTime) (n d e : ℕ) (go other : State → Outcome) → IsRun go → Agrees n go other → n < d → n < e
+      → Agrees n (until_from when line d test next go) (until_from when line e test next other)
+  turned_agrees Before = until_before_agrees
+  turned_agrees After = until_after_agrees
+
+-- the turns of a PERFORM
+pub until_agrees : (items : List Placed) (n d e line : ℕ) (one : Until) (go other : State → Outcome) → n < d → n < e → IsRun go → Agrees n go other
+    → Agrees n (until items line d one go) (until items line e one other)
+until_agrees items n d e line one go other below under r a =
+    let test = holds items one.condition in
+    let next = changing (vary_on items one.varying) in
+    let first = changing (vary_begin items one.varying) in
+    then_agrees n first first (until_from one.test line d test next go) (until_from one.test line e test next other) (changing_runs (vary_begin items one.varying)) (record { by = λ s le. refl })
+    (turned_agrees test line next (changing_runs (vary_on items one.varying)) one.test n d e go other r a below under)
+
+-- the two ways of an IF
+module _ {S : Type 0} (n : ℕ) (run other : S → State → Outcome) (r : (one : S) → IsRun (run one)) (a : (one : S) → Agrees n (run one) (other one)) where
+  way_agrees : (statements : List S) (otherwise : Option (List S)) (truth : Bool) → Agrees n (way run statements otherwise truth) (way other statements otherwise truth)
+  way_agrees statements otherwise true = in_turn_agrees n run other r a statements
+  way_agrees statements otherwise false = in_phrase_agrees n run other r a otherwise
+
+  ways_same : (statements : List S) (otherwise : Option (List S)) (e : Evaluated Bool) (s : State) → s.budget ≤ n
+      → with_value e s (λ truth. way run statements otherwise truth s) ≡ with_value e s (λ truth. way other statements otherwise truth s)
+  ways_same statements otherwise (Ok truth) s le = (way_agrees statements otherwise truth).by s le
+  ways_same statements otherwise (Err fault) s le = refl
+
+  pub branching_agrees : (items : List Placed) (one : Branching S) → Agrees n (branching items run one) (branching items other one)
+  branching_agrees items (If condition statements otherwise) = record { by = λ s le. ways_same statements otherwise (holds items condition s.storage) s le }

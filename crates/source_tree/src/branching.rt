@@ -1,0 +1,15 @@
+//! IF.
+
+use crate::condition::Condition;
+use sqlite_items::Items;
+
+#[derive(Debug, Drop)]
+pub enum Branching<S> {
+    If {
+        condition: Condition,
+        /// One or more.
+        statements: Items<S>,
+        /// Those of ELSE, one or more; `None` where it is absent.
+        otherwise: Option<Items<S>>,
+    },
+}

@@ -1,0 +1,50 @@
+-- ADD: its rule, and how it is read.
+use Rattle.std.specs.Prelude.{◌≡◌, if◌then◌else◌, List, [], ◌∷◌, ◌++◌}
+use Rattle.tokens.specs.declared.reserved.Reserved.TheVariants as w
+use Rattle.source_tree.specs.declared.expression.Operand.{Operand}
+use Rattle.source_tree.specs.declared.arithmetic.Receiver.{Receiver}
+use Rattle.source_tree.specs.declared.arithmetic.Operation.{Operation}
+use Rattle.source_tree.specs.declared.arithmetic.Operation.TheVariants.{Add, AddGiving}
+use Rattle.grammar.specs.Parts.{Part, ◌then◌, ◌or◌, word}
+use Rattle.grammar.specs.Reading.{Parser, ◌>>=◌, ◌>>◌, pure, begins_word, expect}
+use Rattle.statements.specs.declared.receivers.Target.{Target}
+use Rattle.statements.specs.declared.receivers.Target.TheVariants.{Receivers, Giving}
+use Rattle.statements.specs.Receivers.{numbers, receivers, target, numbers_reader, receivers_reader, target_reader}
+
+-- ADD num... TO {rd... | num GIVING rd...} (COBOL-85, Nucleus, "The ADD statement")
+abbrev pub adding : List Operand → Target → Part
+adding operands to = word w.Add then numbers operands then word w.To then target to
+
+-- ADD num... GIVING rd...
+abbrev pub adding_up : List Operand → List Receiver → Part
+adding_up operands all = word w.Add then numbers operands then word w.Giving then receivers all
+
+-- ADD num... [TO num] GIVING rd...: the operand behind TO is the last
+abbrev pub adding_giving : List Operand → List Receiver → Part
+adding_giving operands all =
+    adding_up operands all or (λ from rest. (others : List Operand) × (last : Operand) × (operands ≡ others ++ last ∷ []) × adding others (Giving last all) from rest)
+
+abbrev pub added : List Operand → Target → Operation
+added operands (Receivers all) = Add operands all
+added operands (Giving last all) = AddGiving (operands ++ last ∷ []) all
+
+unfoldable pub adding_to_reader : List Operand → Parser Operation
+adding_to_reader operands = do
+  expect w.To
+  to ← target_reader
+  pure (added operands to)
+
+unfoldable pub adding_up_reader : List Operand → Parser Operation
+adding_up_reader operands = do
+  expect w.Giving
+  all ← receivers_reader
+  pure (AddGiving operands all)
+
+unfoldable pub added_reader : List Operand → Parser Operation
+added_reader operands i = if begins_word w.To i then adding_to_reader operands i else adding_up_reader operands i
+
+unfoldable pub adding_reader : Parser Operation
+adding_reader = do
+  expect w.Add
+  operands ← numbers_reader
+  added_reader operands

@@ -1,0 +1,67 @@
+-- Arithmetic statements, each with its SIZE ERROR phrases and its END word: their rule, and how they are read.
+use Rattle.std.specs.Prelude.{ℕ, List}
+use Rattle.tokens.specs.declared.reserved.Reserved.{Reserved}
+use Rattle.tokens.specs.declared.reserved.Reserved.TheVariants as w
+use Rattle.source_tree.specs.declared.arithmetic.Operation.{Operation}
+use Rattle.source_tree.specs.declared.arithmetic.Operation.TheVariants.{Add, AddGiving, Subtract, SubtractGiving, Multiply, MultiplyGiving, Divide, DivideGiving, DivideRemainder, Compute}
+use Rattle.source_tree.specs.declared.arithmetic.Arithmetic.{Arithmetic}
+use Rattle.source_tree.specs.declared.statement.Verb.{Verb}
+use Rattle.source_tree.specs.declared.statement.Verb.TheVariants as verb
+use Rattle.source_tree.specs.declared.statement.Statement.{Statement}
+use Rattle.grammar.specs.declared.phrase.Phrase.TheVariants.{SizeError}
+use Rattle.grammar.specs.Parts.{Part, ◌then◌, optional, word}
+use Rattle.grammar.specs.Reading.{Parser, ◌>>=◌, ◌>>◌, pure, skip}
+use Rattle.grammar.specs.Phrases.{two_sided, two_sided_reader}
+use Rattle.statements.specs.declared.verb.ArithmeticVerb.{ArithmeticVerb}
+use Rattle.statements.specs.declared.verb.ArithmeticVerb.TheVariants as v
+use Rattle.statements.specs.declared.receivers.Target.TheVariants.{Receivers, Giving}
+use Rattle.statements.specs.Adding.{adding, adding_giving, adding_reader}
+use Rattle.statements.specs.Subtracting.{subtracting, subtracting_reader}
+use Rattle.statements.specs.Multiplying.{multiplying, multiplying_reader}
+use Rattle.statements.specs.Dividing.{dividing, dividing_giving, quotients, quotient_remainder, dividing_reader}
+use Rattle.statements.specs.Computing.{computing, computing_reader}
+
+-- What is computed: one line for each form. `depth` is how deep an expression may nest.
+abbrev pub operation : ℕ → Operation → Part
+operation depth (Add operands all) = adding operands (Receivers all)
+operation depth (AddGiving operands all) = adding_giving operands all
+operation depth (Subtract operands all) = subtracting operands (Receivers all)
+operation depth (SubtractGiving operands minuend all) = subtracting operands (Giving minuend all)
+operation depth (Multiply factor all) = multiplying factor (Receivers all)
+operation depth (MultiplyGiving factor by all) = multiplying factor (Giving by all)
+operation depth (Divide divisor all) = dividing divisor all
+operation depth (DivideGiving first order second all) = dividing_giving first order second (quotients all)
+operation depth (DivideRemainder first order second quotient remainder) = dividing_giving first order second (quotient_remainder quotient remainder)
+operation depth (Compute all value) = computing depth all value
+
+-- the END word of a statement
+abbrev pub end_word : Operation → Reserved
+end_word (Add operands all) = w.EndAdd
+end_word (AddGiving operands all) = w.EndAdd
+end_word (Subtract operands all) = w.EndSubtract
+end_word (SubtractGiving operands minuend all) = w.EndSubtract
+end_word (Multiply factor all) = w.EndMultiply
+end_word (MultiplyGiving factor by all) = w.EndMultiply
+end_word (Divide divisor all) = w.EndDivide
+end_word (DivideGiving first order second all) = w.EndDivide
+end_word (DivideRemainder first order second quotient remainder) = w.EndDivide
+end_word (Compute all value) = w.EndCompute
+
+-- What is computed, [[ON] SIZE ERROR s] [NOT [ON] SIZE ERROR s], and its END word, which may be left out (COBOL-85, Nucleus,
+-- "The SIZE ERROR phrase").
+abbrev pub arithmetic : ℕ → (List Statement → Part) → Arithmetic Statement → Part
+arithmetic depth statements one = operation depth one.operation then two_sided statements SizeError one.phrases then optional (word (end_word one.operation))
+
+abbrev pub operation_reader : ℕ → ArithmeticVerb → Parser Operation
+operation_reader depth v.Add = adding_reader
+operation_reader depth v.Subtract = subtracting_reader
+operation_reader depth v.Multiply = multiplying_reader
+operation_reader depth v.Divide = dividing_reader
+operation_reader depth v.Compute = computing_reader depth
+
+unfoldable pub arithmetic_reader : ℕ → Parser (List Statement) → ArithmeticVerb → Parser (Verb Statement)
+arithmetic_reader depth statements one = do
+  what ← operation_reader depth one
+  both ← two_sided_reader statements SizeError
+  skip (end_word what)
+  pure (verb.Arithmetic (record { operation = what; phrases = both }))
