@@ -65,10 +65,10 @@ record Found (lines : List Line) (so_far : List Character) (before : Before) (re
   is : result ≡ so_far ++ given
   remains : Remains lines before given
 
-abbrev all_of : List Line → Reader → Result (List Character) SourceFault
+abbrev pub all_of : List Line → Reader → Result (List Character) SourceFault
 all_of lines reader = and_then (after_lines lines reader) at_end
 
-abbrev from_step : List Line → Step → Result (List Character) SourceFault
+abbrev pub from_step : List Line → Step → Result (List Character) SourceFault
 from_step more step = and_then (and_then step (after_lines more)) at_end
 
 refused_not : {f : SourceFault} {result : List Character} → (let r : Result (List Character) SourceFault = Err f in r) ≡ Ok result → ⊥
@@ -80,7 +80,7 @@ same_result e = cc
 true_not_false : true ≡ false → ⊥
 true_not_false e = cc
 
-in_body : {line : Line} → IsSkipped line → IsInBody line
+pub in_body : {line : Line} → IsSkipped line → IsInBody line
 in_body (IsSkipped.comment is) = IsInBody.comment is
 in_body (IsSkipped.blank is none) = IsInBody.blank is none
 
@@ -111,13 +111,13 @@ one_in_body {line} is p = record {
 body_more : {line : Line} {more : List Line} {given : List Character} → IsInBody line → Remains more Dropped given → Remains (line ∷ more) Dropped given
 body_more is (Remains.paragraph p) = Remains.paragraph (one_in_body is p)
 
-above_area_a : (first : ℕ) → nat_lt first 12 ≡ false → 12 ≤ first
+pub above_area_a : (first : ℕ) → nat_lt first 12 ≡ false → 12 ≤ first
 above_area_a first e = grind (arith, nat_tests)
 
-same_byte : (a b : ℕ) → (a == b) ≡ true → a ≡ b
+pub same_byte : (a b : ℕ) → (a == b) ≡ true → a ≡ b
 same_byte a b e = grind (arith, nat_tests)
 
-either_false : (a b : Bool) → (a || not b) ≡ false → (a ≡ false) × (b ≡ true)
+pub either_false : (a b : Bool) → (a || not b) ≡ false → (a ≡ false) × (b ≡ true)
 either_false true b e = absurd (true_not_false e)
 either_false false true e = (refl, refl)
 either_false false false e = absurd (true_not_false e)
@@ -126,7 +126,7 @@ no_mark : (a b : Bool) → (a && b) ≡ false → a ≡ true → b ≡ false
 no_mark true b e f = e
 no_mark false b e f = absurd (true_not_false (sym f))
 
-no_mark_in_area_a : (line : Line) (first : ℕ) → (nat_lt first 12 && is_mark (byte line first)) ≡ false → first < 12 → is_mark (byte line first) ≡ false
+pub no_mark_in_area_a : (line : Line) (first : ℕ) → (nat_lt first 12 && is_mark (byte line first)) ≡ false → first < 12 → is_mark (byte line first) ≡ false
 no_mark_in_area_a line first e low = no_mark (nat_lt first 12) (is_mark (byte line first)) e (before_area_b first low)
 
 skip_remains : {line : Line} {more : List Line} {before : Before} {given : List Character} → IsSkipped line → Remains more before given → Remains (line ∷ more) before given
@@ -333,7 +333,7 @@ ended_found so_far Dropped result e = record {
   remains = Remains.paragraph (record { body = []; more = []; split = refl; each = Each.none; ends = EndsParagraph.at_end; text = Text.end });
 }
 
-first_step : (line : Line) (more : List Line) (reader : Reader) → all_of (line ∷ more) reader ≡ from_step more (after_indicator (indicator_of (byte line 7)) line reader)
+pub first_step : (line : Line) (more : List Line) (reader : Reader) → all_of (line ∷ more) reader ≡ from_step more (after_indicator (indicator_of (byte line 7)) line reader)
 unfolding after_line after_lines
 first_step line more reader = refl
 

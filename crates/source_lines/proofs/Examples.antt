@@ -1,13 +1,18 @@
 -- Worked examples of the reference format.
-use Rattle.std.proofs.Common.{◌≡◌, ℕ, List, [], ◌∷◌, ◌++◌, map, take, drop, replicate, Result, Ok, Err, refl}
+use Rattle.std.proofs.Common.{◌≡◌, ℕ, List, [], ◌∷◌, ◌++◌, map, take, drop, replicate, Result, Ok, Err, refl, sym, ◌∙◌, arith}
 use Rattle.std.specs.Prelude.{codes}
 use Rattle.source_lines.specs.declared.fault.SourceFault.{SourceFault}
 use Rattle.source_lines.specs.declared.fault.FaultKind.{FaultKind}
 use Rattle.source_lines.specs.declared.fault.FaultKind.TheVariants.{ByteOutsideCharacterSet, UnknownIndicator, WrongContinuation, UnclosedLiteral}
 use Rattle.source_lines.specs.declared.lines.Character.{Character}
+use Rattle.source_lines.specs.declared.literal.OpenLiteral.{OpenLiteral}
 use Rattle.lexical.specs.declared.place.Place.{Place}
+use Rattle.source_lines.specs.Format.{Each, Continues, IsSkipped}
 use Rattle.source_lines.specs.Line.{characters, columns_of}
 use Rattle.source_lines.specs.Reading.{after_continuation, after_line, after_lines, after_plain, begun, characters_of, line_continued, literal_continued, taken}
+use Rattle.source_lines.specs.Unclosed.{HasUnclosed, LeavesOpen, Leaves, Uncontinued}
+use Rattle.source_lines.proofs.Unclosed.{unclosed}
+use Rattle.source_lines.proofs.UnclosedFound.{continuation_not, same_kind}
 
 -- lines, each ended by a line feed
 text : List (List ℕ) → List ℕ
@@ -123,3 +128,32 @@ mark_in_area_a = refl
 nothing_before : characters_of (codes "      -    A") ≡ fault WrongContinuation 1 7
 unfolding at fault characters characters_of after_lines after_line after_continuation
 nothing_before = refl
+
+-- ---- literals that stay open
+
+quoted_at : Place → OpenLiteral
+quoted_at place = record { mark = 34; opening = place }
+
+-- a plain line with a nonblank comes
+stays_open : HasUnclosed (text (open_line ∷ codes "           STOP RUN." ∷ [])) (quoted_at (at 1 20))
+unfolding at text open_line quoted_at characters
+stays_open = record {
+  size = omega arith;
+  text = LeavesOpen.this_one refl refl refl
+      (Leaves.here (record { in_character_set = refl; literal = refl; counts = refl }) Each.none (Uncontinued.plain refl refl));
+}
+
+-- A comment line is skipped. The continuation closes the literal and opens another, which is open where the text ends.
+stays_open_in_a_continuation : HasUnclosed (text (open_line ∷ codes "      * A COMMENT" ∷ codes "      -    \"CD\" \"E" ∷ [])) (quoted_at (at 3 17))
+unfolding at text open_line quoted_at characters
+stays_open_in_a_continuation = record {
+  size = omega arith;
+  text = LeavesOpen.this_one refl refl refl
+      (Leaves.further (record { in_character_set = refl; literal = refl; counts = refl }) (Each.one (IsSkipped.comment refl) Each.none)
+      (Continues.mark refl refl refl (omega arith) refl) (Leaves.here (record { in_character_set = refl; literal = refl; counts = refl }) Each.none Uncontinued.at_end));
+}
+
+-- a continuation without the mark is a fault of its own, so no literal stays open
+none_stays_open : (literal : OpenLiteral) → HasUnclosed (text (open_line ∷ codes "      -    'CD\"." ∷ [])) literal → ⊥
+unfolding fault
+none_stays_open literal h = continuation_not (same_kind (sym continued_without_its_mark ∙ unclosed _ literal h) refl)

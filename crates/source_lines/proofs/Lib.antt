@@ -5,4 +5,7 @@ pub mod Cutting
 pub mod Examples
 pub mod OneList
 pub mod Tabs
+pub mod Unclosed
+pub mod UnclosedFound
+pub mod UnclosedRead
 pub mod Written

@@ -10,7 +10,7 @@ use Rattle.source_lines.proofs.Answered.{text_found}
 use Rattle.source_lines.proofs.Cutting.{within_limit}
 use Rattle.source_lines.proofs.Written.{Fresh, text_read}
 
-within : (n : ℕ) → nat_le n 8000000 ≡ true → n ≤ 8000000
+pub within : (n : ℕ) → nat_le n 8000000 ≡ true → n ≤ 8000000
 within n e = grind (arith, nat_tests)
 
 by_size : (source : List ℕ) (given : List Character) (small : Bool) → nat_le (length source) 8000000 ≡ small

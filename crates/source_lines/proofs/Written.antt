@@ -57,7 +57,7 @@ unfolding after_plain
 skipped_read {line} reader (IsSkipped.comment is) = indicated line reader is
 skipped_read {line} reader (IsSkipped.blank is none) = indicated line reader is ∙ ap (λ first. plain_at first line reader) none
 
-skipped_lines_read : {skipped : List Line} → Each IsSkipped skipped → (rest : List Line) (reader : Reader) → after_lines (skipped ++ rest) reader ≡ after_lines rest reader
+pub skipped_lines_read : {skipped : List Line} → Each IsSkipped skipped → (rest : List Line) (reader : Reader) → after_lines (skipped ++ rest) reader ≡ after_lines rest reader
 skipped_lines_read Each.none rest reader = refl
 skipped_lines_read (Each.one {line} {more} is each) rest reader = one_more line reader reader (more ++ rest) (skipped_read reader is) ∙ skipped_lines_read each rest reader
 
@@ -75,7 +75,7 @@ body_read {line} given (IsInBody.blank is none) = indicated line (reading given 
 body_read {line} given (IsInBody.in_area_b {first} is begins high) =
     plain_begins line (reading given Dropped) first is begins ∙ ap (λ b. cond b (begun line first (reading given Dropped)) (Ok (reading given Dropped))) (past first high)
 
-bodies_read : {body : List Line} → Each IsInBody body → (rest : List Line) (given : List Character) → after_lines (body ++ rest) (reading given Dropped) ≡ after_lines rest (reading given Dropped)
+pub bodies_read : {body : List Line} → Each IsInBody body → (rest : List Line) (given : List Character) → after_lines (body ++ rest) (reading given Dropped) ≡ after_lines rest (reading given Dropped)
 bodies_read Each.none rest given = refl
 bodies_read (Each.one {line} {more} is each) rest given = one_more line (reading given Dropped) (reading given Dropped) (more ++ rest) (body_read given is) ∙ bodies_read each rest given
 
@@ -124,7 +124,7 @@ continues_read {next = next} (Continues.mark {first = first} {literal = literal}
     (cond (nat_lt first 12 || not (byte next first == literal.mark)) (refused next WrongContinuation first) (taken next (first + 1) (Some literal) reader))) allowed
     ∙ ap (λ b. cond b (refused next WrongContinuation first) (taken next (first + 1) (Some literal) reader)) wrong
 
-next_taken : {after : Option OpenLiteral} {next : Line} {begin : ℕ} → Continues after next begin → (line : Line) (given : List Character) (more : List Line)
+pub next_taken : {after : Option OpenLiteral} {next : Line} {begin : ℕ} → Continues after next begin → (line : Line) (given : List Character) (more : List Line)
     → after_lines (next ∷ more) (reading given (ending line after)) ≡ and_then (taken next begin after (reading given (ending line after))) (after_lines more)
 unfolding after_lines
 next_taken goes line given more = ap (λ step. and_then step (after_lines more)) (continues_read goes line given)
@@ -153,7 +153,7 @@ pub data Fresh (lines : List Line) : Before → Type 0 where
 same_first : {a b : ℕ} → Some a ≡ Some b → a ≡ b
 same_first e = cc
 
-fresh_begins : (line : Line) (first : ℕ) (given : List Character) (before : Before) (more : List Line) → Fresh (line ∷ more) before → IsOf Plain line → BeginsAt line first
+pub fresh_begins : (line : Line) (first : ℕ) (given : List Character) (before : Before) (more : List Line) → Fresh (line ∷ more) before → IsOf Plain line → BeginsAt line first
     → after_line line (reading given before) ≡ begun line first (reading (given ++ line_end before) before)
 fresh_begins line first given Nothing more fresh is begins =
     plain_begins line (reading given Nothing) first is begins ∙ ap (λ xs. begun line first (reading xs Nothing)) (sym (append-nil given))
@@ -165,15 +165,15 @@ fresh_begins line first given Dropped more (Fresh.dropped (EndsParagraph.in_area
     ∙ ap (λ b. cond b (begun line first (reading given Dropped)) (Ok (reading given Dropped))) (before_area_b first (omega arith))
     ∙ ap (λ xs. begun line first (reading xs Dropped)) (sym (append-nil given))
 
-begun_heading : (line : Line) (first : ℕ) (reader : Reader) → begins_dropped line first ≡ true → begun line first reader ≡ Ok (reading reader.characters Dropped)
+pub begun_heading : (line : Line) (first : ℕ) (reader : Reader) → begins_dropped line first ≡ true → begun line first reader ≡ Ok (reading reader.characters Dropped)
 unfolding begun
 begun_heading line first reader e = ap (λ b. cond b (Ok (reading reader.characters Dropped)) (taken line 8 None reader)) e
 
-begun_plain : (line : Line) (first : ℕ) (reader : Reader) → begins_dropped line first ≡ false → begun line first reader ≡ taken line 8 None reader
+pub begun_plain : (line : Line) (first : ℕ) (reader : Reader) → begins_dropped line first ≡ false → begun line first reader ≡ taken line 8 None reader
 unfolding begun
 begun_plain line first reader e = ap (λ b. cond b (Ok (reading reader.characters Dropped)) (taken line 8 None reader)) e
 
-fresh_more : {line : Line} {more : List Line} {before : Before} → IsSkipped line → Fresh (line ∷ more) before → Fresh more before
+pub fresh_more : {line : Line} {more : List Line} {before : Before} → IsSkipped line → Fresh (line ∷ more) before → Fresh more before
 fresh_more skip Fresh.nothing = Fresh.nothing
 fresh_more skip Fresh.ended = Fresh.ended
 fresh_more (IsSkipped.comment is) (Fresh.dropped (EndsParagraph.in_area_a plain at low)) = absurd (not_both is plain)

@@ -6,4 +6,5 @@ pub mod Line
 pub mod Literal
 pub mod Paragraph
 pub mod Reading
+pub mod Unclosed
 pub use Rattle.answers.specs.Answer
