@@ -7,7 +7,7 @@ use std::alloc::Global;
 use std::process::Abort;
 
 /// What stands before a word, and behind it.
-fn cut<'t>(text: &'t str, word: &str) -> (&'t str, &'t str) {
+pub fn cut<'t>(text: &'t str, word: &str) -> (&'t str, &'t str) {
     text.split_once(word).unwrap_or((text, ""))
 }
 
@@ -162,7 +162,8 @@ fn product(rt: &impl Abort, alloc: Global, line: u32, text: &str) -> Expression 
     joined(rt, alloc, first, more)
 }
 
-fn sum(rt: &impl Abort, alloc: Global, line: u32, text: &str) -> Expression {
+/// A sum of products.
+pub fn sum(rt: &impl Abort, alloc: Global, line: u32, text: &str) -> Expression {
     let mut words = text.split('+');
     let first = product(rt, alloc, line, words.next().unwrap_or(""));
     let mut more = Vec::new(alloc);

@@ -9,6 +9,10 @@ mod arithmetic_texts;
 #[cfg(test)]
 mod asserted;
 #[cfg(test)]
+mod condition_rows;
+#[cfg(test)]
+mod condition_texts;
+#[cfg(test)]
 mod name_rows;
 #[cfg(test)]
 mod program_rows;

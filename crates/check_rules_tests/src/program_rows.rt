@@ -1,6 +1,6 @@
 //! The first rule that a program breaks, and its place.
 use crate::asserted::{holds, same_in};
-use crate::program_texts::{apart, program, together};
+use crate::program_texts::{SECTION, VERB, apart, empty_sections, program, together};
 use crate::reference_texts::{OPERAND, SUBSCRIPT};
 use crate::texts::LEVEL;
 use check_rules::{CheckError, Rule, check};
@@ -11,14 +11,20 @@ use std::process::Abort;
 const ENTRIES: &[&str] = &[
     "01 G",
     "05 A PIC=XX",
+    "88 BLANKS SPACE",
     "05 T PIC=99 OCCURS=3",
+    "88 FULL 99",
     "01 H",
     "05 A PIC=X(19)",
+    "88 BLANKS SPACE",
     "05 B PIC=A(3)",
     "77 N PIC=9V9",
+    "88 SMALL 0:1",
     "77 M PIC=9",
+    "88 ONE 1",
     "77 E PIC=Z9",
     "77 W PIC=XBX",
+    "77 C PIC=99 COMP",
 ];
 
 const WITHOUT_PICTURE: &[&str] = &["77 M PIC=9", "77 N"];
@@ -29,7 +35,6 @@ type Expected = Option<(Rule, (u32, u8))>;
 pub type Row = (&'static [&'static str], Expected);
 
 const ROWS: &[Row] = &[
-    (&[], None),
     (
         &[
             "MOVE M N A/G",
@@ -112,6 +117,31 @@ fn order(rt: &impl Abort, alloc: Global) {
     let both = program(rt, alloc, WITHOUT_PICTURE, sections);
     let expected = Some((Rule::Picture, (2, LEVEL)));
     same_in(rt, &"both", told(rt, alloc, &both), expected);
+    let neither = program(rt, alloc, WITHOUT_PICTURE, apart(rt, alloc, &[]));
+    same_in(rt, &"neither", told(rt, alloc, &neither), expected);
+}
+
+/// Sections, each by its name and how many paragraphs it has, on a line each.
+const SECTIONS: &[(&[(&str, usize)], Expected)] = &[
+    (&[], Some((Rule::NoProcedure, (1, VERB)))),
+    (&[("", 0)], Some((Rule::NoProcedure, (1, VERB)))),
+    (&[("S", 0)], Some((Rule::NoProcedure, (1, SECTION)))),
+    (&[("", 0), ("S", 0)], Some((Rule::NoProcedure, (1, VERB)))),
+    (
+        &[("S", 0), ("R", 0)],
+        Some((Rule::NoProcedure, (1, SECTION))),
+    ),
+    // A paragraph without a sentence is a procedure.
+    (&[("S", 1)], None),
+    (&[("S", 0), ("R", 1)], None),
+    (&[("", 1), ("S", 0)], None),
+];
+
+fn procedures(rt: &impl Abort, alloc: Global) {
+    for (texts, expected) in SECTIONS {
+        let one = program(rt, alloc, ENTRIES, empty_sections(rt, alloc, texts));
+        same_in(rt, texts, told(rt, alloc, &one), *expected);
+    }
 }
 
 #[test]
@@ -122,4 +152,9 @@ fn programs(rt: HostRuntime) {
 #[test]
 fn entries_come_first(rt: HostRuntime) {
     order(&rt, rt.alloc());
+}
+
+#[test]
+fn sections_alone_are_no_procedure(rt: HostRuntime) {
+    procedures(&rt, rt.alloc());
 }

@@ -1,20 +1,24 @@
 //! Programs from short texts: a sentence a line, its statements between `;`, each as `MOVE M N B`, `DISPLAY M =1`, `ACCEPT M FROM DATE` or
 //! `CONTINUE`. Behind `>` stands what is performed, with a `P` before it for each PERFORM around it, as `PP>MOVE M N;CONTINUE`. Behind
 //! an arithmetic statement stand, each behind a `|`, the statement of ON SIZE ERROR and that of NOT ON SIZE ERROR; nothing there
-//! is no phrase.
+//! is no phrase. IF stands as `IF SMALL THEN MOVE M N ELSE CONTINUE`, and UNTIL in front of `>`, as `UNTIL SMALL>CONTINUE`.
 use crate::arithmetic_texts::operation;
+use crate::condition_texts::{condition, until};
 use crate::reference_texts::{operand, push, reference};
 use crate::texts::{entries, name};
 use source_tree::{
-    Arithmetic, Ending, Moving, Paragraph, Performed, Performing, Phrases, Place, Program, Section,
-    Sentence, Statement, Text, Turns, Verb,
+    Arithmetic, Branching, Ending, Moving, Paragraph, Performed, Performing, Phrases, Place,
+    Program, Section, Sentence, Statement, Text, Turns, Verb,
 };
 use sqlite_items::Items;
 use std::alloc::Global;
 use std::process::Abort;
 
 /// Where a statement's verb stands in a line.
-const VERB: u8 = 8;
+pub const VERB: u8 = 8;
+
+/// Where a section's name stands in a line.
+pub const SECTION: u8 = 9;
 
 fn alone<T: Drop>(rt: &impl Abort, alloc: Global, one: T) -> Items<T> {
     let mut all = Vec::new(alloc);
@@ -84,7 +88,21 @@ fn phrase(rt: &impl Abort, alloc: Global, line: u32, text: &str) -> Option<Items
     Some(alone(rt, alloc, plain(rt, alloc, line, text)))
 }
 
+fn branching(rt: &impl Abort, alloc: Global, line: u32, text: &str) -> Statement {
+    let (test, ways) = text.split_once(" THEN ").unwrap_or((text, ""));
+    let (first, other) = ways.split_once(" ELSE ").unwrap_or((ways, ""));
+    let one = Branching::If {
+        condition: condition(rt, alloc, line, test),
+        statements: alone(rt, alloc, plain(rt, alloc, line, first)),
+        otherwise: phrase(rt, alloc, line, other),
+    };
+    at(line, Verb::Branching(one))
+}
+
 fn statement(rt: &impl Abort, alloc: Global, line: u32, text: &str) -> Statement {
+    if let Some(rest) = text.strip_prefix("IF ") {
+        return branching(rt, alloc, line, rest);
+    }
     let (words, phrases) = text.split_once('|').unwrap_or((text, ""));
     let Some(operation) = operation(rt, alloc, line, words) else {
         return plain(rt, alloc, line, text);
@@ -97,9 +115,8 @@ fn statement(rt: &impl Abort, alloc: Global, line: u32, text: &str) -> Statement
     at(line, Verb::Arithmetic(Arithmetic { operation, phrases }))
 }
 
-fn performing(line: u32, inside: Items<Statement>) -> Statement {
+fn performing(line: u32, turns: Turns, inside: Items<Statement>) -> Statement {
     let performed = Performed::Statements(inside);
-    let turns = Turns::Once;
     at(line, Verb::Performing(Performing { performed, turns }))
 }
 
@@ -111,8 +128,13 @@ fn sentence(rt: &impl Abort, alloc: Global, line: u32, text: &str) -> Sentence {
         push(rt, &mut all, one);
     }
     let mut statements = Items::from_vec(all);
+    if let Some(until) = until(rt, alloc, line, around) {
+        let turns = Turns::Until(until);
+        statements = alone(rt, alloc, performing(line, turns, statements));
+        return Sentence { statements };
+    }
     for _ in 0..around.len() {
-        statements = alone(rt, alloc, performing(line, statements));
+        statements = alone(rt, alloc, performing(line, Turns::Once, statements));
     }
     Sentence { statements }
 }
@@ -146,6 +168,37 @@ pub fn apart(rt: &impl Abort, alloc: Global, texts: &[&str]) -> Items<Section> {
         let line = (index % 1_000) as u32 + 1;
         let only = alone(rt, alloc, sentence(rt, alloc, line, text));
         push(rt, &mut all, section(rt, alloc, only));
+    }
+    Items::from_vec(all)
+}
+
+fn empty_paragraphs(rt: &impl Abort, alloc: Global, count: usize) -> Items<Paragraph> {
+    let mut all = Vec::new(alloc);
+    for _ in 0..count {
+        let one = Paragraph {
+            name: None,
+            sentences: Items::from_vec(Vec::new(alloc)),
+        };
+        push(rt, &mut all, one);
+    }
+    Items::from_vec(all)
+}
+
+/// Sections with their names, or without one, of so many paragraphs without sentences.
+pub fn empty_sections(rt: &impl Abort, alloc: Global, texts: &[(&str, usize)]) -> Items<Section> {
+    let mut all = Vec::new(alloc);
+    for (index, (text, count)) in texts.iter().enumerate() {
+        let line = (index % 1_000) as u32 + 1;
+        let called = if text.is_empty() {
+            None
+        } else {
+            Some(name(rt, alloc, line, SECTION, text))
+        };
+        let one = Section {
+            name: called,
+            paragraphs: empty_paragraphs(rt, alloc, *count),
+        };
+        push(rt, &mut all, one);
     }
     Items::from_vec(all)
 }

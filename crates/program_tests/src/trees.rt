@@ -4,7 +4,8 @@ use crate::asserted::{same, same_in};
 use divisions::{ParseError, parse};
 use source_lines::logical;
 use source_tree::{
-    Ending, Moving, Name, Operand, Performed, Performing, Program, Statement, Text, Turns, Verb,
+    Branching, Ending, Moving, Name, Operand, Performed, Performing, Program, Statement, TestTime,
+    Text, Turns, Verb,
 };
 use std::alloc::{AllocError, Global};
 use std::test::Fail;
@@ -14,7 +15,7 @@ const HEADER: &str =
     "       IDENTIFICATION DIVISION.\n       PROGRAM-ID. HELLO.\n       PROCEDURE DIVISION.\n";
 
 /// What comes after the three lines of `HEADER`, and its tree as `shape` writes it.
-const TREES: [(&str, &str); 34] = [
+const TREES: [(&str, &str); 36] = [
     // HELLO in its six lines, with END PROGRAM, and with another name there
     (
         "       MAIN-PARA.\n           DISPLAY \"HELLO\".\n           STOP RUN.\n",
@@ -122,6 +123,14 @@ const TREES: [(&str, &str); 34] = [
     (
         "           PERFORM 2 TIMES PERFORM 3 TIMES CONTINUE END-PERFORM\n           PERFORM CONTINUE END-PERFORM END-PERFORM CONTINUE.\n",
         "HELLO|.P2(P3(C@4:44)@4:28P(C@5:20)@5:12)@4:12C@5:53",
+    ),
+    (
+        "           PERFORM UNTIL 1 = 2 CONTINUE END-PERFORM.\n",
+        "HELLO|.PU(C@4:32)@4:12",
+    ),
+    (
+        "           IF 1 = 2 CONTINUE CONTINUE ELSE CONTINUE.\n",
+        "HELLO|.I2@4:12",
     ),
     // sections, one of them with nothing in it, and sentences before the first
     ("       A SECTION.\n", "HELLO#A@4:8"),
@@ -361,6 +370,10 @@ fn push_turns(to: &mut String, turns: &Turns) -> Result<(), AllocError> {
     match turns {
         Turns::Once => Ok(()),
         Turns::Times(count) => push_text(to, count.digits.as_slice()),
+        Turns::Until(until) => to.push_str(match until.test {
+            TestTime::Before => "U",
+            TestTime::After => "V",
+        }),
     }
 }
 
@@ -392,6 +405,10 @@ fn push_statement(to: &mut String, alloc: Global, statement: &Statement) -> Resu
             }
             to.push_str(")")?;
         }
+        // what stands in its ways is shown by tests of `statements`
+        Verb::Branching(Branching::If { statements, .. }) => {
+            to.push_str(format!(in alloc; "I{}", statements.len())?.as_str())?;
+        }
         Verb::Text(Text::Accept { .. }) => to.push_str("A")?,
         Verb::Text(Text::AcceptDate { .. }) => to.push_str("AD")?,
         // what stands in its phrases is shown by tests of `statements`
@@ -411,7 +428,9 @@ fn push_name(to: &mut String, alloc: Global, mark: &str, name: &Name) -> Result<
 
 /// The program's name; where it has entries `^` and their number; for each section `#`, its name and place; for each paragraph
 /// `|`, its name and place; for each sentence `.` and its statements: `D`, the number of operands and `+`, or `-` for NO ADVANCING;
-/// `M` for MOVE and the number of receivers; `S` for STOP RUN, `C` for CONTINUE, `P` for PERFORM with its integer and the statements in it; each with its place.
+/// `M` for MOVE and the number of receivers; `S` for STOP RUN, `C` for CONTINUE, `I` for IF and the number of its statements, `P`
+/// for PERFORM with its integer, or `U` and `V` for UNTIL with its test before and after, and the statements in it; each with its
+/// place.
 fn shape(alloc: Global, program: &Program) -> Result<String, AllocError> {
     let mut shape = String::new(alloc);
     push_text(&mut shape, program.name.characters.as_slice())?;

@@ -1,4 +1,2 @@
-pub mod IfStatements
-pub mod Depth
 -- Definitions on small cases
 pub mod Examples

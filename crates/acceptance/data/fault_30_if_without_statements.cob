@@ -1,0 +1,8 @@
+       IDENTIFICATION DIVISION.
+       PROGRAM-ID. P.
+       DATA DIVISION.
+       WORKING-STORAGE SECTION.
+       01  A PIC 9.
+       PROCEDURE DIVISION.
+           IF A = 1
+           ELSE DISPLAY "WRONG".

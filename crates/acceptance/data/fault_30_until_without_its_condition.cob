@@ -1,0 +1,9 @@
+       IDENTIFICATION DIVISION.
+       PROGRAM-ID. P.
+       DATA DIVISION.
+       WORKING-STORAGE SECTION.
+       01  A PIC 9.
+       PROCEDURE DIVISION.
+           PERFORM UNTIL
+               DISPLAY "WRONG"
+           END-PERFORM.

@@ -1,0 +1,8 @@
+       IDENTIFICATION DIVISION.
+       PROGRAM-ID. P.
+       DATA DIVISION.
+       WORKING-STORAGE SECTION.
+       01  T PIC X(4).
+       PROCEDURE DIVISION.
+           IF T IS POSITIVE
+               DISPLAY "WRONG".

@@ -1,0 +1,9 @@
+       IDENTIFICATION DIVISION.
+       PROGRAM-ID. P.
+       DATA DIVISION.
+       WORKING-STORAGE SECTION.
+       01  T PIC X(4).
+       PROCEDURE DIVISION.
+           PERFORM VARYING T FROM 1 BY 1 UNTIL T = "4"
+               DISPLAY "WRONG"
+           END-PERFORM.

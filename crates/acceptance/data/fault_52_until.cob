@@ -1,0 +1,10 @@
+       IDENTIFICATION DIVISION.
+       PROGRAM-ID. P.
+       DATA DIVISION.
+       WORKING-STORAGE SECTION.
+       01  K PIC 9(4) COMP.
+       01  T PIC X(4).
+       PROCEDURE DIVISION.
+           PERFORM UNTIL K = T
+               DISPLAY "WRONG"
+           END-PERFORM.

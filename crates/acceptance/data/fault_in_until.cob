@@ -1,0 +1,12 @@
+       IDENTIFICATION DIVISION.
+       PROGRAM-ID. P.
+       DATA DIVISION.
+       WORKING-STORAGE SECTION.
+       01  I PIC 99.
+       01  T.
+           05  E PIC 9 OCCURS 3 VALUE 7.
+       PROCEDURE DIVISION.
+           PERFORM VARYING I FROM 1 BY 1 UNTIL E(I) = 0
+               DISPLAY I
+           END-PERFORM
+           DISPLAY "WRONG".

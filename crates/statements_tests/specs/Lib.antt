@@ -1,5 +1,0 @@
-pub mod Branching
-pub mod Samples
-pub mod Nests
-pub mod Laws
-pub use Rattle.grammar.specs.Reading as GrammarReading

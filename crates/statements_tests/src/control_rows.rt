@@ -1,0 +1,223 @@
+//! Rows of IF and PERFORM: what is read of a sentence, and where reading halts.
+
+use crate::asserted::same_in;
+use crate::read::{Left, nested, read};
+use std::test::Fail;
+
+/// A sentence with IF, and what is read of it, as `push_statements` writes it.
+const BRANCHING: [(&str, &str); 15] = [
+    ("IF A CONTINUE.", "if A{continue;};"),
+    ("IF A THEN CONTINUE.", "if A{continue;};"),
+    (
+        "IF A = B CONTINUE CONTINUE END-IF CONTINUE.",
+        "if A=B{continue;continue;};continue;",
+    ),
+    (
+        "IF NOT (A OR B) CONTINUE ELSE CONTINUE.",
+        "if [not [or A B]]{continue;}else{continue;};",
+    ),
+    (
+        "IF A CONTINUE ELSE CONTINUE CONTINUE END-IF CONTINUE.",
+        "if A{continue;}else{continue;continue;};continue;",
+    ),
+    // ELSE belongs to the innermost IF that has none yet, unless END-IF has ended that
+    (
+        "IF A IF B CONTINUE ELSE CONTINUE.",
+        "if A{if B{continue;}else{continue;};};",
+    ),
+    (
+        "IF A IF B CONTINUE END-IF ELSE CONTINUE.",
+        "if A{if B{continue;};}else{continue;};",
+    ),
+    (
+        "IF A IF B CONTINUE ELSE CONTINUE ELSE CONTINUE.",
+        "if A{if B{continue;}else{continue;};}else{continue;};",
+    ),
+    (
+        "IF A IF B CONTINUE ELSE CONTINUE END-IF ELSE CONTINUE.",
+        "if A{if B{continue;}else{continue;};}else{continue;};",
+    ),
+    (
+        "IF A CONTINUE ELSE IF B CONTINUE ELSE CONTINUE.",
+        "if A{continue;}else{if B{continue;}else{continue;};};",
+    ),
+    (
+        "IF A CONTINUE ELSE IF B CONTINUE END-IF END-IF CONTINUE.",
+        "if A{continue;}else{if B{continue;};};continue;",
+    ),
+    // and so does END-IF
+    (
+        "IF A IF B CONTINUE END-IF CONTINUE.",
+        "if A{if B{continue;};continue;};",
+    ),
+    (
+        "IF A THEN IF B THEN CONTINUE END-IF END-IF CONTINUE.",
+        "if A{if B{continue;};};continue;",
+    ),
+    // ELSE ends the statements before it, and their phrases
+    (
+        "IF A ADD 1 TO B SIZE ERROR CONTINUE ELSE CONTINUE.",
+        "if A{add 1 -> B error{continue;};}else{continue;};",
+    ),
+    (
+        "IF A > B + 1 ADD 1 TO B END-ADD CONTINUE ELSE CONTINUE.",
+        "if A>[B+1]{add 1 -> B;continue;}else{continue;};",
+    ),
+];
+
+/// A sentence with PERFORM, and what is read of it.
+const PERFORMING: [(&str, &str); 13] = [
+    ("PERFORM CONTINUE END-PERFORM.", "perform{continue;};"),
+    (
+        "PERFORM 3 TIMES CONTINUE END-PERFORM CONTINUE.",
+        "perform 3 times{continue;};continue;",
+    ),
+    (
+        "PERFORM UNTIL A CONTINUE END-PERFORM.",
+        "perform until A{continue;};",
+    ),
+    (
+        "PERFORM UNTIL A > 5 ADD 1 TO A END-PERFORM.",
+        "perform until A>5{add 1 -> A;};",
+    ),
+    // the test comes before unless AFTER is written
+    (
+        "PERFORM TEST BEFORE UNTIL A CONTINUE END-PERFORM.",
+        "perform until A{continue;};",
+    ),
+    (
+        "PERFORM WITH TEST BEFORE UNTIL A CONTINUE END-PERFORM.",
+        "perform until A{continue;};",
+    ),
+    (
+        "PERFORM TEST AFTER UNTIL A CONTINUE END-PERFORM.",
+        "perform after until A{continue;};",
+    ),
+    (
+        "PERFORM WITH TEST AFTER UNTIL A CONTINUE END-PERFORM.",
+        "perform after until A{continue;};",
+    ),
+    (
+        "PERFORM VARYING A FROM 1 BY 2 UNTIL A > B\nCONTINUE END-PERFORM.",
+        "perform A from 1 by 2 until A>B{continue;};",
+    ),
+    (
+        "PERFORM WITH TEST AFTER VARYING A (1) FROM B BY -1\nUNTIL A (1) = C OR D CONTINUE END-PERFORM.",
+        "perform after A(1) from B by -1 until [or A(1)=C D]{continue;};",
+    ),
+    // in one another
+    (
+        "PERFORM UNTIL A PERFORM 2 TIMES CONTINUE END-PERFORM\nCONTINUE END-PERFORM.",
+        "perform until A{perform 2 times{continue;};continue;};",
+    ),
+    (
+        "PERFORM UNTIL A IF B CONTINUE ELSE CONTINUE END-PERFORM.",
+        "perform until A{if B{continue;}else{continue;};};",
+    ),
+    (
+        "IF A PERFORM UNTIL B CONTINUE END-PERFORM ELSE CONTINUE.",
+        "if A{perform until B{continue;};}else{continue;};",
+    ),
+];
+
+/// How many tokens there are from where reading halts on.
+const HALTS: [(&str, usize); 25] = [
+    ("IF A.", 1),
+    ("IF A THEN.", 1),
+    ("IF CONTINUE.", 2),
+    ("IF A THEN THEN CONTINUE.", 3),
+    ("IF A ELSE CONTINUE.", 3),
+    ("IF A CONTINUE ELSE.", 1),
+    ("IF A CONTINUE ELSE END-IF.", 2),
+    ("IF A CONTINUE END-IF END-IF.", 2),
+    ("IF A CONTINUE ELSE CONTINUE ELSE CONTINUE.", 3),
+    ("IF A CONTINUE END-PERFORM.", 2),
+    ("ELSE CONTINUE.", 3),
+    ("PERFORM CONTINUE.", 1),
+    ("PERFORM UNTIL A CONTINUE.", 1),
+    ("PERFORM UNTIL A CONTINUE END-IF.", 2),
+    ("PERFORM UNTIL A END-PERFORM.", 2),
+    ("PERFORM 3 CONTINUE END-PERFORM.", 3),
+    // UNTIL wants a condition, and VARYING, TEST and WITH want what follows them
+    ("PERFORM UNTIL CONTINUE END-PERFORM.", 3),
+    ("PERFORM VARYING A FROM 1 BY 1 CONTINUE END-PERFORM.", 3),
+    ("PERFORM VARYING A FROM 1 UNTIL B CONTINUE END-PERFORM.", 5),
+    (
+        "PERFORM VARYING A BY 1 FROM 1 UNTIL B CONTINUE\nEND-PERFORM.",
+        9,
+    ),
+    (
+        "PERFORM VARYING 5 FROM 1 BY 1 UNTIL A CONTINUE\nEND-PERFORM.",
+        10,
+    ),
+    ("PERFORM TEST UNTIL A CONTINUE END-PERFORM.", 5),
+    ("PERFORM WITH UNTIL A CONTINUE END-PERFORM.", 6),
+    ("PERFORM TEST AFTER CONTINUE END-PERFORM.", 3),
+    ("PERFORM UNTIL A TEST AFTER CONTINUE END-PERFORM.", 5),
+];
+
+#[test]
+fn branching_is_read(rt: HostRuntime) -> Result<(), Fail> {
+    for (text, shape) in BRANCHING.iter() {
+        let found = read(rt.alloc(), text)?;
+        same_in(&rt, text, found.0.as_str(), *shape);
+        same_in(&rt, text, found.1, (0, false));
+    }
+    Ok(())
+}
+
+#[test]
+fn performing_is_read(rt: HostRuntime) -> Result<(), Fail> {
+    for (text, shape) in PERFORMING.iter() {
+        let found = read(rt.alloc(), text)?;
+        same_in(&rt, text, found.0.as_str(), *shape);
+        same_in(&rt, text, found.1, (0, false));
+    }
+    Ok(())
+}
+
+#[test]
+fn control_is_refused(rt: HostRuntime) -> Result<(), Fail> {
+    for (text, left) in HALTS.iter() {
+        let found = read(rt.alloc(), text)?;
+        same_in(&rt, text, found.0.as_str(), "");
+        same_in(&rt, text, found.1, (*left, false));
+    }
+    Ok(())
+}
+
+/// 64 statements stand in one another: 63 around CONTINUE.
+#[test]
+fn control_too_deep(rt: HostRuntime) -> Result<(), Fail> {
+    let rows: [(&str, &str, usize, Left); 4] = [
+        ("IF A", "END-IF", 63, (0, false)),
+        // CONTINUE, the END words and the period
+        ("IF A", "END-IF", 64, (66, true)),
+        ("PERFORM UNTIL A", "END-PERFORM", 63, (0, false)),
+        ("PERFORM UNTIL A", "END-PERFORM", 64, (66, true)),
+    ];
+    for (line, end, times, left) in rows.iter() {
+        let text = nested(rt.alloc(), "", line, "CONTINUE", end, *times)?;
+        let found = read(rt.alloc(), text.as_str())?;
+        same_in(&rt, &(line, times), found.1, *left);
+    }
+    Ok(())
+}
+
+/// The condition of a statement that stands in no other holds 63 NOTs in one another, one in an IF 62.
+#[test]
+fn conditions_too_deep(rt: HostRuntime) -> Result<(), Fail> {
+    let rows: [(&str, usize, Left); 4] = [
+        ("IF", 63, (0, false)),
+        // the NOT that is too deep, A, each CONTINUE and the period
+        ("IF", 64, (67, true)),
+        ("IF A IF", 62, (0, false)),
+        ("IF A IF", 63, (66, true)),
+    ];
+    for (before, times, left) in rows.iter() {
+        let text = nested(rt.alloc(), before, "NOT", "A", "CONTINUE", *times)?;
+        let found = read(rt.alloc(), text.as_str())?;
+        same_in(&rt, &(before, times), found.1, *left);
+    }
+    Ok(())
+}
