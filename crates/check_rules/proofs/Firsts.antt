@@ -24,3 +24,8 @@ pub fails_front : {A : Type 0} (value : A) (o : Option Broken) (xs ys : List Bro
 fails_front value None xs ys h = tt
 fails_front value (Some one) [] ys h = cc
 fails_front value (Some one) (x ∷ xs) ys h = h
+
+-- What is looked for behind rules that are kept is the first of all.
+pub fails_first : {A : Type 0} (value : A) (one : Broken) (xs ys : List Broken) → first xs ≡ Some one → Fails (Some one) (first_or value (xs ++ ys))
+fails_first value one [] ys e = cc
+fails_first value one (x ∷ xs) ys e = cc

@@ -10,6 +10,8 @@ use Rattle.source_tree.specs.declared.expression.Expression.TheVariants.{rolls-O
 use Rattle.source_tree.specs.declared.expression.Expression.TheOpen.{Expression-F}
 use Rattle.source_tree.specs.declared.expression.Expression.TheFolds.{map-Expression, fold-roll-Expression}
 use Rattle.source_tree.specs.declared.arithmetic.Operation.{Operation}
+use Rattle.source_tree.specs.declared.condition.Condition.{Condition}
+use Rattle.source_tree.specs.declared.branching.Branching.TheVariants.{If}
 use Rattle.source_tree.specs.declared.performing.Performed.{Performed}
 use Rattle.source_tree.specs.declared.performing.Performed.TheVariants.{Statements}
 use Rattle.source_tree.specs.declared.performing.Turns.{Turns}
@@ -20,18 +22,27 @@ use Rattle.source_tree.specs.declared.statement.Statement.TheFolds.{map-Statemen
 use Rattle.source_tree.specs.Places.{Placed}
 use Rattle.source_tree.specs.Broken.{Broken, each}
 use Rattle.source_tree.specs.ArithmeticRules.{number_rules, operation_rules, operand_pair_rules, expression_layer_rules, expression_rules}
-use Rattle.source_tree.specs.Rules.{verb_rules, statement_layer, statement_rules}
+use Rattle.source_tree.specs.ConditionRules.{condition_rules}
+use Rattle.source_tree.specs.Rules.{turns_rules, verb_rules, statement_layer, statement_rules}
 use Rattle.check_rules.specs.Operations.{further_rules}
 
 module _ {A B : Type 0} (f : A → B) (rules : B → List Broken) where
-  each_map : (all : List A) → each rules (map f all) ≡ each (λ a. rules (f a)) all
+  pub each_map : (all : List A) → each rules (map f all) ≡ each (λ a. rules (f a)) all
   each_map [] = refl
   each_map (one ∷ more) = ap (λ l. rules (f one) ++ l) (each_map more)
 
   performing_map : (items : List Placed) (place : Place) (often : Turns) (what : Performed A)
       → verb_rules items rules (map-Statement A B f (record { place = place; verb = verb.Performing (record { performed = what; turns = often }) })).verb
       ≡ verb_rules items (λ a. rules (f a)) (verb.Performing (record { performed = what; turns = often }))
-  performing_map items place often (Statements inside) = each_map inside
+  performing_map items place often (Statements inside) = ap (λ l. turns_rules items often ++ l) (each_map inside)
+
+  branching_map : (items : List Placed) (place : Place) (condition : Condition) (statements : List A) (otherwise : Option (List A))
+      → verb_rules items rules (map-Statement A B f (record { place = place; verb = verb.Branching (If condition statements otherwise) })).verb
+      ≡ verb_rules items (λ a. rules (f a)) (verb.Branching (If condition statements otherwise))
+  branching_map items place condition statements None = ap (λ l. condition_rules items condition ++ l ++ []) (each_map statements)
+  branching_map items place condition statements (Some other) =
+      ap (λ l. condition_rules items condition ++ l ++ each rules (map f other)) (each_map statements)
+      ∙ ap (λ l. condition_rules items condition ++ each (λ a. rules (f a)) statements ++ l) (each_map other)
 
   phrases_map : (items : List Placed) (place : Place) (operation : Operation) (arose did_not : Option (List A))
       → verb_rules items rules (map-Statement A B f (record { place = place; verb = verb.Arithmetic (record { operation = operation; phrases = record { arose = arose; did_not = did_not } }) })).verb
@@ -47,6 +58,7 @@ module _ {A B : Type 0} (f : A → B) (rules : B → List Broken) where
       → verb_rules items rules (map-Statement A B f (record { place = place; verb = one })).verb ≡ verb_rules items (λ a. rules (f a)) one
   verb_map items place (verb.Moving one) = refl
   verb_map items place (verb.Arithmetic one) = phrases_map items place one.operation one.phrases.arose one.phrases.did_not
+  verb_map items place (verb.Branching (If condition statements otherwise)) = branching_map items place condition statements otherwise
   verb_map items place (verb.Performing one) = performing_map items place one.turns one.performed
   verb_map items place (verb.Text one) = refl
   verb_map items place (verb.Ending one) = refl

@@ -2,4 +2,5 @@ pub mod Named
 pub mod Sending
 pub mod Asking
 pub mod Operations
+pub mod Comparing
 pub mod Kept

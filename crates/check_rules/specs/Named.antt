@@ -11,6 +11,7 @@ use Rattle.source_tree.specs.Places.{Placed, items_of}
 use Rattle.layout.specs.declared.placed.PlacedItem.{PlacedItem}
 use Rattle.layout.specs.Placing.{placed_item}
 use Rattle.names.specs.Items.{called_item}
+use Rattle.names.specs.Conditions.{AreConditions}
 use Rattle.names.specs.Table.{IsTable, calls_in}
 use Rattle.entry_rules.specs.declared.rule.BrokenRule.{BrokenRule}
 use Rattle.entry_rules.specs.Checks.{broken_of}
@@ -24,6 +25,7 @@ pub record IsDeclared (all : Declarations) : Type 0 where
   pub table : IsTable all.names
   pub calls : calls_in all.names ≡ map called_item (items_in all)
   pub items : all.layout.items ≡ map placed_item (items_in all)
+  pub conditions : AreConditions (items_in all) all.conditions
 
 abbrev pub told : Result (Bor PlacedItem) BrokenRule → Result PlacedItem BrokenRule
 told (Ok item) = Ok item.now

@@ -7,6 +7,7 @@ ghost use Rattle.entry_rules.specs.Checks.{fault_of, first_or};
 ghost use Rattle.check_rules.specs.Named.{IsDeclared};
 
 use crate::declarations::Declarations;
+use crate::procedure::procedure_rules;
 use entry_rules::{CheckError, check_entries};
 use source_tree::Program;
 use std::alloc::Global;
@@ -53,8 +54,8 @@ impl<'a> Checked<'a> {
     }
 }
 
-/// Whether a program keeps the rules: 17, 18, 40, 41, 43 to 51, 55, 67 and 69. Otherwise the answer is the first that it
-/// breaks, in the order of the definition: those of its entries, and then those of its statements in the order of the text.
+/// Whether a program keeps the rules: 17, 18, 40, 41, 43 to 52, 55, 56, 67 and 69. Otherwise the answer is the first that it
+/// breaks, in the order of the definition: those of its entries, those of its statements in the order of the text, and then 56.
 pub fn check(alloc: Global, program: &Program) -> Result<Checked<'_>, CheckError>
     ensures program { IfOk result (λ checked. checked ≡ program.now) }
     // A program that is accepted breaks no rule.
@@ -66,6 +67,7 @@ pub fn check(alloc: Global, program: &Program) -> Result<Checked<'_>, CheckError
     check_entries(alloc, storage)?;
     let declarations = Declarations::of(alloc, storage)?;
     declarations.sections_rules(program.sections.as_slice())?;
+    procedure_rules(program)?;
     Ok(Checked {
         program,
         declarations,

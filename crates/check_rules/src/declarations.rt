@@ -8,16 +8,18 @@ ghost use Rattle.check_rules.specs.Named.{IsDeclared, IsItemNamed, items_in};
 
 use entry_rules::{BrokenRule, Rule};
 use layout::{Layout, PlacedItem};
-use names::{LookUp, NameTable, item_names};
+use names::{ConditionNames, LookUp, NameTable, condition_names, item_names};
 use source_tree::{Entry, QualifiedName};
 use std::alloc::{AllocError, Global};
 
-/// The entries of working storage, which keep their rules, with the names of their items and where those stand.
+/// The entries of working storage, which keep their rules, with the names of their items and where those stand, and with their
+/// condition names.
 #[derive(Drop)]
 pub struct Declarations<'a> {
     pub entries: &'a [Entry],
     pub names: NameTable<'a>,
     pub layout: Layout,
+    pub conditions: ConditionNames<'a>,
 }
 
 impl<'a> Declarations<'a> {
@@ -29,10 +31,12 @@ impl<'a> Declarations<'a> {
     {
         let names = item_names(alloc, entries)?;
         let layout = Layout::of(alloc, entries)?;
+        let conditions = condition_names(alloc, &names, entries)?;
         Ok(Declarations {
             entries,
             names,
             layout,
+            conditions,
         })
     }
 

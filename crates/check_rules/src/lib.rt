@@ -4,14 +4,19 @@
 mod arithmetic;
 mod asked;
 mod checked;
+mod compared;
+mod conditions;
 mod declarations;
 mod expression;
 mod forms;
 mod moving;
+mod procedure;
 mod references;
 mod sent;
+mod sides;
 mod statements;
 mod text;
+mod until;
 
 pub use checked::{Checked, check};
 pub use declarations::Declarations;

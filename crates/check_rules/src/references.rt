@@ -51,7 +51,7 @@ impl<'a> Declarations<'a> {
     }
 
     /// Subscripts, in order.
-    fn subscripts_rules(&self, all: &[Subscript]) -> Result<(), BrokenRule>
+    pub(crate) fn subscripts_rules(&self, all: &[Subscript]) -> Result<(), BrokenRule>
         requires { IsDeclared self.now }
         ensures { Finds result (each (spec.subscript_rules (items_in self.now)) all.now) }
     {

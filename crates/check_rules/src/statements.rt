@@ -9,9 +9,10 @@ ghost use Rattle.check_rules.specs.Named.{IsDeclared, items_in};
 use crate::declarations::Declarations;
 use entry_rules::BrokenRule;
 use source_tree::{
-    Arithmetic, Moving, Paragraph, Performed, Performing, Phrases, Section, Sentence, Statement,
-    Text, Verb,
+    Arithmetic, Branching, Moving, Paragraph, Performed, Performing, Phrases, Section, Sentence,
+    Statement, Text, Verb,
 };
+use sqlite_items::Items;
 
 impl<'a> Declarations<'a> {
     fn moving_rules(&self, one: &Moving) -> Result<(), BrokenRule>
@@ -50,20 +51,29 @@ impl<'a> Declarations<'a> {
                 },
             ) => {
                 self.operation_rules(operation)?;
-                if let Some(inside) = arose {
-                    self.statements_rules(inside.as_slice())?;
-                }
-                match did_not {
-                    Some(inside) => self.statements_rules(inside.as_slice()),
-                    None => Ok(()),
-                }
+                self.phrase_rules(arose)?;
+                self.phrase_rules(did_not)
+            }
+            Verb::Branching(
+                Branching::If {
+                    condition,
+                    statements,
+                    otherwise,
+                },
+            ) => {
+                self.condition_rules(condition)?;
+                self.statements_rules(statements.as_slice())?;
+                self.phrase_rules(otherwise)
             }
             Verb::Performing(
                 Performing {
                     performed: Performed::Statements(inside),
-                    ..
+                    turns,
                 },
-            ) => self.statements_rules(inside.as_slice()),
+            ) => {
+                self.turns_rules(turns)?;
+                self.statements_rules(inside.as_slice())
+            }
             Verb::Text(text) => self.text_rules(text),
             Verb::Ending(_) => Ok(()),
         }
@@ -79,6 +89,18 @@ impl<'a> Declarations<'a> {
             self.statement_rules(one)?;
         }
         Ok(())
+    }
+
+    /// The statements of a phrase, if it stands.
+    #[cycle(statement)]
+    fn phrase_rules(&self, phrase: &Option<Items<Statement>>) -> Result<(), BrokenRule>
+        requires { IsDeclared self.now }
+        ensures { Finds result (spec.phrase_rules (spec.statement_rules (items_in self.now)) phrase.now) }
+    {
+        match phrase {
+            None => Ok(()),
+            Some(inside) => self.statements_rules(inside.as_slice()),
+        }
     }
 
     fn sentence_rules(&self, one: &Sentence) -> Result<(), BrokenRule>

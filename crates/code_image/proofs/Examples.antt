@@ -1,7 +1,8 @@
--- Worked examples: the code of a program that shows HELLO and stops, two loops, code that works on data, ways on, console lines, and
--- images.
-use Rattle.std.proofs.Common.{◌≡◌, ℕ, true, false, List, [], ◌∷◌, ◌++◌, take, Option, Some, None, Ok, Err, map, refl, pos}
-use Rattle.std.specs.Prelude.{codes, slice_get, slice_index_or}
+-- Worked examples: the code of a program that shows HELLO and stops, two loops, code that works on data, ways on, a way back, console
+-- lines, and images.
+use Rattle.std.proofs.Common.{◌≡◌, ℕ, true, false, List, [], ◌∷◌, ◌++◌, zero, suc, take, Option, Some, None, Ok, Err, map, refl, inl, inr, pos, arith}
+use Rattle.std.specs.Prelude.{◌<◌, All, codes, slice_get, slice_index_or}
+use Rattle.std.proofs.lemmas.List.Elements.{All-nil, All-cons}
 use Rattle.items.specs.declared.item.Kind.TheVariants as kind
 use Rattle.items.specs.declared.usage.OperationalSign.TheVariants as operational
 use Rattle.items.specs.declared.usage.Usage.TheVariants as usage
@@ -16,6 +17,7 @@ use Rattle.data_instructions.specs.declared.tables.DataItem.{DataItem}
 use Rattle.data_instructions.specs.declared.tables.DataTables.{DataTables}
 use Rattle.data_instructions.specs.declared.calculation.Calculation.TheVariants as c
 use Rattle.data_instructions.specs.declared.instruction.DataInstruction.TheVariants as i
+use Rattle.data_instructions.specs.declared.test.Test.TheVariants as t
 use Rattle.data_instructions.specs.Shapes.{empty}
 use Rattle.image_tables.specs.declared.fault.ImageFault.TheVariants as faults
 use Rattle.image_tables.specs.Spelling.{count_bytes, short_bytes}
@@ -30,6 +32,7 @@ use Rattle.code_image.specs.declared.instruction.Instruction.TheVariants.{Tick, 
 use Rattle.code_image.specs.Spelling.{mark, instruction_bytes, spelling}
 use Rattle.code_image.specs.Reading.{after_mark, instruction_at, code_at}
 use Rattle.code_image.specs.Known.{known_along}
+use Rattle.code_image.specs.Demands.{NamesData, NamesCounter, Leads, IsVerified}
 use Rattle.code_image.specs.Points.{Point, first_point}
 use Rattle.code_image.specs.Table.{Next, act, exec_code}
 
@@ -178,6 +181,56 @@ size_error = refl
 no_size_error : exec_code (dividing_by 1) 99 (with_budget (dividing_by 1) 9) ≡ Some (record { events = map Shown (codes "BC"); end = Stopped; lines = [] })
 unfolding computing
 no_size_error = refl
+
+-- ---- ways back
+
+-- The truth becomes true, and is inverted at each turn of a loop until it is true again. The branch leads to this address.
+abbrev until_true : ℕ → Code
+until_true to = record {
+  tables = with_texts [];
+  starts = 0 ∷ [];
+  instructions = Data (i.Test t.Invert) ∷ Tick 1 ∷ Data (i.Test t.Invert) ∷ Branch to ∷ Stop ∷ [];
+}
+
+-- two turns
+until_true_with_2 : exec_code (until_true 1) 99 (with_budget (until_true 1) 2) ≡ Some (record { events = []; end = Stopped; lines = [] })
+until_true_with_2 = refl
+
+until_true_with_1 : exec_code (until_true 1) 99 (with_budget (until_true 1) 1) ≡ Some (record { events = []; end = Budget; lines = [] })
+until_true_with_1 = refl
+
+leads_back : (address : ℕ) → Leads (until_true 1).instructions address (slice_get (until_true 1).instructions address)
+leads_back zero = tt
+leads_back (suc zero) = tt
+leads_back (suc (suc zero)) = tt
+leads_back (suc (suc (suc zero))) = inr (omega arith, tt)
+leads_back (suc (suc (suc (suc zero)))) = tt
+leads_back (suc (suc (suc (suc (suc more))))) = tt
+
+-- a demand on one instruction after the other
+abbrev Each : (Instruction → Type 0) → List Instruction → Type 0
+Each P [] = Unit {0}
+Each P (one ∷ more) = P one × Each P more
+
+all_of : (P : Instruction → Type 0) (is : List Instruction) → Each P is → All P is
+all_of P [] each = All-nil P
+all_of P (one ∷ more) each = All-cons P one more each.0 (all_of P more each.1)
+
+-- a branch back to a `tick` is verified
+verified_back : IsVerified (until_true 1)
+verified_back = record {
+  tables = record { areas = λ k one here. absurd cc; items = λ k one here. absurd cc; senders = λ k one here. absurd cc };
+  within = record {
+    entries = all_of (NamesData (with_texts [])) (until_true 1).instructions (tt, (tt, (tt, (tt, (tt, tt)))));
+    counters = all_of (NamesCounter 5) (until_true 1).instructions (tt, (tt, (tt, (tt, (tt, tt)))));
+    starts = All-cons (λ k. k < 5) 0 [] (omega arith) (All-nil (λ k. k < 5));
+  };
+  shape = record { leads = λ address within. leads_back address; stops = refl; finds = record { last = empty; along = refl } };
+}
+
+-- and one to what is no `tick` isn't
+no_way_back : IsVerified (until_true 2) → ⊥
+no_way_back verified = elim (verified.shape.leads 3 (omega arith)) [ inl on ↦ absurd (let later = on.0 in omega arith) | inr back ↦ back.1 ]
 
 -- ---- ACCEPT
 

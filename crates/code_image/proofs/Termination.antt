@@ -1,6 +1,6 @@
--- Verified code comes to an end, whatever the budget: each instruction finds what it needs, each way back goes to a `tick`, and
--- between two ticks the addresses grow, since each way on goes to a later one.
-use Rattle.std.proofs.Common.{◌≡◌, ℕ, zero, suc, ◌+◌, ◌<◌, ◌≤◌, length, get_or, Bool, true, false, Option, Some, refl, ◌∙◌, ap, subst, arith}
+-- Verified code comes to an end, whatever the budget: each instruction finds what it needs, each way back, of a turn, a branch
+-- or a jump, goes to a `tick`, and between two ticks the addresses grow, since each way on goes to a later one.
+use Rattle.std.proofs.Common.{◌≡◌, ℕ, zero, suc, ◌+◌, ◌<◌, ◌≤◌, length, get_or, Bool, true, false, Option, Some, refl, ◌∙◌, ap, subst, inl, inr, arith}
 use Rattle.std.specs.Prelude.{slice_get, slice_index, slice_set}
 use Rattle.std.proofs.lemmas.Option.{slice_get-get_or, same_Some}
 use Rattle.source_tree.specs.State.{Stopped, Budget, Faulted}
@@ -21,7 +21,7 @@ use Rattle.code_image.specs.declared.instruction.Instruction.TheVariants.{Tick, 
 use Rattle.code_image.specs.Demands.{IsVerified}
 use Rattle.code_image.specs.Points.{Point, scratch_of, first_point}
 use Rattle.code_image.specs.Table.{onward, over, tick_from, shown_point, worked_point, data_from, turn_from, branch_from, line_taken, act, exec_code, Runs}
-use Rattle.code_image.proofs.WellFormed.{IsWellFormed, TickAt, LeadsWithin, well_formed, begins}
+use Rattle.code_image.proofs.WellFormed.{IsWellFormed, TickAt, LeadsWithin, GoesWithin, well_formed, begins}
 use Rattle.code_image.proofs.Standing.{Known, known_next, known_at_tick, known_behind_join, Stands, StandsAtRest, stands_first, rests_at_tick, rests_at_turn, rests_at_branch, rests_at_jump, rests_at_join, stands_elsewhere, stands_after_turn, stands_after_count}
 
 module _ (code : Code) (verified : IsVerified code) where
@@ -82,12 +82,17 @@ module _ (code : Code) (verified : IsVerified code) where
   leads_ends : (p : Point) → Stands code p → StandsAtRest code p → (to : ℕ) → LeadsWithin code p.address to → Onward p → Ends (record p { address = to })
   leads_ends p stands rest to leads onward_ends = goes_ends p stands rest to (known_behind_join code verified to leads.before) leads.later leads.within onward_ends
 
+  -- on behind a `join`, or back at a `tick`
+  way_ends : (p : Point) → Stands code p → StandsAtRest code p → (to : ℕ) → GoesWithin code p.address to → Onward p → Sooner p.state.budget → Ends (record p { address = to })
+  way_ends p stands rest to (inl on) onward_ends sooner = leads_ends p stands rest to on onward_ends
+  way_ends p stands rest to (inr back) onward_ends sooner = again_ends (record p { address = to }) back.tick (record { fits = rest.fits }) back.within sooner
+
   branch_ends : (truth : Bool) (to : ℕ) (p : Point) → slice_get code.instructions p.address ≡ Some (Branch to) → Stands code p → IsWellFormed code p.address (Branch to) → Onward p
-      → (m : ℕ) × (run : Run) × (branch_from truth to (exec_code code m) p ≡ Some run)
-  branch_ends true to p here stands is onward_ends =
+      → Sooner p.state.budget → (m : ℕ) × (run : Run) × (branch_from truth to (exec_code code m) p ≡ Some run)
+  branch_ends true to p here stands is onward_ends sooner =
       let rest = rests_at_branch code verified p stands to here in
       goes_ends p stands rest.0 (p.address + 1) rest.1 (omega arith) is.0 onward_ends
-  branch_ends false to p here stands is onward_ends = leads_ends p stands (rests_at_branch code verified p stands to here).0 to is.1 onward_ends
+  branch_ends false to p here stands is onward_ends sooner = way_ends p stands (rests_at_branch code verified p stands to here).0 to is.1 onward_ends sooner
 
   act_ends : (i : Instruction) (p : Point) → slice_get code.instructions p.address ≡ Some i → Stands code p → IsWellFormed code p.address i → Onward p → Sooner p.state.budget → Acts (Some i) p
   act_ends (Tick line) p here stands is onward_ends sooner =
@@ -115,8 +120,8 @@ module _ (code : Code) (verified : IsVerified code) where
       let next = known_next code p.address stands.shape Date stands.known here in
       data_ends (dated code.tables p.state.day (scratch_of p.state p.own)) next.0 p
       (safe_date code.tables p.state.day (scratch_of p.state p.own) stands.shape next.0 stands.fits next.1) next.2 is onward_ends
-  act_ends (Branch to) p here stands is onward_ends sooner = branch_ends p.own.truth to p here stands is onward_ends
-  act_ends (Jump to) p here stands is onward_ends sooner = leads_ends p stands (rests_at_jump code verified p stands to here).0 to is onward_ends
+  act_ends (Branch to) p here stands is onward_ends sooner = branch_ends p.own.truth to p here stands is onward_ends sooner
+  act_ends (Jump to) p here stands is onward_ends sooner = way_ends p stands (rests_at_jump code verified p stands to here).0 to is onward_ends sooner
   act_ends Join p here stands is onward_ends sooner =
       let rest = rests_at_join code verified p stands here in
       goes_ends p stands rest.0 (p.address + 1) rest.1 (omega arith) is onward_ends

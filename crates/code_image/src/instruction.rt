@@ -33,9 +33,9 @@ pub enum Instruction {
     Accept,
     /// Takes a place, and moves the day there.
     Date,
-    /// Where the truth is false, goes to the address behind a `join` that comes later; else goes on.
+    /// Where the truth is false, goes to the address behind a `join` that comes later, or back to a `tick`; else goes on.
     Branch { to: usize },
-    /// Goes to the address behind a `join` that comes later.
+    /// Goes to the address behind a `join` that comes later, or back to a `tick`.
     Jump { to: usize },
     /// Does nothing: ways meet behind it.
     Join,

@@ -2,7 +2,7 @@
 
 ghost use Rattle.std.specs.Prelude.{◌≡◌, ◌-◌, ◌↔◌, IsTrue, All, length, slice_get, Some, IfOk, IfErr};
 ghost use Rattle.code_image.specs.declared.instruction.Instruction.TheVariants.{Stop};
-ghost use Rattle.code_image.specs.Demands.{IsVerified, IsWithin, HasShape, Blames, NamesData, NamesCounter, IsAddress, IsTick, IsJoin, LeadsOn, Leads, AllLead};
+ghost use Rattle.code_image.specs.Demands.{IsVerified, IsWithin, HasShape, Blames, NamesData, NamesCounter, IsAddress, IsTick, IsJoin, LeadsOn, LeadsBack, Leads, AllLead};
 ghost use Rattle.image_tables.specs.Faults.{fault_of};
 
 use crate::code::Code;
@@ -91,14 +91,21 @@ fn leads_on(instructions: &[Instruction], address: usize, to: usize) -> bool
     address < to && is_join(instructions, to - 1)
 }
 
+/// A way back leads to a tick that comes before.
+fn leads_back(instructions: &[Instruction], address: usize, to: usize) -> bool
+    ensures { IsTrue result ↔ LeadsBack instructions.now address to }
+{
+    to < address && is_tick(instructions, to)
+}
+
 /// What stands at an address leads where it may.
 fn leads(instructions: &[Instruction], address: usize) -> bool
     ensures { IsTrue result ↔ Leads instructions.now address (slice_get instructions.now address) }
 {
     match instructions.get(address) {
-        Some(Instruction::Turn { to, .. }) => *to < address && is_tick(instructions, *to),
+        Some(Instruction::Turn { to, .. }) => leads_back(instructions, address, *to),
         Some(Instruction::Branch { to } | Instruction::Jump { to }) => {
-            leads_on(instructions, address, *to)
+            leads_on(instructions, address, *to) || leads_back(instructions, address, *to)
         }
         _ => true,
     }

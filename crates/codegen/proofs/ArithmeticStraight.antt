@@ -26,7 +26,7 @@ use Rattle.codegen.proofs.ExpressionLayers.{mapped_piece}
 use Rattle.codegen.proofs.Straight.{AlwaysStraight, both_straight, in_order_straight, nothing_straight, works_straight, work_straight, number_straight, taking_straight}
 
 module _ (items : List Placed) where
-  value_straight : (one : Operand) → AlwaysStraight (value_piece items one)
+  pub value_straight : (one : Operand) → AlwaysStraight (value_piece items one)
   value_straight (operand.Item one) = taking_straight items i.Push one
   value_straight (operand.Literal one) = number_straight (or_zero (number_of_literal one.value))
 

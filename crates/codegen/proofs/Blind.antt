@@ -124,7 +124,7 @@ module _ (items : List Placed) where
       both_blind (work_piece (i.Place (item_index items name))) (both (work_piece i.Push) (adjustment_piece adjusting)) (work_blind (i.Place (item_index items name)))
       (both_blind (work_piece i.Push) (adjustment_piece adjusting) (work_blind i.Push) (adjustment_blind adjusting))
 
-  subscripts_blind : (dimensions : List Dimension) (all : List written.Subscript) → Blind (subscripts_piece items dimensions all)
+  pub subscripts_blind : (dimensions : List Dimension) (all : List written.Subscript) → Blind (subscripts_piece items dimensions all)
   subscripts_blind [] all = constant_blind nothing
   subscripts_blind (one ∷ more) [] = constant_blind nothing
   subscripts_blind (one ∷ more) (written ∷ others) =
@@ -140,7 +140,7 @@ module _ (items : List Placed) where
   pub taking_blind : (taking : DataInstruction) (one : Reference) → Blind (taking_piece items taking one)
   taking_blind taking one = both_blind (reference_piece items one) (work_piece taking) (reference_blind one) (work_blind taking)
 
-  sender_blind : (one : Operand) → Blind (sender_piece items one)
+  pub sender_blind : (one : Operand) → Blind (sender_piece items one)
   sender_blind (operand.Item one) = taking_blind i.Take one
   sender_blind (operand.Literal one) = literal_blind one.value
 

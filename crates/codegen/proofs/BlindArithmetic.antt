@@ -31,7 +31,7 @@ division_blind Into inner f =
     (both_blind inner (works_piece (discard ∷ [])) f (works_blind (discard ∷ [])))
 
 module _ (items : List Placed) where
-  value_blind : (one : Operand) → Blind (value_piece items one)
+  pub value_blind : (one : Operand) → Blind (value_piece items one)
   value_blind (operand.Item one) = taking_blind items i.Push one
   value_blind (operand.Literal one) = number_blind (or_zero (number_of_literal one.value))
 
@@ -66,7 +66,7 @@ module _ (items : List Placed) where
   unfolding expression_piece
   rolled_blind l = rw (fold-roll-Expression Piece (expression_layer_piece items) (map-Expression Seen Expression (λ m. m.0) l)) (layer_blind l)
 
-  expression_blind : (one : Expression) → Blind (expression_piece items one)
+  pub expression_blind : (one : Expression) → Blind (expression_piece items one)
   expression_blind = ind-Expression (λ one. Blind (expression_piece items one)) (λ one l is. subst (λ k. Blind (expression_piece items (roll-Expression k))) is (rolled_blind l))
 
   -- ---- operations

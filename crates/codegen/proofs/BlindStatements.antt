@@ -1,11 +1,13 @@
 -- The code of a statement doesn't depend on the instructions before it, but on how many there are.
 use Rattle.std.proofs.Common.{ℕ, zero, suc, List, [], ◌∷◌, length, Option, Some, None, ap, ◌∙◌, subst}
+use Rattle.source_tree.specs.declared.branching.Branching.{Branching}
+use Rattle.source_tree.specs.declared.branching.Branching.TheVariants.{If}
 use Rattle.source_tree.specs.declared.ending.Ending.{Ending}
 use Rattle.source_tree.specs.declared.ending.Ending.TheVariants as ending
 use Rattle.source_tree.specs.declared.performing.Performed.{Performed}
 use Rattle.source_tree.specs.declared.performing.Performed.TheVariants.{Statements}
 use Rattle.source_tree.specs.declared.performing.Turns.{Turns}
-use Rattle.source_tree.specs.declared.performing.Turns.TheVariants.{Once, Times}
+use Rattle.source_tree.specs.declared.performing.Turns.TheVariants.{Once, Times, Until}
 use Rattle.source_tree.specs.declared.statement.Verb.{Verb}
 use Rattle.source_tree.specs.declared.statement.Verb.TheVariants as verb
 use Rattle.source_tree.specs.declared.statement.Statement.{Statement, roll-Statement}
@@ -16,16 +18,18 @@ use Rattle.source_tree.specs.Performing.{turns_of}
 use Rattle.source_tree.specs.Places.{Placed}
 use Rattle.code_image.specs.declared.code.Code.{Code}
 use Rattle.code_image.specs.declared.instruction.Instruction.TheVariants.{Tick, Stop, Count}
-use Rattle.codegen.specs.Pieces.{Piece, nothing, joined, both, plain}
+use Rattle.codegen.specs.Pieces.{Piece, nothing, joined, both, in_order, plain}
 use Rattle.codegen.specs.ArithmeticCode.{arithmetic_piece}
-use Rattle.codegen.specs.Layout.{tick_piece, ending_piece, loop_begin, loop_end, times_piece, turns_piece, moving_piece, texts_piece, performed_piece, phrase_piece, phrases_from, verb_piece, statement_piece}
+use Rattle.codegen.specs.Meeting.{either_piece}
+use Rattle.codegen.specs.ConditionCode.{condition_piece}
+use Rattle.codegen.specs.UntilCode.{tick_piece}
+use Rattle.codegen.specs.Layout.{ending_piece, loop_begin, loop_end, times_piece, turns_piece, moving_piece, texts_piece, performed_piece, phrase_piece, phrases_from, branching_piece, verb_piece, statement_piece}
 use Rattle.codegen.proofs.Blind.{alike_joined, Blind, blind_as, constant_blind, count_blind, both_blind, in_order_blind, moving_blind, texts_blind}
 use Rattle.codegen.proofs.BlindArithmetic.{arithmetic_blind}
+use Rattle.codegen.proofs.ConditionBlind.{condition_blind}
 use Rattle.codegen.proofs.Either.{either_blind}
 use Rattle.codegen.proofs.Layers.{verb_map, rolled_is}
-
-tick_blind : (line : ℕ) → Blind (tick_piece line)
-tick_blind line = constant_blind (plain (Tick line ∷ []))
+use Rattle.codegen.proofs.UntilBlind.{tick_blind, until_blind}
 
 ending_blind : (line : ℕ) (one : Ending) → Blind (ending_piece line one)
 ending_blind line ending.StopRun = constant_blind (plain (Tick line ∷ Stop ∷ []))
@@ -47,15 +51,16 @@ times_blind line (suc more) body f = record {
       ∙ ap (λ (n : ℕ). joined (loop_begin line more b) (joined (body (joined b (loop_begin line more b))) (loop_end n))) alike.count;
 }
 
-turns_blind : (line : ℕ) (often : Turns) (body : Piece) → Blind body → Blind (turns_piece line often body)
-turns_blind line Once body f = f
-turns_blind line (Times count) body f = times_blind line (turns_of count) body f
-
 -- ---- statements that hold statements
 
 module _ (items : List Placed) where
+  turns_blind : (line : ℕ) (often : Turns) (body : Piece) → Blind body → Blind (turns_piece items line often body)
+  turns_blind line Once body f = f
+  turns_blind line (Times count) body f = times_blind line (turns_of count) body f
+  turns_blind line (Until one) body f = until_blind items line one body f
+
   module _ {S : Type 0} (inside : S → Piece) (each_one : (one : S) → Blind (inside one)) where
-    performed_blind : (one : Performed S) → Blind (performed_piece items inside one)
+    pub performed_blind : (one : Performed S) → Blind (performed_piece items inside one)
     performed_blind (Statements statements) = in_order_blind inside each_one statements
 
     pub phrase_blind : (phrase : Option (List S)) → Blind (phrase_piece items inside phrase)
@@ -69,6 +74,14 @@ module _ (items : List Placed) where
     phrases_blind None (Some statements) =
         either_blind (phrase_piece items inside None) (phrase_piece items inside (Some statements)) (phrase_blind None) (phrase_blind (Some statements))
 
+    branching_blind : (line : ℕ) (one : Branching S) → Blind (branching_piece items inside line one)
+    branching_blind line (If condition statements otherwise) =
+        let test = condition_piece items condition in
+        let ways = either_piece (in_order inside statements) (phrase_piece items inside otherwise) in
+        both_blind (tick_piece line) (both test ways) (tick_blind line)
+        (both_blind test ways (condition_blind items condition)
+        (either_blind (in_order inside statements) (phrase_piece items inside otherwise) (in_order_blind inside each_one statements) (phrase_blind otherwise)))
+
     verb_blind : (line : ℕ) (one : Verb S) → Blind (verb_piece items inside line one)
     verb_blind line (verb.Moving one) = both_blind (tick_piece line) (moving_piece items one) (tick_blind line) (moving_blind items one)
     verb_blind line (verb.Arithmetic one) =
@@ -76,8 +89,9 @@ module _ (items : List Placed) where
         let phrases = phrases_from items inside one.phrases.arose one.phrases.did_not in
         both_blind (tick_piece line) (both part phrases) (tick_blind line)
         (both_blind part phrases (arithmetic_blind items (is_there one.phrases.arose) one.operation) (phrases_blind one.phrases.arose one.phrases.did_not))
+    verb_blind line (verb.Branching one) = branching_blind line one
     verb_blind line (verb.Performing one) =
-        both_blind (tick_piece line) (turns_piece line one.turns (performed_piece items inside one.performed)) (tick_blind line)
+        both_blind (tick_piece line) (turns_piece items line one.turns (performed_piece items inside one.performed)) (tick_blind line)
         (turns_blind line one.turns (performed_piece items inside one.performed) (performed_blind one.performed))
     verb_blind line (verb.Text one) = both_blind (tick_piece line) (texts_piece items one) (tick_blind line) (texts_blind items one)
     verb_blind line (verb.Ending one) = ending_blind line one

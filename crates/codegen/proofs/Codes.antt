@@ -135,7 +135,7 @@ module _ (items : List Placed) (whole : Code) (entries : (n : ℕ) (one : Placed
       }
 
   -- as many as there are dimensions
-  subscripts_coded : (dimensions : List Dimension) (all : List written.Subscript) (before : Code) → length all ≡ length dimensions → each (subscript_rules items) all ≡ []
+  pub subscripts_coded : (dimensions : List Dimension) (all : List written.Subscript) (before : Code) → length all ≡ length dimensions → each (subscript_rules items) all ≡ []
       → Stands whole before (subscripts_piece items dimensions all before) → Coded (AreSubscriptsCode items whole.tables dimensions all) (subscripts_piece items dimensions all before)
   subscripts_coded [] [] before count e st = record { code = []; is = refl; holds = refl }
   subscripts_coded [] (one ∷ more) before count e st = absurd (omega arith)
@@ -228,7 +228,7 @@ module _ (items : List Placed) (whole : Code) (entries : (n : ℕ) (one : Placed
 
   -- ---- MOVE
 
-  sender_coded : (one : Operand) (before : Code) → operand_rules items one ≡ [] → Stands whole before (sender_piece items one before) → Coded (IsSenderCode items whole.tables one) (sender_piece items one before)
+  pub sender_coded : (one : Operand) (before : Code) → operand_rules items one ≡ [] → Stands whole before (sender_piece items one before) → Coded (IsSenderCode items whole.tables one) (sender_piece items one before)
   sender_coded (operand.Item one) before e st = taking_coded i.Take any_item one before e st
   sender_coded (operand.Literal one) before e st = record {
     code = i.TakeLiteral (record { number = length before.tables.senders }) ∷ [];

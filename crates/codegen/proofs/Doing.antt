@@ -12,7 +12,8 @@ use Rattle.code_image.specs.declared.instruction.Instruction.TheVariants.{Tick, 
 use Rattle.code_image.specs.Points.{Own}
 use Rattle.code_image.specs.Table.{onward, over, tick_from, turn_from, branch_from, exec_code}
 use Rattle.codegen.specs.Pieces.{Piece, nothing, joined, in_order}
-use Rattle.codegen.specs.Layout.{stop_run_piece, tick_piece, ending_piece}
+use Rattle.codegen.specs.Layout.{stop_run_piece, ending_piece}
+use Rattle.codegen.specs.UntilCode.{tick_piece}
 use Rattle.codegen.proofs.Pieces.{joined_assoc, joined_nothing}
 use Rattle.codegen.proofs.Standing.{Stands, front, back, first_stands, second_stands}
 use Rattle.codegen.proofs.Running.{at, one_step}
@@ -35,7 +36,7 @@ keeps_all from to cs = record { count = refl; by = λ k outside. refl; line = λ
 abbrev pub setting : Own → ℕ → ℕ → Own
 setting cs counter n = record cs { counters = slice_set cs.counters counter n }
 
-keeps_then : (from to : ℕ) (cs ds es : Own) → Keeps from to cs ds → Keeps from to ds es → Keeps from to cs es
+pub keeps_then : (from to : ℕ) (cs ds es : Own) → Keeps from to cs ds → Keeps from to ds es → Keeps from to cs es
 keeps_then from to cs ds es a b = record { count = b.count ∙ a.count; by = λ k outside. b.by k outside ∙ a.by k outside; line = λ e. b.line (a.line e) }
 
 pub keeps_more : (low high from to : ℕ) (cs ds : Own) → from ≤ low → high ≤ to → Keeps low high cs ds → Keeps from to cs ds

@@ -3,7 +3,7 @@ use Rattle.std.proofs.Common.{◌≡◌, ℕ, ◌+◌, length, refl, sym, ap, �
 use Rattle.code_image.specs.declared.code.Code.{Code}
 use Rattle.data_instructions.specs.declared.tables.DataTables.{DataTables}
 use Rattle.codegen.specs.Pieces.{Piece, no_tables, joined_tables, joined, both}
-use Rattle.codegen.specs.Layout.{branch_code, jump_code, join_code, either_piece}
+use Rattle.codegen.specs.Meeting.{branch_code, jump_code, join_code, either_piece}
 use Rattle.codegen.proofs.Pieces.{tables_nothing}
 use Rattle.codegen.proofs.Blind.{Alike, alike_joined, Blind}
 

@@ -1,5 +1,5 @@
 -- The code of a program finds what it needs, where the rules are kept: each statement begins and ends at rest.
-use Rattle.std.proofs.Common.{◌≡◌, ℕ, zero, suc, List, [], ◌∷◌, ◌++◌, length, map, Option, Some, None, Bool, refl, sym, ap, subst, ◌∙◌}
+use Rattle.std.proofs.Common.{◌≡◌, ℕ, zero, suc, List, [], ◌∷◌, ◌++◌, length, map, Option, Some, None, Bool, false, refl, sym, ap, subst, ◌∙◌}
 use Rattle.std.specs.Prelude.{slice_get}
 use Rattle.items.specs.declared.taken.Taken.{Taken}
 use Rattle.source_tree.specs.declared.moving.Moving.{Moving}
@@ -7,11 +7,18 @@ use Rattle.source_tree.specs.declared.moving.Moving.TheVariants.{Move}
 use Rattle.source_tree.specs.declared.text.Text.{Text}
 use Rattle.source_tree.specs.declared.text.Text.TheVariants.{Display, Accept, AcceptDate}
 use Rattle.source_tree.specs.declared.arithmetic.Operation.{Operation}
+use Rattle.source_tree.specs.declared.branching.Branching.{Branching}
+use Rattle.source_tree.specs.declared.branching.Branching.TheVariants.{If}
+use Rattle.source_tree.specs.declared.condition.Condition.{Condition}
 use Rattle.source_tree.specs.declared.ending.Ending.TheVariants as ending
 use Rattle.source_tree.specs.declared.performing.Performed.{Performed}
 use Rattle.source_tree.specs.declared.performing.Performed.TheVariants.{Statements}
 use Rattle.source_tree.specs.declared.performing.Turns.{Turns}
-use Rattle.source_tree.specs.declared.performing.Turns.TheVariants.{Once, Times}
+use Rattle.source_tree.specs.declared.performing.Turns.TheVariants.{Once, Times, Until}
+use Rattle.source_tree.specs.declared.until.TestTime.{TestTime}
+use Rattle.source_tree.specs.declared.until.TestTime.TheVariants.{Before, After}
+use Rattle.source_tree.specs.declared.until.Until as until
+use Rattle.source_tree.specs.declared.until.Varying.{Varying}
 use Rattle.source_tree.specs.declared.statement.Verb.{Verb}
 use Rattle.source_tree.specs.declared.statement.Verb.TheVariants as verb
 use Rattle.source_tree.specs.declared.statement.Statement.{Statement, roll-Statement}
@@ -20,19 +27,21 @@ use Rattle.source_tree.specs.declared.statement.Statement.TheFolds.{map-Statemen
 use Rattle.source_tree.specs.declared.program.Section.{Section}
 use Rattle.source_tree.specs.Accepting.{date_sender}
 use Rattle.source_tree.specs.Arithmetic.{is_there}
-use Rattle.source_tree.specs.ArithmeticRules.{operation_rules}
+use Rattle.source_tree.specs.ArithmeticRules.{number_rules, operation_rules}
 use Rattle.source_tree.specs.Broken.{Broken, each}
-use Rattle.source_tree.specs.MoveRules.{sent_by, receives}
+use Rattle.source_tree.specs.ConditionRules.{condition_rules, varying_rules, until_rules}
+use Rattle.source_tree.specs.MoveRules.{sent_by, receives, move_rules}
 use Rattle.source_tree.specs.NameRules.{item_rules, any_item, operand_rules}
 use Rattle.source_tree.specs.Performing.{turns_of}
 use Rattle.source_tree.specs.Places.{Placed}
-use Rattle.source_tree.specs.Rules.{moving_rules, text_rules, phrase_rules, phrases_rules, performed_rules, verb_rules, statement_rules, sentence_rules, paragraph_rules, section_rules}
+use Rattle.source_tree.specs.Until.{vary_operation}
+use Rattle.source_tree.specs.Rules.{moving_rules, text_rules, phrase_rules, phrases_rules, performed_rules, turns_rules, branching_rules, verb_rules, statement_rules, sentence_rules, paragraph_rules, section_rules}
 use Rattle.data_instructions.specs.declared.tables.DataTables.{DataTables}
-use Rattle.data_instructions.specs.declared.shape.Shape.{Shape}
 use Rattle.data_instructions.specs.declared.instruction.DataInstruction.{DataInstruction}
+use Rattle.data_instructions.specs.declared.instruction.DataInstruction.TheVariants as i
 use Rattle.data_instructions.specs.Tables.{IsTables}
 use Rattle.data_instructions.specs.Codes.{data_item}
-use Rattle.data_instructions.specs.Shapes.{empty, and_then, effect}
+use Rattle.data_instructions.specs.Shapes.{and_then}
 use Rattle.data_instructions.specs.Chains.{effects, LiesWhole}
 use Rattle.data_instructions.proofs.Chains.{move_known, display_known, accept_known, date_known}
 use Rattle.data_instructions.proofs.ArithmeticChains.{arithmetic_known}
@@ -40,64 +49,27 @@ use Rattle.code_image.specs.declared.code.Code.{Code}
 use Rattle.code_image.specs.declared.instruction.Instruction.{Instruction}
 use Rattle.code_image.specs.declared.instruction.Instruction.TheVariants as instruction
 use Rattle.code_image.specs.Known.{known_after, known_along}
-use Rattle.codegen.specs.Pieces.{Piece, nothing, joined, both, in_order, plain}
-use Rattle.codegen.specs.DataCode.{reference_piece, operands_piece, line_end_piece, show_piece}
+use Rattle.codegen.specs.Pieces.{Piece, joined, both, in_order, plain}
+use Rattle.codegen.specs.Meeting.{branch_code, either_piece, nothing_piece}
+use Rattle.codegen.specs.DataCode.{work_piece, reference_piece, operands_piece, line_end_piece, show_piece}
 use Rattle.codegen.specs.ArithmeticCode.{arithmetic_piece}
-use Rattle.codegen.specs.Layout.{tick_piece, loop_begin, loop_end, times_piece, turns_piece, moving_piece, texts_piece, branch_code, jump_code, join_code, either_piece, performed_piece, phrase_piece, phrases_from, phrases_piece, verb_piece, statement_piece, sentence_piece, start_piece, paragraph_piece, section_piece}
+use Rattle.codegen.specs.ConditionCode.{condition_piece}
+use Rattle.codegen.specs.UntilCode.{tick_piece, turning_piece, until_before_piece, until_after_piece, until_from_piece, vary_begin_piece, vary_on_piece, until_piece}
+use Rattle.codegen.specs.Layout.{loop_begin, loop_end, times_piece, turns_piece, moving_piece, texts_piece, performed_piece, phrase_piece, phrases_from, phrases_piece, branching_piece, verb_piece, statement_piece, sentence_piece, start_piece, paragraph_piece, section_piece}
 use Rattle.codegen.proofs.Codes.{left_none, right_none, move_coded, display_coded, accept_coded, date_coded}
 use Rattle.codegen.proofs.ArithmeticCodes.{arithmetic_coded}
 use Rattle.codegen.proofs.Lying.{lies_all, shows_all, sends, receives_one, receive_each, lies_operation}
 use Rattle.codegen.proofs.Layers.{verb_map, rolled_is}
 use Rattle.codegen.proofs.RuleLayers.{mapped_rules}
 use Rattle.codegen.proofs.Standing.{Stands, front, back}
-use Rattle.codegen.proofs.Blind.{Blind}
-use Rattle.codegen.proofs.BlindStatements.{phrase_blind, statement_blind}
-use Rattle.codegen.proofs.Either.{either_laid}
-
--- nothing on the stacks and in the line; this was taken
-abbrev pub rest : Option Taken → Shape
-rest sender = record empty { sender = sender }
-
-along_twice : (o : Option Shape) (both_of one other : Shape → Option Shape) → ((s : Shape) → both_of s ≡ and_then (one s) other) → and_then o both_of ≡ and_then (and_then o one) other
-along_twice None both_of one other same = refl
-along_twice (Some s) both_of one other same = same s
-
-pub along_append : (tables : DataTables) (a b : List Instruction) (s : Shape) → known_along tables (a ++ b) s ≡ and_then (known_along tables a s) (known_along tables b)
-along_append tables [] b s = refl
-along_append tables (one ∷ a) b s = along_twice (known_after tables one s) (known_along tables (a ++ b)) (known_along tables a) (known_along tables b) (λ u. along_append tables a b u)
-
-bind_same : (o : Option Shape) (f g : Shape → Option Shape) → ((u : Shape) → f u ≡ g u) → and_then o f ≡ and_then o g
-bind_same None f g same = refl
-bind_same (Some u) f g same = same u
-
-along_data : (tables : DataTables) (code : List DataInstruction) (s : Shape) → known_along tables (map instruction.Data code) s ≡ effects tables code s
-along_data tables [] s = refl
-along_data tables (one ∷ more) s = bind_same (effect tables one s) (known_along tables (map instruction.Data more)) (effects tables more) (λ u. along_data tables more u)
-
-and_some : (o : Option Shape) → and_then o (λ s. Some s) ≡ o
-and_some None = refl
-and_some (Some s) = refl
-
-only_one : (tables : DataTables) (one : Instruction) (o : Option Shape) → and_then o (known_along tables (one ∷ [])) ≡ and_then o (known_after tables one)
-only_one tables one None = refl
-only_one tables one (Some s) = and_some (known_after tables one s)
-
--- From rest to rest, whatever was taken before.
-pub record Flows (tables : DataTables) (part : Code) : Type 0 where
-  pub by : (sender : Option Taken) → (after : Option Taken) × (known_along tables part.instructions (rest sender) ≡ Some (rest after))
+use Rattle.codegen.proofs.Blind.{Blind, in_order_blind}
+use Rattle.codegen.proofs.Flowing.{rest, along_append, along_data, only_one, Flows, both_flow, nothing_flows, branch_flows, AllFlow, in_order_flows, BodyFlows, either_flows}
+use Rattle.codegen.proofs.ConditionBlind.{nothing_blind, condition_blind}
+use Rattle.codegen.proofs.ConditionFlows.{condition_flows}
+use Rattle.codegen.proofs.UntilBlind.{turn_before_blind, onward_blind, vary_on_blind}
+use Rattle.codegen.proofs.BlindStatements.{performed_blind, phrase_blind, statement_blind}
 
 module _ (tables : DataTables) where
-  pub both_flow : (a b : Code) → Flows tables a → Flows tables b → Flows tables (joined a b)
-  both_flow a b f g = record {
-    by = λ sender.
-        let one = f.by sender in
-        let two = g.by one.0 in
-        (two.0, along_append tables a.instructions b.instructions (rest sender) ∙ ap (λ o. and_then o (known_along tables b.instructions)) one.1 ∙ two.1);
-  }
-
-  pub nothing_flows : Flows tables nothing
-  nothing_flows = record { by = λ sender. (sender, refl) }
-
   pub start_flows : (before : Code) → Flows tables (start_piece before)
   start_flows before = record { by = λ sender. (sender, refl) }
 
@@ -109,15 +81,6 @@ module _ (tables : DataTables) where
 
   end_flows : (begin : ℕ) → Flows tables (loop_end begin)
   end_flows begin = record { by = λ sender. (None, refl) }
-
-  branch_flows : (to : ℕ) → Flows tables (branch_code to)
-  branch_flows to = record { by = λ sender. (None, refl) }
-
-  jump_flows : (to : ℕ) → Flows tables (jump_code to)
-  jump_flows to = record { by = λ sender. (None, refl) }
-
-  join_flows : Flows tables join_code
-  join_flows = record { by = λ sender. (None, refl) }
 
 module _ (items : List Placed) (whole : Code) (entries : (n : ℕ) (one : Placed) → slice_get items n ≡ Some one → slice_get whole.tables.items n ≡ Some (data_item one))
     (order : IsTables whole.tables) (lie : (n : ℕ) (one : Placed) → slice_get items n ≡ Some one → LiesWhole whole.tables one) where
@@ -180,46 +143,25 @@ module _ (items : List Placed) (whole : Code) (entries : (n : ℕ) (one : Placed
       let known = arithmetic_known items whole.tables keep one coded.code coded.holds (lies_operation items whole entries lie one e) in
       record { by = λ sender. (sender, ap (λ l. known_along whole.tables l (rest sender)) coded.is ∙ along_data whole.tables coded.code (rest sender) ∙ known (rest sender)) }
 
-  -- ---- statements
+  -- ---- pieces
 
-  -- what is known of parts that keep these rules
-  record AllFlow {A : Type 0} (rules : A → List Broken) (piece : A → Piece) : Type 0 where
-    by : (one : A) (before : Code) → rules one ≡ [] → Stands whole before (piece one before) → Flows whole.tables (piece one before)
+  both_flows : (first second : Piece) → BodyFlows whole first → BodyFlows whole second → BodyFlows whole (both first second)
+  both_flows first second f g = record {
+    by = λ before st.
+        let a = first before in
+        let b = second (joined before a) in
+        both_flow whole.tables a b (f.by before (front whole before a b st)) (g.by (joined before a) (back whole before a b st));
+  }
 
-  in_order_flows : {A : Type 0} (rules : A → List Broken) (piece : A → Piece) → AllFlow rules piece → (all : List A) (before : Code) → each rules all ≡ []
-      → Stands whole before (in_order piece all before) → Flows whole.tables (in_order piece all before)
-  in_order_flows rules piece f [] before e st = nothing_flows whole.tables
-  in_order_flows rules piece f (one ∷ more) before e st =
-      let a = piece one before in
-      let b = in_order piece more (joined before a) in
-      both_flow whole.tables a b (f.by one before (left_none (rules one) (each rules more) e) (front whole before a b st))
-      (in_order_flows rules piece f more (joined before a) (right_none (rules one) (each rules more) e) (back whole before a b st))
+  nothing_flows_always : BodyFlows whole nothing_piece
+  nothing_flows_always = record { by = λ before st. nothing_flows whole.tables }
 
-  -- a body, wherever it stands
-  record BodyFlows (piece : Piece) : Type 0 where
-    by : (before : Code) → Stands whole before (piece before) → Flows whole.tables (piece before)
+  ways_flow : (first second : Piece) → Blind first → Blind second → BodyFlows whole first → BodyFlows whole second → BodyFlows whole (either_piece first second)
+  ways_flow first second f g one two = record { by = λ before st. either_flows whole first second f g one two before st }
 
-  either_flows : (first second : Piece) → Blind first → Blind second → BodyFlows first → BodyFlows second → (before : Code)
-      → Stands whole before (either_piece first second before) → Flows whole.tables (either_piece first second before)
-  either_flows first second f g one two before st =
-      let l = either_laid first second f g before in
-      let branch = branch_code l.other in
-      let inner = joined before branch in
-      let x = first inner in
-      let jump = jump_code l.end in
-      let outer = joined (joined inner x) jump in
-      let y = second outer in
-      let r3 = joined y join_code in
-      let r2 = joined jump r3 in
-      let here = back whole before branch (joined x r2) (subst (Stands whole before) l.is st) in
-      let there = back whole (joined inner x) jump r3 (back whole inner x r2 here) in
-      subst (Flows whole.tables) (sym l.is)
-      (both_flow whole.tables branch (joined x r2) (branch_flows whole.tables l.other)
-      (both_flow whole.tables x r2 (one.by inner (front whole inner x r2 here))
-      (both_flow whole.tables jump r3 (jump_flows whole.tables l.end)
-      (both_flow whole.tables y join_code (two.by outer (front whole outer y join_code there)) (join_flows whole.tables)))))
+  -- ---- turns
 
-  times_flow : (line count : ℕ) (piece : Piece) → BodyFlows piece → (before : Code) → Stands whole before (times_piece line count piece before) → Flows whole.tables (times_piece line count piece before)
+  times_flow : (line count : ℕ) (piece : Piece) → BodyFlows whole piece → (before : Code) → Stands whole before (times_piece line count piece before) → Flows whole.tables (times_piece line count piece before)
   times_flow line zero piece f before st = nothing_flows whole.tables
   times_flow line (suc more) piece f before st =
       let begin = loop_begin line more before in
@@ -228,30 +170,113 @@ module _ (items : List Placed) (whole : Code) (entries : (n : ℕ) (one : Placed
       both_flow whole.tables begin (joined inner last) (begin_flows whole.tables line more before)
       (both_flow whole.tables inner last (f.by (joined before begin) (front whole (joined before begin) inner last (back whole before begin (joined inner last) st))) (end_flows whole.tables (length before.instructions)))
 
-  turns_flow : (line : ℕ) (often : Turns) (piece : Piece) → BodyFlows piece → (before : Code) → Stands whole before (turns_piece line often piece before) → Flows whole.tables (turns_piece line often piece before)
-  turns_flow line Once piece f before st = f.by before st
-  turns_flow line (Times count) piece f before st = times_flow line (turns_of count) piece f before st
+  -- ---- turns up to where a condition is true
 
-  module _ {S : Type 0} (rules : S → List Broken) (inside : S → Piece) (f : AllFlow rules inside) (blind : (one : S) → Blind (inside one)) where
-    performed_flows : (one : Performed S) → performed_rules rules one ≡ [] → BodyFlows (performed_piece items inside one)
-    performed_flows (Statements statements) e = record { by = λ before st. in_order_flows rules inside f statements before e st }
+  clear_flows : BodyFlows whole (work_piece i.ClearTruth)
+  clear_flows = record { by = λ before st. record { by = λ sender. (sender, refl) } }
 
-    phrase_flows : (phrase : Option (List S)) → phrase_rules rules phrase ≡ [] → BodyFlows (phrase_piece items inside phrase)
+  turning_flows : (line : ℕ) (turn : Piece) → BodyFlows whole turn → BodyFlows whole (turning_piece line turn)
+  turning_flows line turn f = record {
+    by = λ before st.
+        let tick = tick_piece line before in
+        let part = turn (joined before tick) in
+        let last = branch_code (length before.instructions) in
+        let here = front whole before (joined tick part) last st in
+        both_flow whole.tables (joined tick part) last (both_flow whole.tables tick part (tick_flows whole.tables line before) (f.by (joined before tick) (back whole before tick part here)))
+        (branch_flows whole.tables (length before.instructions));
+  }
+
+  module _ (line : ℕ) (test onward body : Piece) (blind_test : Blind test) (blind_onward : Blind onward) (blind_body : Blind body)
+      (tests : BodyFlows whole test) (goes : BodyFlows whole onward) (flows : BodyFlows whole body) where
+    until_before_flows : BodyFlows whole (until_before_piece line test onward body)
+    until_before_flows =
+        let turn = both body (both onward test) in
+        both_flows test (either_piece nothing_piece (turning_piece line turn)) tests
+        (ways_flow nothing_piece (turning_piece line turn) nothing_blind (turn_before_blind line test onward body blind_test blind_onward blind_body) nothing_flows_always
+        (turning_flows line turn (both_flows body (both onward test) flows (both_flows onward test goes tests))))
+
+    until_after_flows : BodyFlows whole (until_after_piece line test onward body)
+    until_after_flows =
+        let clear = work_piece i.ClearTruth in
+        let ways = either_piece nothing_piece (both onward clear) in
+        turning_flows line (both body (both test ways))
+        (both_flows body (both test ways) flows
+        (both_flows test ways tests
+        (ways_flow nothing_piece (both onward clear) nothing_blind (onward_blind line test onward body blind_test blind_onward blind_body) nothing_flows_always
+        (both_flows onward clear goes clear_flows))))
+
+    until_from_flows : (when : TestTime) → BodyFlows whole (until_from_piece when line test onward body)
+    until_from_flows Before = until_before_flows
+    until_from_flows After = until_after_flows
+
+  tests_flow : (one : Condition) → condition_rules items one ≡ [] → BodyFlows whole (condition_piece items one)
+  tests_flow one e = record { by = λ before st. condition_flows items whole entries order lie one before e st }
+
+  vary_begin_flows : (one : Option Varying) → varying_rules items one ≡ [] → BodyFlows whole (vary_begin_piece items one)
+  vary_begin_flows None e = nothing_flows_always
+  vary_begin_flows (Some one) e =
+      let moves = move_rules items one.from (one.item ∷ []) in
+      let numbers = number_rules items one.from in
+      let moving = left_none moves numbers (left_none (moves ++ numbers) (operation_rules items (vary_operation one)) e) in
+      record { by = λ before st. moving_flows (Move one.from (one.item ∷ [])) before moving st }
+
+  vary_on_flows : (one : Option Varying) → varying_rules items one ≡ [] → BodyFlows whole (vary_on_piece items one)
+  vary_on_flows None e = nothing_flows_always
+  vary_on_flows (Some one) e =
+      let adding = right_none (move_rules items one.from (one.item ∷ []) ++ number_rules items one.from) (operation_rules items (vary_operation one)) e in
+      record { by = λ before st. arithmetic_flows false (vary_operation one) before adding st }
+
+  until_flows : (line : ℕ) (one : until.Until) (body : Piece) → Blind body → until_rules items one ≡ [] → BodyFlows whole body → BodyFlows whole (until_piece items line one body)
+  until_flows line one body blind e f =
+      let test = condition_piece items one.condition in
+      let onward = vary_on_piece items one.varying in
+      let varies = left_none (varying_rules items one.varying) (condition_rules items one.condition) e in
+      let tests = right_none (varying_rules items one.varying) (condition_rules items one.condition) e in
+      both_flows (vary_begin_piece items one.varying) (until_from_piece one.test line test onward body) (vary_begin_flows one.varying varies)
+      (until_from_flows line test onward body (condition_blind items one.condition) (vary_on_blind items one.varying) blind (tests_flow one.condition tests) (vary_on_flows one.varying varies) f one.test)
+
+  turns_flow : (line : ℕ) (often : Turns) (piece : Piece) → Blind piece → turns_rules items often ≡ [] → BodyFlows whole piece → BodyFlows whole (turns_piece items line often piece)
+  turns_flow line Once piece blind e f = f
+  turns_flow line (Times count) piece blind e f = record { by = λ before st. times_flow line (turns_of count) piece f before st }
+  turns_flow line (Until one) piece blind e f = until_flows line one piece blind e f
+
+  -- ---- statements
+
+  module _ {S : Type 0} (rules : S → List Broken) (inside : S → Piece) (f : AllFlow whole rules inside) (blind : (one : S) → Blind (inside one)) where
+    performed_flows : (one : Performed S) → performed_rules rules one ≡ [] → BodyFlows whole (performed_piece items inside one)
+    performed_flows (Statements statements) e = record { by = λ before st. in_order_flows whole rules inside f statements before e st }
+
+    phrase_flows : (phrase : Option (List S)) → phrase_rules rules phrase ≡ [] → BodyFlows whole (phrase_piece items inside phrase)
     phrase_flows None e = record { by = λ before st. nothing_flows whole.tables }
-    phrase_flows (Some statements) e = record { by = λ before st. in_order_flows rules inside f statements before e st }
+    phrase_flows (Some statements) e = record { by = λ before st. in_order_flows whole rules inside f statements before e st }
 
-    phrases_flow : (arose did_not : Option (List S)) → phrase_rules rules arose ++ phrase_rules rules did_not ≡ [] → BodyFlows (phrases_from items inside arose did_not)
+    phrases_flow : (arose did_not : Option (List S)) → phrase_rules rules arose ++ phrase_rules rules did_not ≡ [] → BodyFlows whole (phrases_from items inside arose did_not)
     phrases_flow None None e = record { by = λ before st. nothing_flows whole.tables }
     phrases_flow (Some statements) other e = record {
       by = λ before st.
-          either_flows (phrase_piece items inside (Some statements)) (phrase_piece items inside other) (phrase_blind items inside blind (Some statements)) (phrase_blind items inside blind other)
+          either_flows whole (phrase_piece items inside (Some statements)) (phrase_piece items inside other) (phrase_blind items inside blind (Some statements)) (phrase_blind items inside blind other)
           (phrase_flows (Some statements) (left_none (each rules statements) (phrase_rules rules other) e)) (phrase_flows other (right_none (each rules statements) (phrase_rules rules other) e)) before st;
     }
     phrases_flow None (Some statements) e = record {
       by = λ before st.
-          either_flows (phrase_piece items inside None) (phrase_piece items inside (Some statements)) (phrase_blind items inside blind None) (phrase_blind items inside blind (Some statements))
+          either_flows whole (phrase_piece items inside None) (phrase_piece items inside (Some statements)) (phrase_blind items inside blind None) (phrase_blind items inside blind (Some statements))
           (phrase_flows None refl) (phrase_flows (Some statements) e) before st;
     }
+
+    branching_flows : (line : ℕ) (one : Branching S) → branching_rules items rules one ≡ [] → BodyFlows whole (branching_piece items inside line one)
+    branching_flows line (If condition statements otherwise) e =
+        let test = condition_piece items condition in
+        let first = in_order inside statements in
+        let second = phrase_piece items inside otherwise in
+        let asks = condition_rules items condition in
+        let kept = left_none (asks ++ each rules statements) (phrase_rules rules otherwise) e in
+        let tests = left_none asks (each rules statements) kept in
+        let firsts = right_none asks (each rules statements) kept in
+        let others = right_none (asks ++ each rules statements) (phrase_rules rules otherwise) e in
+        both_flows (tick_piece line) (both test (either_piece first second)) (record { by = λ before st. tick_flows whole.tables line before })
+        (both_flows test (either_piece first second) (tests_flow condition tests)
+        (ways_flow first second (in_order_blind inside blind statements) (phrase_blind items inside blind otherwise)
+        (record { by = λ before st. in_order_flows whole rules inside f statements before firsts st }) (phrase_flows otherwise others)))
 
     verb_flows : (line : ℕ) (one : Verb S) (before : Code) → verb_rules items rules one ≡ [] → Stands whole before (verb_piece items inside line one before) → Flows whole.tables (verb_piece items inside line one before)
     verb_flows line (verb.Moving one) before e st =
@@ -269,11 +294,15 @@ module _ (items : List Placed) (whole : Code) (entries : (n : ℕ) (one : Placed
         both_flow whole.tables a (joined b c) (tick_flows whole.tables line before)
         (both_flow whole.tables b c (arithmetic_flows keep one.operation (joined before a) operation_keeps (front whole (joined before a) b c here))
         ((phrases_flow one.phrases.arose one.phrases.did_not phrases_keep).by (joined (joined before a) b) (back whole (joined before a) b c here)))
+    verb_flows line (verb.Branching one) before e st = (branching_flows line one e).by before st
     verb_flows line (verb.Performing one) before e st =
         let a = tick_piece line before in
-        let b = turns_piece line one.turns (performed_piece items inside one.performed) (joined before a) in
+        let body = performed_piece items inside one.performed in
+        let b = turns_piece items line one.turns body (joined before a) in
+        let often = left_none (turns_rules items one.turns) (performed_rules rules one.performed) e in
+        let performed = right_none (turns_rules items one.turns) (performed_rules rules one.performed) e in
         both_flow whole.tables a b (tick_flows whole.tables line before)
-        (turns_flow line one.turns (performed_piece items inside one.performed) (performed_flows one.performed e) (joined before a) (back whole before a b st))
+        ((turns_flow line one.turns body (performed_blind items inside blind one.performed) often (performed_flows one.performed performed)).by (joined before a) (back whole before a b st))
     verb_flows line (verb.Text one) before e st =
         let a = tick_piece line before in
         let b = texts_piece items one (joined before a) in
@@ -299,19 +328,19 @@ module _ (items : List Placed) (whole : Code) (entries : (n : ℕ) (one : Placed
   statement_flows : (one : Statement) → IsFlowing one
   statement_flows = ind-Statement IsFlowing (λ one l is. subst (λ k. IsFlowing (roll-Statement k)) is (flowing_inside l))
 
-  sentences_flow : AllFlow (sentence_rules items) (sentence_piece items)
-  sentences_flow = record { by = λ one before e st. in_order_flows (statement_rules items) (statement_piece items) (record { by = λ inner now keep here. (statement_flows inner).by now keep here }) one.statements before e st }
+  sentences_flow : AllFlow whole (sentence_rules items) (sentence_piece items)
+  sentences_flow = record { by = λ one before e st. in_order_flows whole (statement_rules items) (statement_piece items) (record { by = λ inner now keep here. (statement_flows inner).by now keep here }) one.statements before e st }
 
-  paragraphs_flow : AllFlow (paragraph_rules items) (paragraph_piece items)
+  paragraphs_flow : AllFlow whole (paragraph_rules items) (paragraph_piece items)
   paragraphs_flow = record {
     by = λ one before e st.
         let a = start_piece before in
         let b = in_order (sentence_piece items) one.sentences (joined before a) in
-        both_flow whole.tables a b (start_flows whole.tables before) (in_order_flows (sentence_rules items) (sentence_piece items) sentences_flow one.sentences (joined before a) e (back whole before a b st));
+        both_flow whole.tables a b (start_flows whole.tables before) (in_order_flows whole (sentence_rules items) (sentence_piece items) sentences_flow one.sentences (joined before a) e (back whole before a b st));
   }
 
   pub sections_flow : (sections : List Section) (before : Code) → each (section_rules items) sections ≡ [] → Stands whole before (in_order (section_piece items) sections before)
       → Flows whole.tables (in_order (section_piece items) sections before)
   sections_flow sections before e st =
-      in_order_flows (section_rules items) (section_piece items)
-      (record { by = λ one now keep here. in_order_flows (paragraph_rules items) (paragraph_piece items) paragraphs_flow one.paragraphs now keep here }) sections before e st
+      in_order_flows whole (section_rules items) (section_piece items)
+      (record { by = λ one now keep here. in_order_flows whole (paragraph_rules items) (paragraph_piece items) paragraphs_flow one.paragraphs now keep here }) sections before e st

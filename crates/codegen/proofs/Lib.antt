@@ -6,6 +6,9 @@ pub mod BlindArithmetic
 pub mod Either
 pub mod Layers
 pub mod RuleLayers
+pub mod ConditionForms
+pub mod ConditionBlind
+pub mod UntilBlind
 pub mod BlindStatements
 -- What the code is made from
 pub mod Works
@@ -16,7 +19,13 @@ pub mod Kept
 pub mod Operations
 pub mod Subscripts
 pub mod StorageItems
--- The code of references and of statements on data, and the machine along it
+pub mod ConditionItems
+pub mod ConditionValues
+pub mod ConditionNames
+pub mod ConditionLayers
+pub mod Sides
+pub mod Varying
+-- The code of references, of statements on data and of conditions, and the machine along it
 pub mod Integers
 pub mod Codes
 pub mod CodedPieces
@@ -24,16 +33,26 @@ pub mod Lying
 pub mod ExpressionLayers
 pub mod ExpressionCodes
 pub mod ArithmeticCodes
+pub mod ConditionCodes
 pub mod Running
 -- The machine does what the tree means
 pub mod Doing
+pub mod Ways
+pub mod Evaluating
+pub mod DataDoing
+pub mod ConditionDoes
 pub mod Turning
 pub mod Branching
-pub mod DataDoing
+pub mod UntilTurns
 pub mod Simulation
 -- A machine can run the code
 pub mod Straight
 pub mod ArithmeticStraight
+pub mod ConditionStraight
+pub mod Flowing
+pub mod ConditionFlows
 pub mod Flows
+pub mod Leading
+pub mod ConditionMeets
 pub mod Demands
 pub mod Verified

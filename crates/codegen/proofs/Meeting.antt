@@ -9,10 +9,10 @@ use Rattle.code_image.specs.declared.code.Code.{Code}
 use Rattle.code_image.specs.declared.instruction.Instruction.{Instruction}
 use Rattle.code_image.specs.declared.instruction.Instruction.TheVariants.{Branch, Jump, Join}
 use Rattle.codegen.specs.Pieces.{Piece, no_tables, joined_tables, joined}
-use Rattle.codegen.specs.Layout.{branch_code, jump_code, join_code, either_piece, phrase_piece, phrases_from}
+use Rattle.codegen.specs.Meeting.{branch_code, jump_code, either_piece}
+use Rattle.codegen.specs.Layout.{phrase_piece, phrases_from}
 use Rattle.codegen.specs.Phrases.{mended, met}
 use Rattle.codegen.proofs.Pieces.{tables_assoc, tables_nothing, joined_assoc}
-use Rattle.codegen.proofs.Either.{laid_out}
 
 -- an instruction behind others, in another's place
 set_behind : (front : List Instruction) (old new : Instruction) (back : List Instruction) (at : ℕ) → at ≡ length front → slice_set (front ++ (old ∷ back)) at new ≡ front ++ (new ∷ back)

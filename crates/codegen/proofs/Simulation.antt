@@ -1,6 +1,9 @@
 -- The machine follows the meaning, where the rules are kept.
-use Rattle.std.proofs.Common.{◌≡◌, ℕ, zero, suc, ◌+◌, ◌≤◌, ◌<◌, Bool, true, false, List, [], ◌∷◌, ◌++◌, length, Option, Some, None, refl, sym, ap, ◌∙◌, subst, arith, length-append}
+use Rattle.std.proofs.Common.{◌≡◌, ℕ, zero, suc, ◌+◌, ◌≤◌, ◌<◌, Bool, true, false, List, [], ◌∷◌, ◌++◌, length, Option, Some, None, Ok, Err, refl, sym, ap, ◌∙◌, subst, arith, length-append}
 use Rattle.std.specs.Prelude.{slice_get}
+use Rattle.source_tree.specs.declared.branching.Branching.{Branching}
+use Rattle.source_tree.specs.declared.branching.Branching.TheVariants.{If}
+use Rattle.source_tree.specs.declared.condition.Condition.{Condition}
 use Rattle.source_tree.specs.declared.moving.Moving.{Moving}
 use Rattle.source_tree.specs.declared.moving.Moving.TheVariants.{Move}
 use Rattle.source_tree.specs.declared.reference.Reference.{Reference}
@@ -10,26 +13,34 @@ use Rattle.source_tree.specs.declared.arithmetic.Arithmetic.{Arithmetic}
 use Rattle.source_tree.specs.declared.performing.Performed.{Performed}
 use Rattle.source_tree.specs.declared.performing.Performed.TheVariants.{Statements}
 use Rattle.source_tree.specs.declared.performing.Turns.{Turns}
-use Rattle.source_tree.specs.declared.performing.Turns.TheVariants.{Once, Times}
+use Rattle.source_tree.specs.declared.performing.Turns.TheVariants.{Once, Times, Until}
 use Rattle.source_tree.specs.declared.performing.Performing.{Performing}
+use Rattle.source_tree.specs.declared.until.Until as until
+use Rattle.source_tree.specs.declared.until.Varying.{Varying}
 use Rattle.source_tree.specs.declared.statement.Verb.{Verb}
 use Rattle.source_tree.specs.declared.statement.Verb.TheVariants as verb
 use Rattle.source_tree.specs.declared.statement.Statement.{Statement, out-Statement}
 use Rattle.source_tree.specs.declared.program.Paragraph.{Paragraph}
 use Rattle.source_tree.specs.Accepting.{next_line, later_lines, accept_line, accept_date}
-use Rattle.source_tree.specs.Arithmetic.{operation, is_there, in_phrase, phrase_for, calculating}
-use Rattle.source_tree.specs.ArithmeticRules.{operation_rules}
+use Rattle.source_tree.specs.Arithmetic.{Stored, operation, is_there, in_phrase, phrase_for, calculating}
+use Rattle.source_tree.specs.ArithmeticRules.{number_rules, operation_rules}
+use Rattle.source_tree.specs.Branching.{way, branching}
 use Rattle.source_tree.specs.Broken.{Broken, each}
-use Rattle.source_tree.specs.Evaluated.{Fault, Evaluated}
+use Rattle.source_tree.specs.ConditionRules.{condition_rules, varying_rules, until_rules}
+use Rattle.source_tree.specs.Conditions.{holds}
+use Rattle.source_tree.specs.Evaluated.{Fault, Evaluated, ◌>>=◌}
+use Rattle.source_tree.specs.MoveRules.{move_rules}
 use Rattle.source_tree.specs.Moving.{taken_of, move_to_each, moving}
 use Rattle.source_tree.specs.Places.{Placed}
 use Rattle.source_tree.specs.Showing.{displayed}
 use Rattle.source_tree.specs.Storage.{Storage}
-use Rattle.source_tree.specs.Rules.{moving_rules, text_rules, phrase_rules, phrases_rules, arithmetic_rules, performed_rules, verb_rules, statement_rules, sentence_rules, paragraph_rules}
+use Rattle.source_tree.specs.Rules.{moving_rules, text_rules, phrase_rules, phrases_rules, arithmetic_rules, performed_rules, turns_rules, performing_rules, branching_rules, verb_rules, statement_rules, sentence_rules, paragraph_rules}
 use Rattle.source_tree.specs.State.{State, Outcome, Done, Over, showing, then_do, spend, with_value, changing}
 use Rattle.source_tree.specs.Setting.{Setting}
 use Rattle.source_tree.specs.Texts.{texts}
 use Rattle.source_tree.specs.Performing.{turns_of, repeat, body, performing}
+use Rattle.source_tree.specs.Until as meant
+use Rattle.source_tree.specs.Until.{vary_operation, vary_begin, vary_on, until_from}
 use Rattle.source_tree.specs.Meaning.{told, step, exec, sentence, paragraph, range}
 use Rattle.data_instructions.specs.declared.instruction.DataInstruction.{DataInstruction}
 use Rattle.data_instructions.specs.Tables.{IsTables}
@@ -49,17 +60,25 @@ use Rattle.code_image.specs.Table.{data_from, exec_code}
 use Rattle.codegen.specs.Pieces.{Piece, nothing, joined, both, in_order, plain}
 use Rattle.codegen.specs.DataCode.{reference_piece, move_piece, operands_piece, line_end_piece, show_piece}
 use Rattle.codegen.specs.ArithmeticCode.{arithmetic_piece}
-use Rattle.codegen.specs.Layout.{tick_piece, moving_piece, texts_piece, performed_piece, turns_piece, performing_piece, phrase_piece, phrases_from, phrases_piece, verb_piece, statement_piece, sentence_piece, start_piece, paragraph_piece, end_piece}
+use Rattle.codegen.specs.Meeting.{either_piece}
+use Rattle.codegen.specs.ConditionCode.{condition_piece}
+use Rattle.codegen.specs.UntilCode.{tick_piece, until_from_piece, vary_begin_piece, vary_on_piece, until_piece}
+use Rattle.codegen.specs.Layout.{moving_piece, texts_piece, performed_piece, turns_piece, performing_piece, phrase_piece, phrases_from, phrases_piece, branching_piece, verb_piece, statement_piece, sentence_piece, start_piece, paragraph_piece, end_piece}
 use Rattle.codegen.proofs.Pieces.{joined_assoc}
 use Rattle.codegen.proofs.Layers.{statement_is}
-use Rattle.codegen.proofs.Blind.{Blind}
-use Rattle.codegen.proofs.BlindStatements.{phrase_blind, statement_blind}
+use Rattle.codegen.proofs.Blind.{Blind, in_order_blind}
+use Rattle.codegen.proofs.ConditionBlind.{condition_blind}
+use Rattle.codegen.proofs.UntilBlind.{vary_on_blind}
+use Rattle.codegen.proofs.BlindStatements.{performed_blind, phrase_blind, statement_blind}
 use Rattle.codegen.proofs.Standing.{Stands, front, back, first_stands, code_stands}
 use Rattle.codegen.proofs.Running.{at, one_step, WorksFrom, works_from}
 use Rattle.codegen.proofs.Codes.{left_none, right_none, Coded, move_coded, display_coded, accept_coded, date_coded}
 use Rattle.codegen.proofs.ArithmeticCodes.{arithmetic_coded}
 use Rattle.codegen.proofs.Doing.{end_of, Does, PartDoes, IsRoom, still_room, moved, stays, stop_does, behind, parts_do, tick_part, ending_does, nothing_does, Follows, in_order_does, Repeats}
 use Rattle.codegen.proofs.Turning.{times_does}
+use Rattle.codegen.proofs.ConditionDoes.{condition_does}
+use Rattle.codegen.proofs.Evaluating.{evaluated_does}
+use Rattle.codegen.proofs.UntilTurns.{Tests, until_from_does}
 use Rattle.codegen.proofs.Branching.{either_does}
 use Rattle.codegen.proofs.DataDoing.{behind_code, moved_does, shown_does, calculated_does, taken_does, accepted_faultless}
 
@@ -124,23 +143,84 @@ module _ (whole : Code) (around : Setting) (entries : (n : ℕ) (one : Placed) �
       (date_coded around.items whole entries receiver before keep st) (λ code is. date_works around.items whole.tables order s.day receiver code is (scratch_of s cs))
       (λ next here t k. one_step whole next (own_with t cs) (state_with t s) Date here k) (λ t fault e. refl) st
 
-  -- the statements that stand in one
+  -- ---- turns up to where a condition is true
+
+  tests_do : (one : Condition) → condition_rules around.items one ≡ [] → Tests whole (holds around.items one) (condition_piece around.items one)
+  tests_do one keep = record { by = λ before cs s st. condition_does around.items whole entries order lie one before cs s keep st }
+
+  -- an operation without phrases only changes storage
+  added_does : (from to address next : ℕ) (cs : Own) (s : State) (e : Evaluated Stored) → Does whole from to address cs s next (with_value e s (λ after. Done (record s { storage = after.storage })))
+      → Does whole from to address cs s next (with_value (e >>= (λ after. Ok after.storage)) s (λ after. Done (record s { storage = after })))
+  added_does from to address next cs s (Ok after) d = d
+  added_does from to address next cs s (Err fault) d = d
+
+  vary_begin_does : (one : Option Varying) (before : Code) (cs : Own) (s : State) → varying_rules around.items one ≡ [] → Stands whole before (vary_begin_piece around.items one before)
+      → PartDoes whole before (vary_begin_piece around.items one before) cs s (changing (vary_begin around.items one) s)
+  vary_begin_does None before cs s keep st = nothing_does whole before cs s
+  vary_begin_does (Some one) before cs s keep st =
+      let moves = move_rules around.items one.from (one.item ∷ []) in
+      let numbers = number_rules around.items one.from in
+      moving_does (Move one.from (one.item ∷ [])) before cs s (left_none moves numbers (left_none (moves ++ numbers) (operation_rules around.items (vary_operation one)) keep)) st
+
+  vary_on_does : (one : Option Varying) (before : Code) (cs : Own) (s : State) → varying_rules around.items one ≡ [] → Stands whole before (vary_on_piece around.items one before)
+      → PartDoes whole before (vary_on_piece around.items one before) cs s (changing (vary_on around.items one) s)
+  vary_on_does None before cs s keep st = nothing_does whole before cs s
+  vary_on_does (Some one) before cs s keep st =
+      let add = vary_operation one in
+      let part = arithmetic_piece around.items false add before in
+      let adding = right_none (move_rules around.items one.from (one.item ∷ []) ++ number_rules around.items one.from) (operation_rules around.items add) keep in
+      let coded = arithmetic_coded around.items whole entries order lie false add before adding st in
+      let works_as = arithmetic_works around.items whole.tables order false add coded.code coded.holds (scratch_of s cs) in
+      let from = end_of before in
+      let to = end_of (joined before part) in
+      added_does from to from to cs s (operation around.items false add s.storage)
+      (calculated_does whole from to from to cs s (length coded.code) (behind_code whole before part coded.code coded.is) to (operation around.items false add s.storage) (λ size_error t. Done t)
+      (subst (WorksFrom whole from cs s (length coded.code)) works_as (works_from whole coded.code from cs s (code_stands whole before part coded.code coded.is st)))
+      (λ after. stays whole from to to to (record cs { truth = after.size_error }) (record s { storage = after.storage }) refl))
+
+  until_does : (line depth : ℕ) (one : until.Until) (go : State → Outcome) (body : Piece) → until_rules around.items one ≡ [] → Blind body → Repeats whole depth go body
+      → Repeats whole depth (meant.until around.items line depth one go) (until_piece around.items line one body)
+  until_does line depth one go body keep blind each_one =
+      let varying = left_none (varying_rules around.items one.varying) (condition_rules around.items one.condition) keep in
+      let asked = right_none (varying_rules around.items one.varying) (condition_rules around.items one.condition) keep in
+      let test = condition_piece around.items one.condition in
+      let onward = vary_on_piece around.items one.varying in
+      let turns = until_from_does whole line depth (holds around.items one.condition) (changing (vary_on around.items one.varying)) go test onward body (tests_do one.condition asked)
+      (record { by = λ before cs s below room st. vary_on_does one.varying before cs s varying st }) each_one
+      (condition_blind around.items one.condition) (vary_on_blind around.items one.varying) blind one.test in
+      record {
+        by = λ before cs s below room st.
+            let a = vary_begin_piece around.items one.varying before in
+            let b = until_from_piece one.test line test onward body (joined before a) in
+            parts_do whole before a b cs s (changing (vary_begin around.items one.varying) s)
+            (until_from one.test line depth (holds around.items one.condition) (changing (vary_on around.items one.varying)) go)
+            (vary_begin_does one.varying before cs s varying (front whole before a b st)) (λ t ds falls still.
+            turns.by (joined before a) ds t (omega arith) (still room) (back whole before a b st));
+      }
+
+  -- ---- the statements that stand in one
+
   module _ {S : Type 0} (depth : ℕ) (rules : S → List Broken) (run : S → State → Outcome) (inside : S → Piece) (f : Follows whole depth rules run inside) (blind : (one : S) → Blind (inside one)) where
     performed_does : (one : Performed S) → performed_rules rules one ≡ [] → Repeats whole depth (body run one) (performed_piece around.items inside one)
     performed_does (Statements statements) keep = record { by = λ before cs s below room st. in_order_does whole depth rules run inside f statements before cs s keep below room st }
 
-    turns_does : (line : ℕ) (often : Turns) (one : Performed S) → performed_rules rules one ≡ [] → Repeats whole depth (repeat line often (body run one)) (turns_piece line often (performed_piece around.items inside one))
-    turns_does line Once one keep = performed_does one keep
-    turns_does line (Times count) one keep = record {
+    turns_does : (line : ℕ) (often : Turns) (one : Performed S) → turns_rules around.items often ≡ [] → performed_rules rules one ≡ []
+        → Repeats whole depth (repeat around.items depth line often (body run one)) (turns_piece around.items line often (performed_piece around.items inside one))
+    turns_does line Once one asked keep = performed_does one keep
+    turns_does line (Until one) what asked keep =
+        until_does line depth one (body run what) (performed_piece around.items inside what) asked (performed_blind around.items inside blind what) (performed_does what keep)
+    turns_does line (Times count) one asked keep = record {
       by = λ before cs s below room st. times_does whole line depth (turns_of count) (body run one) (performed_piece around.items inside one) (performed_does one keep) before cs s below room st;
     }
 
-    performing_does : (line : ℕ) (one : Performing S) (before : Code) (cs : Own) (s : State) → performed_rules rules one.performed ≡ [] → s.budget ≤ depth → IsRoom whole cs
-        → Stands whole before (performing_piece around.items inside line one before) → PartDoes whole before (performing_piece around.items inside line one before) cs s (spend line s (performing run line one))
+    performing_does : (line : ℕ) (one : Performing S) (before : Code) (cs : Own) (s : State) → performing_rules around.items rules one ≡ [] → s.budget ≤ depth → IsRoom whole cs
+        → Stands whole before (performing_piece around.items inside line one before) → PartDoes whole before (performing_piece around.items inside line one before) cs s (spend line s (performing run around.items depth line one))
     performing_does line one before cs s keep le room st =
         let a = tick_piece line before in
-        let b = turns_piece line one.turns (performed_piece around.items inside one.performed) (joined before a) in
-        tick_part whole line before b cs s (performing run line one) st (λ t lt. (turns_does line one.turns one.performed keep).by (joined before a) cs t (omega arith) room (back whole before a b st))
+        let b = turns_piece around.items line one.turns (performed_piece around.items inside one.performed) (joined before a) in
+        let asked = left_none (turns_rules around.items one.turns) (performed_rules rules one.performed) keep in
+        let kept = right_none (turns_rules around.items one.turns) (performed_rules rules one.performed) keep in
+        tick_part whole line before b cs s (performing run around.items depth line one) st (λ t lt. (turns_does line one.turns one.performed asked kept).by (joined before a) cs t (omega arith) room (back whole before a b st))
 
     phrase_does : (phrase : Option (List S)) → phrase_rules rules phrase ≡ [] → Repeats whole depth (in_phrase run phrase) (phrase_piece around.items inside phrase)
     phrase_does None keep = record { by = λ before cs s below room st. nothing_does whole before cs s }
@@ -188,8 +268,41 @@ module _ (whole : Code) (around : Setting) (entries : (n : ℕ) (one : Placed) �
         behind whole before part phrases ds t (phrase_for run one.phrases after.size_error t)
         (phrases_do one.phrases.arose one.phrases.did_not (joined before part) ds t phrases_keep (omega arith) (record { counters = room.counters; line = room.line }) (back whole before part phrases st)))
 
+    -- IF, behind its `tick` and its condition
+    ways_do : (statements : List S) (otherwise : Option (List S)) (before : Code) (cs : Own) (s : State) → each rules statements ≡ [] → phrase_rules rules otherwise ≡ [] → s.budget < depth → IsRoom whole cs
+        → Stands whole before (either_piece (in_order inside statements) (phrase_piece around.items inside otherwise) before)
+        → PartDoes whole before (either_piece (in_order inside statements) (phrase_piece around.items inside otherwise) before) cs s (way run statements otherwise cs.truth s)
+    ways_do statements otherwise before cs s firsts seconds below room st =
+        either_does whole depth (in_order inside statements) (phrase_piece around.items inside otherwise) (way run statements otherwise)
+        (record { by = λ now ds t less wide here. in_order_does whole depth rules run inside f statements now ds t firsts less wide here })
+        (record { by = λ now ds t less wide here. (phrase_does otherwise seconds).by now ds t less wide here })
+        (in_order_blind inside blind statements) (phrase_blind around.items inside blind otherwise) before cs s below room st
+
+    branching_does : (line : ℕ) (one : Branching S) (before : Code) (cs : Own) (s : State) → branching_rules around.items rules one ≡ [] → s.budget ≤ depth → IsRoom whole cs
+        → Stands whole before (branching_piece around.items inside line one before) → PartDoes whole before (branching_piece around.items inside line one before) cs s (spend line s (branching around.items run one))
+    branching_does line (If condition statements otherwise) before cs s keep le room st =
+        let asks = condition_rules around.items condition in
+        let kept = left_none (asks ++ each rules statements) (phrase_rules rules otherwise) keep in
+        let a = tick_piece line before in
+        let second = joined before a in
+        let b = condition_piece around.items condition second in
+        let third = joined second b in
+        let c = either_piece (in_order inside statements) (phrase_piece around.items inside otherwise) third in
+        let rest = back whole before a (joined b c) st in
+        let from = end_of second in
+        let to = end_of (joined second (joined b c)) in
+        let l2 = length-append second.instructions b.instructions in
+        let l3 = length-append third.instructions c.instructions in
+        tick_part whole line before (joined b c) cs s (branching around.items run (If condition statements otherwise)) st (λ t lt.
+        evaluated_does whole from (end_of third) from to from (end_of third) to cs t (holds around.items condition t.storage) (λ truth. way run statements otherwise truth t) (omega arith)
+        (omega (arith, l3, ap end_of (joined_assoc second b c))) ((tests_do condition (left_none asks (each rules statements) kept)).by second cs t (front whole second b c rest)) (λ truth ds keeps is.
+        behind whole second b c ds t (way run statements otherwise truth t)
+        (subst (λ (now : Bool). PartDoes whole third c ds t (way run statements otherwise now t)) is
+        (ways_do statements otherwise third ds t (right_none asks (each rules statements) kept) (right_none (asks ++ each rules statements) (phrase_rules rules otherwise) keep) (omega arith)
+        (still_room whole from (end_of third) cs ds keeps room) (back whole second b c rest)))))
+
     verb_does : (line : ℕ) (one : Verb S) (before : Code) (cs : Own) (s : State) → verb_rules around.items rules one ≡ [] → s.budget ≤ depth → IsRoom whole cs
-        → Stands whole before (verb_piece around.items inside line one before) → PartDoes whole before (verb_piece around.items inside line one before) cs s (spend line s (step around run line one))
+        → Stands whole before (verb_piece around.items inside line one before) → PartDoes whole before (verb_piece around.items inside line one before) cs s (spend line s (step around run depth line one))
     verb_does line (verb.Moving one) before cs s keep le room st =
         let a = tick_piece line before in
         let b = moving_piece around.items one (joined before a) in
@@ -198,6 +311,7 @@ module _ (whole : Code) (around : Setting) (entries : (n : ℕ) (one : Placed) �
         let a = tick_piece line before in
         let b = both (arithmetic_piece around.items (is_there one.phrases.arose) one.operation) (phrases_piece around.items inside one.phrases) (joined before a) in
         tick_part whole line before b cs s (calculating around.items run one) st (λ t lt. computing_does one (joined before a) cs t keep (omega arith) room (back whole before a b st))
+    verb_does line (verb.Branching one) before cs s keep le room st = branching_does line one before cs s keep le room st
     verb_does line (verb.Performing one) before cs s keep le room st = performing_does line one before cs s keep le room st
     verb_does line (verb.Text one) before cs s keep le room st =
         let a = tick_piece line before in

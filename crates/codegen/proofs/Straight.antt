@@ -128,7 +128,7 @@ module _ (items : List Placed) where
       both_straight (work_piece (i.Place (item_index items name))) (both (work_piece i.Push) (adjustment_piece adjusting)) (work_straight (i.Place (item_index items name)))
       (both_straight (work_piece i.Push) (adjustment_piece adjusting) (work_straight i.Push) (adjustment_straight adjusting))
 
-  subscripts_straight : (dimensions : List Dimension) (all : List written.Subscript) → AlwaysStraight (subscripts_piece items dimensions all)
+  pub subscripts_straight : (dimensions : List Dimension) (all : List written.Subscript) → AlwaysStraight (subscripts_piece items dimensions all)
   subscripts_straight [] all before = nothing_straight
   subscripts_straight (one ∷ more) [] before = nothing_straight
   subscripts_straight (one ∷ more) (written ∷ others) before =
@@ -145,7 +145,7 @@ module _ (items : List Placed) where
 
   -- ---- MOVE, DISPLAY and ACCEPT
 
-  sender_straight : (one : Operand) → operand_rules items one ≡ [] → AlwaysStraight (sender_piece items one)
+  pub sender_straight : (one : Operand) → operand_rules items one ≡ [] → AlwaysStraight (sender_piece items one)
   sender_straight (operand.Item one) e before = taking_straight i.Take one before
   sender_straight (operand.Literal one) e before = record {
     instructions = (tt, tt);

@@ -14,7 +14,7 @@ use Rattle.source_tree.specs.Broken.{Broken, each}
 use Rattle.source_tree.specs.EntryRules.{entry_rules}
 use Rattle.source_tree.specs.Given.{Given}
 use Rattle.source_tree.specs.Places.{Placed, items_of}
-use Rattle.source_tree.specs.Rules.{paragraph_rules, section_rules, sections_rules, program_rules}
+use Rattle.source_tree.specs.Rules.{paragraph_rules, section_rules, sections_rules, procedure_rules, program_rules}
 use Rattle.source_tree.specs.Setting.{setting}
 use Rattle.source_tree.specs.State.{State}
 use Rattle.source_tree.specs.Storage.{Storage}
@@ -50,9 +50,12 @@ use Rattle.codegen.proofs.Standing.{Stands, at_seam}
 use Rattle.codegen.proofs.Codes.{left_none, right_none}
 use Rattle.codegen.proofs.Running.{at}
 use Rattle.codegen.proofs.Simulation.{range_ends}
-use Rattle.codegen.proofs.Flows.{sections_flow, along_append}
+use Rattle.codegen.proofs.Flowing.{along_append}
+use Rattle.codegen.proofs.Flows.{sections_flow}
 use Rattle.codegen.proofs.Straight.{all_both, IsSent}
-use Rattle.codegen.proofs.Demands.{all_weaker, all_lead, more_counters, Meets, both_meet, sections_meet, end_meets_all}
+use Rattle.codegen.proofs.Leading.{all_weaker, all_lead, more_counters, Meets, both_meet}
+use Rattle.codegen.proofs.ConditionValues.{conditions_formed}
+use Rattle.codegen.proofs.Demands.{sections_meet, end_meets_all}
 
 all_at : {A : Type 0} (P : A → Type 0) (xs : List A) → All P xs → (k : ℕ) (x : A) → slice_get xs k ≡ Some x → P x
 all_at P xs all k x here = subst P (get_or_from_slice_get xs k x x here) (all k x (slice_get_within xs k x here))
@@ -168,6 +171,19 @@ paragraphs_keep items (one ∷ more) e =
     each_append (paragraph_rules items) one.paragraphs (paragraphs_in more) (left_none (section_rules items one) (each (section_rules items) more) e)
     (paragraphs_keep items more (right_none (section_rules items one) (each (section_rules items) more) e))
 
+-- the entries and the sections of a program that keeps the rules
+pub entries_kept : (program : Program) → program_rules program ≡ [] → entry_rules program.storage ≡ []
+entries_kept program keep =
+    let entries = entry_rules program.storage in
+    let sections = sections_rules (items_of program.storage) program.sections in
+    left_none entries sections (left_none (entries ++ sections) (procedure_rules program) keep)
+
+pub sections_kept : (program : Program) → program_rules program ≡ [] → sections_rules (items_of program.storage) program.sections ≡ []
+sections_kept program keep =
+    let entries = entry_rules program.storage in
+    let sections = sections_rules (items_of program.storage) program.sections in
+    right_none entries sections (left_none (entries ++ sections) (procedure_rules program) keep)
+
 module _ (program : Program) (keep : program_rules program ≡ []) where
   abbrev items : List Placed
   items = items_of program.storage
@@ -179,13 +195,13 @@ module _ (program : Program) (keep : program_rules program ≡ []) where
   body = in_order (section_piece items) program.sections (storage_code program.storage)
 
   entries_keep : entry_rules program.storage ≡ []
-  entries_keep = left_none (entry_rules program.storage) (sections_rules items program.sections) keep
+  entries_keep = entries_kept program keep
 
   sections_keep : each (section_rules items) program.sections ≡ []
-  sections_keep = right_none (entry_rules program.storage) (sections_rules items program.sections) keep
+  sections_keep = sections_kept program keep
 
   met : Meets (storage_code program.storage) body
-  met = sections_meet items program.sections (storage_code program.storage) sections_keep
+  met = sections_meet items (conditions_formed program.storage entries_keep) program.sections (storage_code program.storage) sections_keep
 
   whole_met : Meets (storage_code program.storage) (joined body end_piece)
   whole_met = both_meet (storage_code program.storage) body end_piece met (end_meets_all (joined (storage_code program.storage) body))

@@ -7,12 +7,14 @@ use Rattle.source_tree.specs.declared.text.Text.{Text}
 use Rattle.source_tree.specs.declared.text.Text.TheVariants.{Display, Accept, AcceptDate}
 use Rattle.source_tree.specs.declared.phrases.Phrases.{Phrases}
 use Rattle.source_tree.specs.declared.arithmetic.Arithmetic.{Arithmetic}
+use Rattle.source_tree.specs.declared.branching.Branching.{Branching}
+use Rattle.source_tree.specs.declared.branching.Branching.TheVariants.{If}
 use Rattle.source_tree.specs.declared.ending.Ending.{Ending}
 use Rattle.source_tree.specs.declared.ending.Ending.TheVariants as ending
 use Rattle.source_tree.specs.declared.performing.Performed.{Performed}
 use Rattle.source_tree.specs.declared.performing.Performed.TheVariants.{Statements}
 use Rattle.source_tree.specs.declared.performing.Turns.{Turns}
-use Rattle.source_tree.specs.declared.performing.Turns.TheVariants.{Once, Times}
+use Rattle.source_tree.specs.declared.performing.Turns.TheVariants.{Once, Times, Until}
 use Rattle.source_tree.specs.declared.performing.Performing.{Performing}
 use Rattle.source_tree.specs.declared.statement.Verb.{Verb}
 use Rattle.source_tree.specs.declared.statement.Verb.TheVariants as verb
@@ -29,18 +31,17 @@ use Rattle.source_tree.specs.Starts.{areas_at_start}
 use Rattle.data_instructions.specs.declared.tables.DataTables.{DataTables}
 use Rattle.data_instructions.specs.Codes.{data_item}
 use Rattle.code_image.specs.declared.code.Code.{Code}
-use Rattle.code_image.specs.declared.instruction.Instruction.TheVariants.{Tick, Stop, Count, Turn, Branch, Jump, Join}
+use Rattle.code_image.specs.declared.instruction.Instruction.TheVariants.{Tick, Stop, Count, Turn}
 use Rattle.codegen.specs.Pieces.{Piece, no_tables, nothing, joined, both, in_order, plain}
+use Rattle.codegen.specs.Meeting.{either_piece}
 use Rattle.source_tree.specs.Arithmetic.{is_there}
 use Rattle.codegen.specs.DataCode.{move_piece, display_piece, accept_piece, date_piece}
 use Rattle.codegen.specs.ArithmeticCode.{arithmetic_piece}
+use Rattle.codegen.specs.ConditionCode.{condition_piece}
+use Rattle.codegen.specs.UntilCode.{tick_piece, until_piece}
 
 abbrev pub stop_run_piece : ℕ → Piece
 stop_run_piece line before = plain (Tick line ∷ Stop ∷ [])
-
--- one of the budget, and nothing else: CONTINUE
-abbrev pub tick_piece : ℕ → Piece
-tick_piece line before = plain (Tick line ∷ [])
 
 abbrev pub ending_piece : ℕ → Ending → Piece
 ending_piece line ending.StopRun = stop_run_piece line
@@ -61,9 +62,10 @@ times_piece line (suc more) body before =
     let begin = loop_begin line more before in joined begin (joined (body (joined before begin)) (loop_end (length before.instructions)))
 
 -- how often, as the phrase of a PERFORM at this line says
-abbrev pub turns_piece : ℕ → Turns → Piece → Piece
-turns_piece line Once body = body
-turns_piece line (Times count) body = times_piece line (turns_of count) body
+abbrev pub turns_piece : List Placed → ℕ → Turns → Piece → Piece
+turns_piece items line Once body = body
+turns_piece items line (Times count) body = times_piece line (turns_of count) body
+turns_piece items line (Until one) body = until_piece items line one body
 
 abbrev pub moving_piece : List Placed → Moving → Piece
 moving_piece items (Move sender receivers) = move_piece items sender receivers
@@ -73,26 +75,6 @@ texts_piece items (Display operands advancing) = display_piece items operands ad
 texts_piece items (Accept receiver) = accept_piece items receiver
 texts_piece items (AcceptDate receiver) = date_piece items receiver
 
--- Where the truth is true, the first piece; else the second. Both ways meet behind the last `join`. While the first piece is made, the
--- place of the second isn't known, and 0 stands for it; no piece depends on it.
-abbrev pub branch_code : ℕ → Code
-branch_code to = plain (Branch to ∷ [])
-
-abbrev pub jump_code : ℕ → Code
-jump_code to = plain (Jump to ∷ Join ∷ [])
-
-abbrev pub join_code : Code
-join_code = plain (Join ∷ [])
-
-abbrev pub either_piece : Piece → Piece → Piece
-either_piece first second before =
-    let one = first (joined before (branch_code 0)) in
-    let middle = joined (branch_code 0) (joined one (jump_code 0)) in
-    let two = second (joined before middle) in
-    let other = length (joined before middle).instructions in
-    let end = length (joined (joined before middle) two).instructions + 1 in
-    joined (branch_code other) (joined one (joined (jump_code end) (joined two join_code)))
-
 -- Statements that hold statements; `inside` is the code of those.
 module _ (items : List Placed) {S : Type 0} (inside : S → Piece) where
   abbrev pub performed_piece : Performed S → Piece
@@ -100,7 +82,7 @@ module _ (items : List Placed) {S : Type 0} (inside : S → Piece) where
 
   abbrev pub performing_piece : ℕ → Performing S → Piece
   performing_piece line one before =
-      joined (tick_piece line before) (turns_piece line one.turns (performed_piece one.performed) (joined before (tick_piece line before)))
+      joined (tick_piece line before) (turns_piece items line one.turns (performed_piece one.performed) (joined before (tick_piece line before)))
 
   abbrev pub phrase_piece : Option (List S) → Piece
   phrase_piece None before = nothing
@@ -119,10 +101,15 @@ module _ (items : List Placed) {S : Type 0} (inside : S → Piece) where
   calculating_piece line one =
       both (tick_piece line) (both (arithmetic_piece items (is_there one.phrases.arose) one.operation) (phrases_piece one.phrases))
 
+  abbrev pub branching_piece : ℕ → Branching S → Piece
+  branching_piece line (If condition statements otherwise) =
+      both (tick_piece line) (both (condition_piece items condition) (either_piece (in_order inside statements) (phrase_piece otherwise)))
+
   -- a statement at this line, by its family
   abbrev pub verb_piece : ℕ → Verb S → Piece
   verb_piece line (verb.Moving one) = both (tick_piece line) (moving_piece items one)
   verb_piece line (verb.Arithmetic one) = calculating_piece line one
+  verb_piece line (verb.Branching one) = branching_piece line one
   verb_piece line (verb.Performing one) = performing_piece line one
   verb_piece line (verb.Text one) = both (tick_piece line) (texts_piece items one)
   verb_piece line (verb.Ending one) = ending_piece line one

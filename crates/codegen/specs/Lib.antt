@@ -1,6 +1,11 @@
 pub mod Pieces
+pub mod Meeting
 pub mod DataCode
 pub mod ArithmeticCode
+pub mod ConditionCode
+pub mod UntilCode
 pub mod Operations
 pub mod Layout
 pub mod Phrases
+pub mod Sides
+pub mod Values

@@ -30,7 +30,7 @@ fn duplicate(depth: u32) -> DataInstruction
 }
 
 /// The newest number isn't wanted any more.
-fn discard() -> DataInstruction
+pub(crate) fn discard() -> DataInstruction
     ensures { result ≡ codes.discard }
 {
     DataInstruction::Calculate(Calculation::Discard)
@@ -54,30 +54,36 @@ fn emit_subtracted(code: &mut Code, scale: u8, keep: bool) -> Result<(), AllocEr
 
 impl<'a> Emitter<'a> {
     /// The newest number, stored. `keep`: there is an ON SIZE ERROR phrase.
-    fn emit_store(&self, code: &mut Code, keep: bool, one: &Receiver) -> Result<(), AllocError>
+    fn emit_store(
+        &self,
+        code: &mut Code,
+        keep: bool,
+        rounded: bool,
+        item: &Reference,
+    ) -> Result<(), AllocError>
         requires declared { IsDeclared self.now.declarations.now }
-        requires rules { each (subscript_rules (items_in self.now.declarations.now)) one.now.item.subscripts ≡ [] }
-        ensures { OnOk result (code.new ≡ joined code.old (spec.store_piece (items_in self.now.declarations.now) keep one.now code.old)) }
+        requires rules { each (subscript_rules (items_in self.now.declarations.now)) item.now.subscripts ≡ [] }
+        ensures { OnOk result (code.new ≡ joined code.old (spec.store_piece (items_in self.now.declarations.now) keep (record { item = item.now; rounded = rounded }) code.old)) }
     {
-        let rounded = one.rounded;
-        self.emit_taking(code, DataInstruction::Store { rounded, keep }, &one.item)
+        self.emit_taking(code, DataInstruction::Store { rounded, keep }, item)
     }
 
     /// A receiver becomes what it holds, with the newest number on the right of an operator.
-    fn emit_update(
+    pub(crate) fn emit_update(
         &self,
         code: &mut Code,
         keep: bool,
         operator: Operator,
-        one: &Receiver,
+        rounded: bool,
+        item: &Reference,
     ) -> Result<(), AllocError>
         requires declared { IsDeclared self.now.declarations.now }
-        requires rules { each (subscript_rules (items_in self.now.declarations.now)) one.now.item.subscripts ≡ [] }
-        ensures { OnOk result (code.new ≡ joined code.old (spec.update_piece (items_in self.now.declarations.now) keep operator one.now code.old)) }
+        requires rules { each (subscript_rules (items_in self.now.declarations.now)) item.now.subscripts ≡ [] }
+        ensures { OnOk result (code.new ≡ joined code.old (spec.update_piece (items_in self.now.declarations.now) keep operator (record { item = item.now; rounded = rounded }) code.old)) }
     {
-        self.emit_taking(code, DataInstruction::Push, &one.item)?;
+        self.emit_taking(code, DataInstruction::Push, item)?;
         emit_works(code, &[duplicate(1), operator_code(operator)])?;
-        self.emit_store(code, keep, one)
+        self.emit_store(code, keep, rounded, item)
     }
 
     fn emit_updates(
@@ -92,7 +98,7 @@ impl<'a> Emitter<'a> {
         ensures { OnOk result (code.new ≡ joined code.old (spec.updates_piece (items_in self.now.declarations.now) keep operator all.now code.old)) }
     {
         for one in all {
-            self.emit_update(code, keep, operator, one)?;
+            self.emit_update(code, keep, operator, one.rounded, &one.item)?;
         }
         Ok(())
     }
@@ -120,7 +126,7 @@ impl<'a> Emitter<'a> {
         ensures { OnOk result (code.new ≡ joined code.old (spec.give_piece (items_in self.now.declarations.now) keep one.now code.old)) }
     {
         emit_work(code, duplicate(0))?;
-        self.emit_store(code, keep, one)
+        self.emit_store(code, keep, one.rounded, &one.item)
     }
 
     fn emit_gives(&self, code: &mut Code, keep: bool, all: &[Receiver]) -> Result<(), AllocError>

@@ -1,20 +1,23 @@
 //! The code of each part of a program, added to the code that stands before it.
 
 ghost use Rattle.std.specs.Prelude.{◌≡◌, ◌+◌, [], length, OnOk, IfOk};
+ghost use Rattle.source_tree.specs.declared.branching.Branching.TheVariants.{If};
 ghost use Rattle.source_tree.specs.Broken.{each};
 ghost use Rattle.source_tree.specs.ArithmeticRules.{operation_rules};
+ghost use Rattle.source_tree.specs.EntryRules.{entry_rules};
 ghost use Rattle.source_tree.specs.Rules as rules;
 ghost use Rattle.source_tree.specs.Performing.{turns_of};
 ghost use Rattle.check_rules.specs.Named.{IsDeclared, items_in};
 ghost use Rattle.codegen.specs.Pieces.{joined, both, in_order};
-ghost use Rattle.codegen.specs.Layout.{moving_piece, texts_piece, stop_run_piece, tick_piece, ending_piece, loop_begin, loop_end, times_piece, performing_piece, phrase_piece, phrases_piece, calculating_piece, statement_piece, sentence_piece, start_piece, paragraph_piece, section_piece, end_piece};
+ghost use Rattle.codegen.specs.UntilCode.{tick_piece};
+ghost use Rattle.codegen.specs.Layout.{moving_piece, texts_piece, stop_run_piece, branching_piece, ending_piece, loop_begin, loop_end, times_piece, turns_piece, performing_piece, phrase_piece, phrases_piece, calculating_piece, statement_piece, sentence_piece, start_piece, paragraph_piece, section_piece, end_piece};
 
 use crate::emitter::Emitter;
 use crate::phrases::{emit_branch, emit_jump, emit_meeting, has_phrase};
 use code_image::{Code, CounterIndex, Instruction};
 use source_tree::{
-    Arithmetic, Ending, Integer, Moving, Paragraph, Performed, Performing, Phrases, Section,
-    Sentence, Statement, Text, Turns, Verb,
+    Arithmetic, Branching, Condition, Ending, Integer, Moving, Paragraph, Performed, Performing,
+    Phrases, Section, Sentence, Statement, Text, Turns, Verb,
 };
 use sqlite_items::Items;
 use std::alloc::AllocError;
@@ -27,7 +30,7 @@ fn emit_stop_run(code: &mut Code, line: u32) -> Result<(), AllocError>
     Ok(())
 }
 
-fn emit_tick(code: &mut Code, line: u32) -> Result<(), AllocError>
+pub(crate) fn emit_tick(code: &mut Code, line: u32) -> Result<(), AllocError>
     ensures { OnOk result (code.new ≡ joined code.old (tick_piece line code.old)) }
 {
     code.instructions.push(Instruction::Tick { line })?;
@@ -71,6 +74,19 @@ fn emit_loop_end(code: &mut Code, begin: usize, turn: usize) -> Result<(), Alloc
         to: turn,
     })?;
     Ok(())
+}
+
+/// The condition of an IF, its statements and those of ELSE.
+fn parts_of(one: &Branching<Statement>) -> (&Condition, &[Statement], &Option<Items<Statement>>)
+    ensures { one.now ≡ If result.0.now result.1.now result.2.now }
+{
+    match one {
+        Branching::If {
+            condition,
+            statements,
+            otherwise,
+        } => (condition, statements.as_slice(), otherwise),
+    }
 }
 
 fn emit_ending(code: &mut Code, line: u32, one: Ending) -> Result<(), AllocError>
@@ -135,6 +151,7 @@ impl<'a> Emitter<'a> {
     #[tactic(auto, using(crate::proofs::Layers::statement_is))]
     fn emit_statement(&self, code: &mut Code, one: &Statement) -> Result<(), AllocError>
         requires declared { IsDeclared self.now.declarations.now }
+        requires entries { entry_rules self.now.declarations.now.entries.now ≡ [] }
         requires rules { rules.statement_rules (items_in self.now.declarations.now) one.now ≡ [] }
         ensures { OnOk result (code.new ≡ joined code.old (statement_piece (items_in self.now.declarations.now) one.now code.old)) }
     {
@@ -142,12 +159,8 @@ impl<'a> Emitter<'a> {
         match &one.verb {
             Verb::Moving(moving) => self.emit_moving(code, line, moving),
             Verb::Arithmetic(arithmetic) => self.emit_calculating(code, line, arithmetic),
-            Verb::Performing(
-                Performing {
-                    performed: Performed::Statements(inside),
-                    turns,
-                },
-            ) => self.emit_performing(code, line, turns, inside.as_slice()),
+            Verb::Branching(branching) => self.emit_branching(code, line, branching),
+            Verb::Performing(performing) => self.emit_performing(code, line, performing),
             Verb::Text(text) => self.emit_texts(code, line, text),
             Verb::Ending(ending) => emit_ending(code, line, *ending),
         }
@@ -162,6 +175,7 @@ impl<'a> Emitter<'a> {
         one: &Arithmetic<Statement>,
     ) -> Result<(), AllocError>
         requires declared { IsDeclared self.now.declarations.now }
+        requires entries { entry_rules self.now.declarations.now.entries.now ≡ [] }
         requires operation { operation_rules (items_in self.now.declarations.now) one.now.operation ≡ [] }
         requires arose { rules.phrase_rules (rules.statement_rules (items_in self.now.declarations.now)) one.now.phrases.arose ≡ [] }
         requires did_not { rules.phrase_rules (rules.statement_rules (items_in self.now.declarations.now)) one.now.phrases.did_not ≡ [] }
@@ -176,6 +190,7 @@ impl<'a> Emitter<'a> {
     #[cycle(statement)]
     fn emit_phrases(&self, code: &mut Code, one: &Phrases<Statement>) -> Result<(), AllocError>
         requires declared { IsDeclared self.now.declarations.now }
+        requires entries { entry_rules self.now.declarations.now.entries.now ≡ [] }
         requires arose { rules.phrase_rules (rules.statement_rules (items_in self.now.declarations.now)) one.now.arose ≡ [] }
         requires did_not { rules.phrase_rules (rules.statement_rules (items_in self.now.declarations.now)) one.now.did_not ≡ [] }
         ensures { OnOk result (code.new ≡ joined code.old (phrases_piece (items_in self.now.declarations.now) (statement_piece (items_in self.now.declarations.now)) one.now code.old)) }
@@ -194,6 +209,7 @@ impl<'a> Emitter<'a> {
     #[cycle(statement)]
     fn emit_phrase(&self, code: &mut Code, one: &Option<Items<Statement>>) -> Result<(), AllocError>
         requires declared { IsDeclared self.now.declarations.now }
+        requires entries { entry_rules self.now.declarations.now.entries.now ≡ [] }
         requires rules { rules.phrase_rules (rules.statement_rules (items_in self.now.declarations.now)) one.now ≡ [] }
         ensures { OnOk result (code.new ≡ joined code.old (phrase_piece (items_in self.now.declarations.now) (statement_piece (items_in self.now.declarations.now)) one.now code.old)) }
     {
@@ -203,8 +219,53 @@ impl<'a> Emitter<'a> {
         }
     }
 
+    /// IF, with its `tick` and the statements in it.
+    #[cycle(statement)]
+    fn emit_branching(
+        &self,
+        code: &mut Code,
+        line: u32,
+        one: &Branching<Statement>,
+    ) -> Result<(), AllocError>
+        requires declared { IsDeclared self.now.declarations.now }
+        requires entries { entry_rules self.now.declarations.now.entries.now ≡ [] }
+        requires rules { rules.branching_rules (items_in self.now.declarations.now) (rules.statement_rules (items_in self.now.declarations.now)) one.now ≡ [] }
+        ensures { OnOk result (code.new ≡ joined code.old (branching_piece (items_in self.now.declarations.now) (statement_piece (items_in self.now.declarations.now)) line one.now code.old)) }
+    {
+        let (condition, statements, otherwise) = parts_of(one);
+        emit_tick(code, line)?;
+        self.emit_condition(code, condition)?;
+        let branch = emit_branch(code)?;
+        self.emit_statements(code, statements)?;
+        let other = emit_jump(code)?;
+        self.emit_phrase(code, otherwise)?;
+        emit_meeting(code, branch, other)
+    }
+
+    /// PERFORM, with its `tick` and the statements in it.
     #[cycle(statement)]
     fn emit_performing(
+        &self,
+        code: &mut Code,
+        line: u32,
+        one: &Performing<Statement>,
+    ) -> Result<(), AllocError>
+        requires declared { IsDeclared self.now.declarations.now }
+        requires entries { entry_rules self.now.declarations.now.entries.now ≡ [] }
+        requires rules { rules.performing_rules (items_in self.now.declarations.now) (rules.statement_rules (items_in self.now.declarations.now)) one.now ≡ [] }
+        ensures { OnOk result (code.new ≡ joined code.old (performing_piece (items_in self.now.declarations.now) (statement_piece (items_in self.now.declarations.now)) line one.now code.old)) }
+    {
+        emit_tick(code, line)?;
+        match &one.performed {
+            Performed::Statements(inside) => {
+                self.emit_turns(code, line, &one.turns, inside.as_slice())
+            }
+        }
+    }
+
+    /// Statements, as often as their PERFORM says.
+    #[cycle(statement)]
+    fn emit_turns(
         &self,
         code: &mut Code,
         line: u32,
@@ -212,13 +273,15 @@ impl<'a> Emitter<'a> {
         inside: &[Statement],
     ) -> Result<(), AllocError>
         requires declared { IsDeclared self.now.declarations.now }
+        requires entries { entry_rules self.now.declarations.now.entries.now ≡ [] }
+        requires turns { rules.turns_rules (items_in self.now.declarations.now) turns.now ≡ [] }
         requires rules { each (rules.statement_rules (items_in self.now.declarations.now)) inside.now ≡ [] }
-        ensures { OnOk result (code.new ≡ joined code.old (performing_piece (items_in self.now.declarations.now) (statement_piece (items_in self.now.declarations.now)) line (record { performed = Performed.Statements inside.now; turns = turns.now }) code.old)) }
+        ensures { OnOk result (code.new ≡ joined code.old (turns_piece (items_in self.now.declarations.now) line turns.now (in_order (statement_piece (items_in self.now.declarations.now)) inside.now) code.old)) }
     {
-        emit_tick(code, line)?;
         match turns {
             Turns::Once => self.emit_statements(code, inside),
             Turns::Times(count) => self.emit_times(code, line, count_of(count), inside),
+            Turns::Until(until) => self.emit_until(code, line, until, inside),
         }
     }
 
@@ -231,6 +294,7 @@ impl<'a> Emitter<'a> {
         inside: &[Statement],
     ) -> Result<(), AllocError>
         requires declared { IsDeclared self.now.declarations.now }
+        requires entries { entry_rules self.now.declarations.now.entries.now ≡ [] }
         requires rules { each (rules.statement_rules (items_in self.now.declarations.now)) inside.now ≡ [] }
         ensures { OnOk result (code.new ≡ joined code.old (times_piece line count (in_order (statement_piece (items_in self.now.declarations.now)) inside.now) code.old)) }
     {
@@ -245,8 +309,13 @@ impl<'a> Emitter<'a> {
 
     /// Statements, in order.
     #[cycle(statement)]
-    fn emit_statements(&self, code: &mut Code, all: &[Statement]) -> Result<(), AllocError>
+    pub(crate) fn emit_statements(
+        &self,
+        code: &mut Code,
+        all: &[Statement],
+    ) -> Result<(), AllocError>
         requires declared { IsDeclared self.now.declarations.now }
+        requires entries { entry_rules self.now.declarations.now.entries.now ≡ [] }
         requires rules { each (rules.statement_rules (items_in self.now.declarations.now)) all.now ≡ [] }
         ensures { OnOk result (code.new ≡ joined code.old (in_order (statement_piece (items_in self.now.declarations.now)) all.now code.old)) }
     {
@@ -258,6 +327,7 @@ impl<'a> Emitter<'a> {
 
     fn emit_sentence(&self, code: &mut Code, one: &Sentence) -> Result<(), AllocError>
         requires declared { IsDeclared self.now.declarations.now }
+        requires entries { entry_rules self.now.declarations.now.entries.now ≡ [] }
         requires rules { rules.sentence_rules (items_in self.now.declarations.now) one.now ≡ [] }
         ensures { OnOk result (code.new ≡ joined code.old (sentence_piece (items_in self.now.declarations.now) one.now code.old)) }
     {
@@ -266,6 +336,7 @@ impl<'a> Emitter<'a> {
 
     fn emit_sentences(&self, code: &mut Code, all: &[Sentence]) -> Result<(), AllocError>
         requires declared { IsDeclared self.now.declarations.now }
+        requires entries { entry_rules self.now.declarations.now.entries.now ≡ [] }
         requires rules { each (rules.sentence_rules (items_in self.now.declarations.now)) all.now ≡ [] }
         ensures { OnOk result (code.new ≡ joined code.old (in_order (sentence_piece (items_in self.now.declarations.now)) all.now code.old)) }
     {
@@ -277,6 +348,7 @@ impl<'a> Emitter<'a> {
 
     fn emit_paragraph(&self, code: &mut Code, one: &Paragraph) -> Result<(), AllocError>
         requires declared { IsDeclared self.now.declarations.now }
+        requires entries { entry_rules self.now.declarations.now.entries.now ≡ [] }
         requires rules { rules.paragraph_rules (items_in self.now.declarations.now) one.now ≡ [] }
         ensures { OnOk result (code.new ≡ joined code.old (paragraph_piece (items_in self.now.declarations.now) one.now code.old)) }
     {
@@ -286,6 +358,7 @@ impl<'a> Emitter<'a> {
 
     fn emit_paragraphs(&self, code: &mut Code, all: &[Paragraph]) -> Result<(), AllocError>
         requires declared { IsDeclared self.now.declarations.now }
+        requires entries { entry_rules self.now.declarations.now.entries.now ≡ [] }
         requires rules { each (rules.paragraph_rules (items_in self.now.declarations.now)) all.now ≡ [] }
         ensures { OnOk result (code.new ≡ joined code.old (in_order (paragraph_piece (items_in self.now.declarations.now)) all.now code.old)) }
     {
@@ -297,6 +370,7 @@ impl<'a> Emitter<'a> {
 
     fn emit_section(&self, code: &mut Code, one: &Section) -> Result<(), AllocError>
         requires declared { IsDeclared self.now.declarations.now }
+        requires entries { entry_rules self.now.declarations.now.entries.now ≡ [] }
         requires rules { rules.section_rules (items_in self.now.declarations.now) one.now ≡ [] }
         ensures { OnOk result (code.new ≡ joined code.old (section_piece (items_in self.now.declarations.now) one.now code.old)) }
     {
@@ -306,6 +380,7 @@ impl<'a> Emitter<'a> {
     /// Sections, in order.
     pub(crate) fn emit_sections(&self, code: &mut Code, all: &[Section]) -> Result<(), AllocError>
         requires declared { IsDeclared self.now.declarations.now }
+        requires entries { entry_rules self.now.declarations.now.entries.now ≡ [] }
         requires rules { rules.sections_rules (items_in self.now.declarations.now) all.now ≡ [] }
         ensures { OnOk result (code.new ≡ joined code.old (in_order (section_piece (items_in self.now.declarations.now)) all.now code.old)) }
     {

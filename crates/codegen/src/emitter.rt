@@ -63,15 +63,23 @@ impl<'a> Emitter<'a> {
         Ok(ItemIndex { number })
     }
 
+    /// The dimensions of an item.
+    pub(crate) fn dimensions_at(&self, number: usize) -> &[Dimension]
+        requires { IsDeclared self.now.declarations.now }
+        ensures { result.now ≡ spec.dimensions_of (slice_get (items_in self.now.declarations.now) number) }
+    {
+        match self.declarations.layout.items.get(number) {
+            Some(found) => found.dimensions.as_slice(),
+            None => &[],
+        }
+    }
+
     /// The dimensions of the item that a name names.
     pub(crate) fn dimensions(&self, name: &QualifiedName) -> &[Dimension]
         requires { IsDeclared self.now.declarations.now }
         ensures { result.now ≡ spec.dimensions_of (slice_get (items_in self.now.declarations.now) (spec.item_number (items_in self.now.declarations.now) name.now)) }
     {
-        match self.declarations.layout.items.get(self.item_number(name)) {
-            Some(found) => found.dimensions.as_slice(),
-            None => &[],
-        }
+        self.dimensions_at(self.item_number(name))
     }
 
     /// The decimals that the item that a name names keeps of a number.

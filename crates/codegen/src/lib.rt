@@ -3,6 +3,8 @@
 
 mod accept;
 mod arithmetic;
+mod condition;
+mod condition_name;
 mod display;
 mod emit;
 mod emitter;
@@ -14,5 +16,6 @@ mod program;
 mod references;
 mod storage;
 mod text;
+mod until;
 
 pub use program::generate;

@@ -3,7 +3,7 @@
 ghost use Rattle.std.specs.Prelude.{◌≡◌, ◌+◌, ◌<◌, ◌≤◌, ◌||◌, length, OnOk, IfOk};
 ghost use Rattle.source_tree.specs.Arithmetic.{is_there};
 ghost use Rattle.codegen.specs.Pieces.{joined};
-ghost use Rattle.codegen.specs.Layout.{branch_code, jump_code};
+ghost use Rattle.codegen.specs.Meeting.{branch_code, jump_code};
 ghost use Rattle.codegen.specs.Phrases.{met};
 
 use code_image::{Code, Instruction};
@@ -25,6 +25,14 @@ pub(crate) fn emit_branch(code: &mut Code) -> Result<usize, AllocError>
     let address = code.instructions.len();
     code.instructions.push(Instruction::Branch { to: 0 })?;
     Ok(address)
+}
+
+/// Where the truth is false, back to an address.
+pub(crate) fn emit_way_back(code: &mut Code, to: usize) -> Result<(), AllocError>
+    ensures { OnOk result (code.new ≡ joined code.old (branch_code to)) }
+{
+    code.instructions.push(Instruction::Branch { to })?;
+    Ok(())
 }
 
 /// On to an address that isn't known yet, and the end of the first way. Answers the address at which the other one begins.

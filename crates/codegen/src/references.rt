@@ -125,7 +125,7 @@ impl<'a> Emitter<'a> {
     }
 
     /// Subscripts in turn, with the dimensions of their item.
-    fn emit_subscripts(
+    pub(crate) fn emit_subscripts(
         &self,
         code: &mut Code,
         dimensions: &[Dimension],

@@ -22,7 +22,9 @@ number_of rule.Size = 48
 number_of rule.Move = 49
 number_of rule.Subscripts = 50
 number_of rule.Number = 51
+number_of rule.Comparison = 52
 number_of rule.Range = 55
+number_of rule.NoProcedure = 56
 number_of rule.AllLiteral = 67
 number_of rule.Limit = 69
 

@@ -36,8 +36,12 @@ pub enum Rule {
     Subscripts,
     /// An operand isn't numeric where it must be, or has decimals in a subscript.
     Number,
+    /// Two sides that can't be compared.
+    Comparison,
     /// A range of values that is backwards.
     Range,
+    /// A procedure division without any paragraph or sentence.
+    NoProcedure,
     /// ALL with a literal in DISPLAY.
     AllLiteral,
     /// A limit of this compiler.
@@ -63,7 +67,9 @@ impl Rule {
             Rule::Move => 49,
             Rule::Subscripts => 50,
             Rule::Number => 51,
+            Rule::Comparison => 52,
             Rule::Range => 55,
+            Rule::NoProcedure => 56,
             Rule::AllLiteral => 67,
             Rule::Limit => 69,
         }

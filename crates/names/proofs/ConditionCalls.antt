@@ -17,7 +17,8 @@ use Rattle.names.specs.declared.conditions.ConditionNames.{ConditionNames}
 use Rattle.names.specs.Positions.{Called, nothing}
 use Rattle.names.specs.Items.{called_item}
 use Rattle.names.specs.Table.{IsTable, calls_in}
-use Rattle.names.specs.Conditions.{called_condition, pair_of, condition_at, condition_of, AreConditions}
+use Rattle.names.specs.declared.conditions.DeclaredCondition.{DeclaredCondition}
+use Rattle.names.specs.Conditions.{called_condition, pair_of, condition_at, condition_of, item_numbers, AreConditions}
 
 -- the condition names of each item, in order
 abbrev lists : Forest → List (List ConditionEntry)
@@ -106,11 +107,14 @@ module _ {B : Type 0} (items : List Placed) (told : ConditionEntry × ℕ → B)
       ∙ ap (λ l. map meant (conditions_of one one.conditions) ++ l) (of_items (suc n) more (λ i x e. subst (λ m. slice_get items m ≡ Some x) (omega arith) (at (suc i) x e)))
       ∙ sym (map-append meant (conditions_of one one.conditions) (all_conditions more))
 
+of_items_all : (entries : List Entry) → behind 0 entries ≡ numbered 0 (map (λ (p : Placed). p.conditions) (items_of entries))
+of_items_all entries = from_start entries ∙ ap (numbered 0) (sym (of_storage 0 (nested entries)))
+
 told_all : {B : Type 0} (entries : List Entry) (told : ConditionEntry × ℕ → B) (meant : NamedCondition → B)
     → ((c : ConditionEntry) (n : ℕ) (one : Placed) → slice_get (items_of entries) n ≡ Some one → told (c, n) ≡ meant (record { condition = c; item = one }))
     → map told (behind 0 entries) ≡ map meant (all_conditions (items_of entries))
 told_all entries told meant same =
-    ap (map told) (from_start entries ∙ ap (numbered 0) (sym (of_storage 0 (nested entries))))
+    ap (map told) (of_items_all entries)
     ∙ of_items (items_of entries) told meant same 0 (items_of entries) (λ i one e. subst (λ m. slice_get (items_of entries) m ≡ Some one) (omega arith) e)
 
 pub items_are_counted : (entries : List Entry) → item_count entries ≡ length (items_of entries)
@@ -123,6 +127,22 @@ called_at items c n one e =
 map_map : {A B C : Type 0} (g : B → C) (f : A → B) (xs : List A) → map g (map f xs) ≡ map (λ x. g (f x)) xs
 map_map g f [] = refl
 map_map g f (x ∷ more) = ap (λ l. g (f x) ∷ l) (map_map g f more)
+
+-- ---- the numbers of their items
+
+abbrev number : ConditionEntry × ℕ → ℕ
+number pair = pair.1
+
+numbers_from : (n : ℕ) (items : List Placed) → map number (numbered n (map (λ (p : Placed). p.conditions) items)) ≡ item_numbers n items
+numbers_from n [] = refl
+numbers_from n (one ∷ more) =
+    map-append number (map (λ c. (c, n)) one.conditions) (numbered (suc n) (map (λ (p : Placed). p.conditions) more))
+    ∙ ap (λ l. l ++ map number (numbered (suc n) (map (λ (p : Placed). p.conditions) more))) (map_map number (λ c. (c, n)) one.conditions)
+    ∙ ap (λ l. map (λ _. n) one.conditions ++ l) (numbers_from (suc n) more)
+
+numbers_are : (entries : List Entry) (all : List DeclaredCondition) → map pair_of all ≡ behind 0 entries
+    → map (λ (one : DeclaredCondition). one.item) all ≡ item_numbers 0 (items_of entries)
+numbers_are entries all pairs = sym (map_map number pair_of all) ∙ ap (map number) (pairs ∙ of_items_all entries) ∙ numbers_from 0 (items_of entries)
 
 -- ---- the walk along the entries
 
@@ -142,6 +162,7 @@ told_end calls entries count all e h =
           ∙ told_all entries (condition_at (map called_item (items_of entries))) called_condition (called_at (items_of entries));
       found = sym (map_map (condition_of (items_of entries)) pair_of all.conditions.items) ∙ ap (map (condition_of (items_of entries))) pairs
           ∙ told_all entries (condition_of (items_of entries)) Some (λ c n one at. ap (option_map (λ (item : Placed). record { condition = c; item = item })) at);
+      numbers = numbers_are entries all.conditions.items pairs;
     }
 
 pub few : (entries : List Entry) → item_count entries ≤ length entries

@@ -1,5 +1,5 @@
 -- The condition names of entries, with their names and those around them.
-use Rattle.std.specs.Prelude.{◌≡◌, ℕ, List, map, Option, Some, get_or, slice_get}
+use Rattle.std.specs.Prelude.{◌≡◌, ℕ, suc, List, [], ◌∷◌, ◌++◌, map, Option, Some, get_or, slice_get}
 use Rattle.std.specs.Option.{option_map}
 use Rattle.source_tree.specs.declared.entry.ConditionEntry.{ConditionEntry}
 use Rattle.source_tree.specs.declared.reference.QualifiedName.{QualifiedName}
@@ -33,11 +33,17 @@ condition_of items one = option_map (λ item. record { condition = one.0; item =
 abbrev pub found_at : List Placed → DeclaredCondition → Option NamedCondition
 found_at items one = condition_of items (pair_of one)
 
+-- The numbers of the items that the condition names of these belong to, where so many stand before them.
+abbrev pub item_numbers : ℕ → List Placed → List ℕ
+item_numbers count [] = []
+item_numbers count (one ∷ more) = map (λ _. count) one.conditions ++ item_numbers (suc count) more
+
 -- These are the condition names of the items, in order.
 pub record AreConditions (items : List Placed) (all : ConditionNames) : Type 0 where
   pub table : IsTable all.names
   pub calls : calls_in all.names ≡ map called_condition (all_conditions items)
   pub found : map (found_at items) all.conditions.items ≡ map Some (all_conditions items)
+  pub numbers : map (λ (one : DeclaredCondition). one.item) all.conditions.items ≡ item_numbers 0 items
 
 -- What was found is what the name names: nothing, the condition name of that number alone, or several.
 abbrev pub IsConditionNamed : List Placed → QualifiedName → LookUp → Type 0

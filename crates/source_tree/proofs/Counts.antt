@@ -13,7 +13,8 @@ use Rattle.source_tree.specs.State.{State, Outcome, then_do, in_turn}
 use Rattle.source_tree.specs.Performing.{turns, most_turns, IsDigit, turns_of}
 use Rattle.source_tree.specs.Setting.{Setting}
 use Rattle.source_tree.specs.Meaning.{exec}
-use Rattle.source_tree.proofs.Runs.{IsRun, in_turn_runs, exec_runs}
+use Rattle.source_tree.proofs.Runs.{IsRun, in_turn_runs}
+use Rattle.source_tree.proofs.StatementRuns.{exec_runs}
 use Rattle.source_tree.proofs.Depth.{then_same, spend_same}
 
 -- the integer with these digits

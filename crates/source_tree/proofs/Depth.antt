@@ -1,4 +1,4 @@
--- A depth above the budget changes nothing.
+-- Runs that are the same up to a budget, put together.
 use Rattle.std.proofs.Common.{◌≡◌, ℕ, zero, suc, ◌<◌, ◌≤◌, List, [], ◌∷◌, refl, ap, ◌∙◌, arith}
 use Rattle.std.specs.Prelude.{Bool, true, false, Option, Some, None, Ok, Err}
 use Rattle.source_tree.specs.declared.performing.Performed.{Performed}
@@ -19,7 +19,7 @@ use Rattle.source_tree.specs.Setting.{Setting}
 use Rattle.source_tree.specs.Performing.{turns, turns_of, repeat, body}
 use Rattle.source_tree.specs.Meaning.{step, exec, sentence, paragraph, range}
 use Rattle.source_tree.proofs.Runs
-use Rattle.source_tree.proofs.Runs.{Within, IsRun, in_turn_runs, body_runs, exec_runs, paragraph_runs}
+use Rattle.source_tree.proofs.Runs.{Within, IsRun, in_turn_runs, body_runs}
 
 -- two runs that are the same up to a budget
 pub record Agrees (n : ℕ) (go other : State → Outcome) : Type 0 where
@@ -46,17 +46,13 @@ in_turn_agrees n run other r a (one ∷ more) = then_agrees n (run one) (other o
 spend_agrees : (n line : ℕ) (go other : State → Outcome) → Agrees n go other → Agrees n (λ s. spend line s go) (λ s. spend line s other)
 spend_agrees n line go other a = record { by = λ s le. spend_same s.budget line s go other (λ left lt. a.by (record s { budget = left; line = line }) (omega arith)) }
 
-turns_agrees : (n line count : ℕ) (go other : State → Outcome) → IsRun go → Agrees n go other → Agrees n (turns line count go) (turns line count other)
+pub turns_agrees : (n line count : ℕ) (go other : State → Outcome) → IsRun go → Agrees n go other → Agrees n (turns line count go) (turns line count other)
 turns_agrees n line zero go other r a = record { by = λ s le. refl }
 turns_agrees n line (suc more) go other r a =
     spend_agrees n line (λ s. then_do (go s) (turns line more go)) (λ s. then_do (other s) (turns line more other))
     (then_agrees n go other (turns line more go) (turns line more other) r a (turns_agrees n line more go other r a))
 
-repeat_agrees : (n line : ℕ) (often : Turns) (go other : State → Outcome) → IsRun go → Agrees n go other → Agrees n (repeat line often go) (repeat line often other)
-repeat_agrees n line Once go other r a = a
-repeat_agrees n line (Times count) go other r a = turns_agrees n line (turns_of count) go other r a
-
-body_agrees : {S : Type 0} (n : ℕ) (run other : S → State → Outcome) → ((one : S) → IsRun (run one)) → ((one : S) → Agrees n (run one) (other one))
+pub body_agrees : {S : Type 0} (n : ℕ) (run other : S → State → Outcome) → ((one : S) → IsRun (run one)) → ((one : S) → Agrees n (run one) (other one))
     → (one : Performed S) → Agrees n (body run one) (body other one)
 body_agrees n run other r a (Statements statements) = in_turn_agrees n run other r a statements
 
@@ -76,40 +72,5 @@ module _ {S : Type 0} (n : ℕ) (run other : S → State → Outcome) (r : (one 
   value_same phrases (Ok after) s le = (phrase_agrees phrases after.size_error).by (record s { storage = after.storage }) le
   value_same phrases (Err fault) s le = refl
 
-  calculating_agrees : (items : List Placed) (one : Arithmetic S) → Agrees n (calculating items run one) (calculating items other one)
+  pub calculating_agrees : (items : List Placed) (one : Arithmetic S) → Agrees n (calculating items run one) (calculating items other one)
   calculating_agrees items one = record { by = λ s le. value_same one.phrases (operation items (is_there one.phrases.arose) one.operation s.storage) s le }
-
-module _ (around : Setting) where
-  -- the statements in a statement run with less budget than it began with
-  step_same : {S : Type 0} (n : ℕ) (run other : S → State → Outcome) → ((one : S) → IsRun (run one)) → ((one : S) → Agrees n (run one) (other one))
-      → (line : ℕ) (one : Verb S) → Agrees n (step around run line one) (step around other line one)
-  step_same n run other r a line (verb.Moving one) = record { by = λ s le. refl }
-  step_same n run other r a line (verb.Arithmetic one) = calculating_agrees n run other r a around.items one
-  step_same n run other r a line (verb.Performing one) = repeat_agrees n line one.turns (body run one.performed) (body other one.performed) (body_runs run r one.performed) (body_agrees n run other r a one.performed)
-  step_same n run other r a line (verb.Text one) = record { by = λ s le. refl }
-  step_same n run other r a line (verb.Ending one) = record { by = λ s le. refl }
-
-  -- two depths above the budget are the same
-  pub exec_same : (d e : ℕ) (one : Statement) (s : State) → s.budget < d → s.budget < e → exec around d one s ≡ exec around e one s
-  exec_same zero e one s below under = absurd (omega arith)
-  exec_same (suc d) zero one s below under = absurd (omega arith)
-  exec_same (suc d) (suc e) one s below under =
-      let line = (out-Statement one).place.line in
-      let verb = (out-Statement one).verb in
-      spend_same s.budget line s (step around (exec around d) line verb) (step around (exec around e) line verb) (λ n lt.
-      (step_same n (exec around d) (exec around e) (exec_runs around d) (λ inner. record { by = λ t le. exec_same d e inner t (omega arith) (omega arith) }) line verb).by (record s { budget = n; line = line }) (omega arith))
-
-  exec_agrees : (n d e : ℕ) → n < d → n < e → (one : Statement) → Agrees n (exec around d one) (exec around e one)
-  exec_agrees n d e below under one = record { by = λ s le. exec_same d e one s (omega arith) (omega arith) }
-
-  module _ (n d e : ℕ) (below : n < d) (under : n < e) where
-    paragraph_agrees : (one : Paragraph) → Agrees n (paragraph (exec around d) one) (paragraph (exec around e) one)
-    paragraph_agrees one =
-        in_turn_agrees n (sentence (exec around d)) (sentence (exec around e)) (λ some. in_turn_runs (exec around d) (exec_runs around d) some.statements)
-        (λ some. in_turn_agrees n (exec around d) (exec around e) (exec_runs around d) (exec_agrees n d e below under) some.statements) one.sentences
-
-    pub range_agrees : (all : List Paragraph) (more : ℕ) → Agrees n (range (exec around d) all more) (range (exec around e) all more)
-    range_agrees [] more = record { by = λ s le. refl }
-    range_agrees (one ∷ rest) zero = paragraph_agrees one
-    range_agrees (one ∷ rest) (suc more) =
-        then_agrees n (paragraph (exec around d) one) (paragraph (exec around e) one) (range (exec around d) rest more) (range (exec around e) rest more) (paragraph_runs around d one) (paragraph_agrees one) (range_agrees rest more)

@@ -2,6 +2,8 @@ pub mod Givens
 pub mod Runs
 pub mod Depth
 pub mod Repeating
+pub mod StatementRuns
+pub mod StatementDepth
 pub mod Programs
 pub mod Counts
 pub mod Examples

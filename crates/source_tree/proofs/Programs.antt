@@ -7,8 +7,9 @@ use Rattle.source_tree.specs.State.{Stopped, Budget, Faulted, Outcome, Done, Ove
 use Rattle.source_tree.specs.Setting.{setting}
 use Rattle.source_tree.specs.Meaning.{paragraphs, start, run_from, told, meaning}
 use Rattle.station.specs.State.{Begins}
-use Rattle.source_tree.proofs.Runs.{Alike, richer, itself, range_runs}
-use Rattle.source_tree.proofs.Depth.{range_agrees}
+use Rattle.source_tree.proofs.Runs.{Alike, richer, itself}
+use Rattle.source_tree.proofs.StatementRuns.{range_runs}
+use Rattle.source_tree.proofs.StatementDepth.{range_agrees}
 
 deep : (program : Program) (given : Given) (depth : ℕ) → given.budget < depth → run_from depth program (start program given) ≡ run_from (suc given.budget) program (start program given)
 deep program given depth below =

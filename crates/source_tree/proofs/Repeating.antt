@@ -1,4 +1,4 @@
--- Turns of UNTIL and the ways of an IF are runs, and two depths above the budget give the same. No tree has them yet.
+-- Turns of UNTIL and the ways of an IF are runs, and two depths above the budget give the same.
 use Rattle.std.proofs.Common.{◌≡◌, ℕ, zero, suc, ◌+◌, ◌<◌, ◌≤◌, List, [], ◌∷◌, refl, ap, ◌∙◌, arith}
 use Rattle.std.specs.Prelude.{Bool, true, false, Option, Some, None, Ok, Err}
 use Rattle.source_tree.specs.declared.until.TestTime.{TestTime}

@@ -173,29 +173,22 @@ accept_date_runs around receiver =
       alike = λ k s. value_alike go storing_runs (find s) k s;
     }
 
-texts_runs : (around : Setting) (one : Text) → IsRun (texts around one)
+pub texts_runs : (around : Setting) (one : Text) → IsRun (texts around one)
 texts_runs around (text.Display operands advancing) = value_runs (λ bytes s. Done (showing bytes s)) show_runs (displayed around.items operands advancing)
 texts_runs around (text.Accept receiver) = accept_runs around receiver
 texts_runs around (text.AcceptDate receiver) = accept_date_runs around receiver
 
-finish_runs : (one : Ending) → IsRun (finish one)
+pub finish_runs : (one : Ending) → IsRun (finish one)
 finish_runs ending.StopRun = stop_runs
 finish_runs ending.Continue = done_runs
 
-turns_runs : (line count : ℕ) (go : State → Outcome) → IsRun go → IsRun (turns line count go)
+pub turns_runs : (line count : ℕ) (go : State → Outcome) → IsRun go → IsRun (turns line count go)
 turns_runs line zero go r = done_runs
 turns_runs line (suc more) go r = spend_runs line (λ s. then_do (go s) (turns line more go)) (then_runs go (turns line more go) r (turns_runs line more go r))
-
-repeat_runs : (line : ℕ) (often : Turns) (go : State → Outcome) → IsRun go → IsRun (repeat line often go)
-repeat_runs line Once go r = r
-repeat_runs line (Times count) go r = turns_runs line (turns_of count) go r
 
 module _ {S : Type 0} (run : S → State → Outcome) (r : (one : S) → IsRun (run one)) where
   pub body_runs : (one : Performed S) → IsRun (body run one)
   body_runs (Statements statements) = in_turn_runs run r statements
-
-  performing_runs : (line : ℕ) (one : Performing S) → IsRun (performing run line one)
-  performing_runs line one = repeat_runs line one.turns (body run one.performed) (body_runs one.performed)
 
 -- A phrase behind stores.
 module _ {S : Type 0} (run : S → State → Outcome) (r : (one : S) → IsRun (run one)) where
@@ -207,33 +200,8 @@ module _ {S : Type 0} (run : S → State → Outcome) (r : (one : S) → IsRun (
   phrase_runs phrases true = in_phrase_runs phrases.arose
   phrase_runs phrases false = in_phrase_runs phrases.did_not
 
-  calculating_runs : (items : List Placed) (one : Arithmetic S) → IsRun (calculating items run one)
+  pub calculating_runs : (items : List Placed) (one : Arithmetic S) → IsRun (calculating items run one)
   calculating_runs items one =
       value_runs (λ after s. phrase_for run one.phrases after.size_error (record s { storage = after.storage }))
       (λ (after : Stored). then_runs (λ s. Done (record s { storage = after.storage })) (phrase_for run one.phrases after.size_error) (storing_runs after.storage) (phrase_runs one.phrases after.size_error))
       (operation items (is_there one.phrases.arose) one.operation)
-
-module _ (around : Setting) where
-  step_runs : {S : Type 0} (run : S → State → Outcome) → ((one : S) → IsRun (run one)) → (line : ℕ) (one : Verb S) → IsRun (step around run line one)
-  step_runs run r line (verb.Moving one) = changing_runs (moving around.items one)
-  step_runs run r line (verb.Arithmetic one) = calculating_runs run r around.items one
-  step_runs run r line (verb.Performing one) = performing_runs run r line one
-  step_runs run r line (verb.Text one) = texts_runs around one
-  step_runs run r line (verb.Ending one) = finish_runs one
-
-  pub exec_runs : (depth : ℕ) (one : Statement) → IsRun (exec around depth one)
-  exec_runs zero one = record { falls = λ s. tt; grows = λ s. itself s.events; alike = λ k s. itself s.events }
-  exec_runs (suc depth) one =
-      let line = (out-Statement one).place.line in
-      let verb = (out-Statement one).verb in
-      spend_runs line (step around (exec around depth) line verb) (step_runs (exec around depth) (exec_runs depth) line verb)
-
-  pub paragraph_runs : (depth : ℕ) (one : Paragraph) → IsRun (paragraph (exec around depth) one)
-  paragraph_runs depth one =
-      in_turn_runs (sentence (exec around depth)) (λ some. in_turn_runs (exec around depth) (exec_runs depth) some.statements) one.sentences
-
-  pub range_runs : (depth : ℕ) (all : List Paragraph) (more : ℕ) → IsRun (range (exec around depth) all more)
-  range_runs depth [] more = stop_runs
-  range_runs depth (one ∷ rest) zero = paragraph_runs depth one
-  range_runs depth (one ∷ rest) (suc more) =
-      then_runs (paragraph (exec around depth) one) (range (exec around depth) rest more) (paragraph_runs depth one) (range_runs depth rest more)

@@ -1,4 +1,4 @@
--- IF (COBOL-85, Nucleus, "The IF statement"). No tree has it yet.
+-- IF (COBOL-85, Nucleus, "The IF statement").
 use Rattle.std.specs.Prelude.{Bool, true, false, List, Option, Some, None}
 use Rattle.source_tree.specs.declared.branching.Branching.{Branching}
 use Rattle.source_tree.specs.declared.branching.Branching.TheVariants.{If}

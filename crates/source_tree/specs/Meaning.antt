@@ -17,6 +17,7 @@ use Rattle.source_tree.specs.State.{State, End, Stopped, Budget, Outcome, Done, 
 use Rattle.source_tree.specs.Setting.{Setting, setting}
 use Rattle.source_tree.specs.Moving.{moving}
 use Rattle.source_tree.specs.Arithmetic.{calculating}
+use Rattle.source_tree.specs.Branching.{branching}
 use Rattle.source_tree.specs.Performing.{performing}
 use Rattle.source_tree.specs.Texts.{texts}
 
@@ -24,20 +25,22 @@ abbrev pub finish : Ending → State → Outcome
 finish ending.StopRun s = Over Stopped s
 finish ending.Continue s = Done s
 
--- One statement at this line after it has used one of the budget, by its family. `run` runs the statements that stand in it.
-abbrev pub step : Setting → {S : Type 0} → (S → State → Outcome) → ℕ → Verb S → State → Outcome
-step around run line (verb.Moving one) s = changing (moving around.items one) s
-step around run line (verb.Arithmetic one) s = calculating around.items run one s
-step around run line (verb.Performing one) s = performing run line one s
-step around run line (verb.Text one) s = texts around one s
-step around run line (verb.Ending one) s = finish one s
+-- One statement at this line after it has used one of the budget, by its family. `run` runs the statements that stand in it; a loop that
+-- goes on until a condition is true has at most `depth` turns.
+abbrev pub step : Setting → {S : Type 0} → (S → State → Outcome) → ℕ → ℕ → Verb S → State → Outcome
+step around run depth line (verb.Moving one) s = changing (moving around.items one) s
+step around run depth line (verb.Arithmetic one) s = calculating around.items run one s
+step around run depth line (verb.Branching one) s = branching around.items run one s
+step around run depth line (verb.Performing one) s = performing run around.items depth line one s
+step around run depth line (verb.Text one) s = texts around one s
+step around run depth line (verb.Ending one) s = finish one s
 
--- A statement, with at most `depth` statements in one another, itself among them. Each of these has used one of the
+-- A statement, with at most `depth` statements and turns in one another, itself among them. Each of these has used one of the
 -- budget, so that a depth above the budget is never used up.
 abbrev pub exec : Setting → ℕ → Statement → State → Outcome
 exec around zero one s = Over Budget s
 exec around (suc depth) one s =
-    spend (out-Statement one).place.line s (step around (exec around depth) (out-Statement one).place.line (out-Statement one).verb)
+    spend (out-Statement one).place.line s (step around (exec around depth) depth (out-Statement one).place.line (out-Statement one).verb)
 
 abbrev pub sentence : (Statement → State → Outcome) → Sentence → State → Outcome
 sentence run one s = in_turn run one.statements s

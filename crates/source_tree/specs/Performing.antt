@@ -1,13 +1,15 @@
 -- PERFORM (COBOL-85, Nucleus, "The PERFORM statement").
-use Rattle.std.specs.Prelude.{ℕ, zero, suc, min, ◌≤◌}
+use Rattle.std.specs.Prelude.{ℕ, zero, suc, min, ◌≤◌, List}
 use Rattle.source_tree.specs.declared.performing.Performed.{Performed}
 use Rattle.source_tree.specs.declared.performing.Performed.TheVariants.{Statements}
 use Rattle.source_tree.specs.declared.performing.Turns.{Turns}
-use Rattle.source_tree.specs.declared.performing.Turns.TheVariants.{Once, Times}
+use Rattle.source_tree.specs.declared.performing.Turns.TheVariants as often
 use Rattle.source_tree.specs.declared.performing.Performing.{Performing}
 use Rattle.source_tree.specs.declared.literal.Integer.{Integer}
 use Rattle.source_tree.specs.Integers.{number_of}
+use Rattle.source_tree.specs.Places.{Placed}
 use Rattle.source_tree.specs.State.{State, Outcome, Done, then_do, in_turn, spend}
+use Rattle.source_tree.specs.Until.{until}
 
 -- Turns of a loop. Each uses one of the budget, at the line of its PERFORM, before what is performed (own choice).
 abbrev pub turns : ℕ → ℕ → (State → Outcome) → State → Outcome
@@ -27,15 +29,17 @@ turns_of one = min (number_of one) most_turns
 abbrev pub IsDigit : ℕ → Type 0
 IsDigit byte = (48 ≤ byte) × (byte ≤ 57)
 
--- how often, as the phrase of a PERFORM at this line says
-abbrev pub repeat : ℕ → Turns → (State → Outcome) → State → Outcome
-repeat line Once body s = body s
-repeat line (Times count) body s = turns line (turns_of count) body s
+-- How often, as the phrase of a PERFORM at this line says. `items` are those of the program; with UNTIL there are at most `depth` turns,
+-- each of which uses one of the budget.
+abbrev pub repeat : List Placed → ℕ → ℕ → Turns → (State → Outcome) → State → Outcome
+repeat items depth line often.Once body s = body s
+repeat items depth line (often.Times count) body s = turns line (turns_of count) body s
+repeat items depth line (often.Until one) body s = until items line depth one body s
 
 module _ {S : Type 0} (run : S → State → Outcome) where
   -- what is performed, one time
   abbrev pub body : Performed S → State → Outcome
   body (Statements statements) s = in_turn run statements s
 
-  abbrev pub performing : ℕ → Performing S → State → Outcome
-  performing line one s = repeat line one.turns (body one.performed) s
+  abbrev pub performing : List Placed → ℕ → ℕ → Performing S → State → Outcome
+  performing items depth line one s = repeat items depth line one.turns (body one.performed) s

@@ -1,11 +1,17 @@
--- The rules of a program: those that it breaks, and where; its entries first, and then its statements in order.
-use Rattle.std.specs.Prelude.{List, [], ◌++◌, Option, Some, None}
+-- The rules of a program: those that it breaks, and where; its entries first, then its statements in order, and then whether there is a
+-- procedure.
+use Rattle.std.specs.Prelude.{List, [], ◌∷◌, ◌++◌, ◌==◌, length, Option, Some, None}
+use Rattle.lexical.specs.declared.place.Place.{Place}
+use Rattle.source_tree.specs.declared.name.Name.{Name}
 use Rattle.source_tree.specs.declared.moving.Moving.{Moving}
 use Rattle.source_tree.specs.declared.moving.Moving.TheVariants.{Move}
 use Rattle.source_tree.specs.declared.text.Text.{Text}
 use Rattle.source_tree.specs.declared.text.Text.TheVariants.{Display, Accept, AcceptDate}
 use Rattle.source_tree.specs.declared.phrases.Phrases.{Phrases}
 use Rattle.source_tree.specs.declared.arithmetic.Arithmetic.{Arithmetic}
+use Rattle.source_tree.specs.declared.performing.Turns.{Turns}
+use Rattle.source_tree.specs.declared.performing.Turns.TheVariants as often
+use Rattle.source_tree.specs.declared.performing.Performing.{Performing}
 use Rattle.source_tree.specs.declared.performing.Performed.{Performed}
 use Rattle.source_tree.specs.declared.performing.Performed.TheVariants.{Statements}
 use Rattle.source_tree.specs.declared.statement.Verb.{Verb}
@@ -18,12 +24,13 @@ use Rattle.source_tree.specs.declared.program.Paragraph.{Paragraph}
 use Rattle.source_tree.specs.declared.program.Section.{Section}
 use Rattle.source_tree.specs.declared.program.Program.{Program}
 use Rattle.source_tree.specs.Places.{Placed, items_of}
-use Rattle.source_tree.specs.Broken.{Broken, each}
+use Rattle.source_tree.specs.Broken.{Broken, where_so, each}
+use Rattle.source_tree.specs.Meaning.{paragraphs}
 use Rattle.source_tree.specs.EntryRules.{entry_rules}
 use Rattle.source_tree.specs.MoveRules.{move_rules}
 use Rattle.source_tree.specs.TextRules.{display_rules, accept_line_rules, accept_date_rules}
 use Rattle.source_tree.specs.ArithmeticRules.{operation_rules}
-use Rattle.source_tree.specs.ConditionRules.{condition_rules}
+use Rattle.source_tree.specs.ConditionRules.{condition_rules, until_rules}
 use Rattle.source_tree.specs.declared.branching.Branching.{Branching}
 use Rattle.source_tree.specs.declared.branching.Branching.TheVariants.{If}
 
@@ -50,7 +57,15 @@ arithmetic_rules items inside one = operation_rules items one.operation ++ phras
 abbrev pub performed_rules : {S : Type 0} → (S → List Broken) → Performed S → List Broken
 performed_rules inside (Statements statements) = each inside statements
 
--- IF, which no tree has yet
+-- how often it is performed
+abbrev pub turns_rules : List Placed → Turns → List Broken
+turns_rules items often.Once = []
+turns_rules items (often.Times count) = []
+turns_rules items (often.Until one) = until_rules items one
+
+abbrev pub performing_rules : List Placed → {S : Type 0} → (S → List Broken) → Performing S → List Broken
+performing_rules items inside one = turns_rules items one.turns ++ performed_rules inside one.performed
+
 abbrev pub branching_rules : List Placed → {S : Type 0} → (S → List Broken) → Branching S → List Broken
 branching_rules items inside (If condition statements otherwise) =
     condition_rules items condition ++ each inside statements ++ phrase_rules inside otherwise
@@ -59,7 +74,8 @@ branching_rules items inside (If condition statements otherwise) =
 abbrev pub verb_rules : List Placed → {S : Type 0} → (S → List Broken) → Verb S → List Broken
 verb_rules items inside (verb.Moving one) = moving_rules items one
 verb_rules items inside (verb.Arithmetic one) = arithmetic_rules items inside one
-verb_rules items inside (verb.Performing one) = performed_rules inside one.performed
+verb_rules items inside (verb.Branching one) = branching_rules items inside one
+verb_rules items inside (verb.Performing one) = performing_rules items inside one
 verb_rules items inside (verb.Text one) = text_rules items one
 verb_rules items inside (verb.Ending one) = []
 
@@ -81,5 +97,19 @@ section_rules items one = each (paragraph_rules items) one.paragraphs
 abbrev pub sections_rules : List Placed → List Section → List Broken
 sections_rules items sections = each (section_rules items) sections
 
+abbrev pub name_place : Place → Option Name → Place
+name_place other None = other
+name_place other (Some name) = name.place
+
+-- where the first section's name stands
+abbrev pub procedures_place : Place → List Section → Place
+procedures_place other [] = other
+procedures_place other (one ∷ more) = name_place other one.name
+
+-- 56: sections without any paragraph or sentence are no procedure.
+abbrev pub procedure_rules : Program → List Broken
+procedure_rules program = where_so (length (paragraphs program) == 0) 56 (procedures_place program.name.place program.sections)
+
 abbrev pub program_rules : Program → List Broken
-program_rules program = entry_rules program.storage ++ sections_rules (items_of program.storage) program.sections
+program_rules program =
+    entry_rules program.storage ++ sections_rules (items_of program.storage) program.sections ++ procedure_rules program

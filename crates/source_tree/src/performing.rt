@@ -1,6 +1,7 @@
 //! PERFORM.
 
 use crate::literal::Integer;
+use crate::until::Until;
 use sqlite_items::Items;
 
 /// What is performed (COBOL-85, Nucleus, "The PERFORM statement").
@@ -16,6 +17,8 @@ pub enum Turns {
     Once,
     /// TIMES.
     Times(Integer),
+    /// UNTIL, with VARYING or without.
+    Until(Until),
 }
 
 #[derive(Debug, Drop)]

@@ -1,6 +1,7 @@
 //! Statements.
 
 use crate::arithmetic::Arithmetic;
+use crate::branching::Branching;
 use crate::ending::Ending;
 use crate::moving::Moving;
 use crate::performing::Performing;
@@ -12,6 +13,7 @@ use lexical::Place;
 pub enum Verb<S> {
     Moving(Moving),
     Arithmetic(Arithmetic<S>),
+    Branching(Branching<S>),
     Performing(Performing<S>),
     Text(Text),
     Ending(Ending),

@@ -6,8 +6,10 @@ pub mod Multiplying
 pub mod Dividing
 pub mod Computing
 pub mod Arithmetic
+pub mod Branching
 pub mod Continuing
 pub mod Display
 pub mod Moving
+pub mod Turning
 pub mod Performing
 pub mod StopRun

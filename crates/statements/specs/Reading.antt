@@ -10,6 +10,7 @@ use Rattle.statements.specs.declared.verb.VerbWord.TheVariants as v
 use Rattle.statements.specs.Verbs.{verb_at, begins_statement}
 use Rattle.statements.specs.Accepting.{accepting_reader}
 use Rattle.statements.specs.Arithmetic.{arithmetic_reader}
+use Rattle.statements.specs.Branching.{branching_reader}
 use Rattle.statements.specs.Continuing.{continuing_reader}
 use Rattle.statements.specs.Display.{display_reader}
 use Rattle.statements.specs.Moving.{moving_reader}
@@ -27,8 +28,9 @@ module _ (depth : ℕ) (statement : Parser Statement) where
   by_verb (Some (v.Arithmetic one)) = arithmetic_reader depth (statements statement) one
   by_verb (Some v.Continue) = continuing_reader
   by_verb (Some v.Display) = display_reader
+  by_verb (Some v.If) = branching_reader depth (statements statement)
   by_verb (Some v.Move) = moving_reader
-  by_verb (Some v.Perform) = performing_reader (statements statement)
+  by_verb (Some v.Perform) = performing_reader depth (statements statement)
   by_verb (Some v.Stop) = stop_run_reader
 
   -- the verb decides

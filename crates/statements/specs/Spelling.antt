@@ -14,6 +14,7 @@ use Rattle.grammar.specs.Parts.{Part, ◌then◌, several, tested, here, period}
 use Rattle.statements.specs.Verbs.{begins_statement}
 use Rattle.statements.specs.Accepting.{accepting}
 use Rattle.statements.specs.Arithmetic.{arithmetic}
+use Rattle.statements.specs.Branching.{branching}
 use Rattle.statements.specs.Continuing.{continuing}
 use Rattle.statements.specs.Display.{display}
 use Rattle.statements.specs.Moving.{moving}
@@ -46,7 +47,8 @@ module _ (depth : ℕ) (statement : Statement → Part) where
   abbrev pub verb_line : Verb Statement → Part
   verb_line (verb.Moving one) = moving_line one
   verb_line (verb.Arithmetic one) = arithmetic depth (statements statement) one
-  verb_line (verb.Performing one) = performing (statements statement) one
+  verb_line (verb.Branching one) = branching depth (statements statement) one
+  verb_line (verb.Performing one) = performing depth (statements statement) one
   verb_line (verb.Text one) = text_line one
   verb_line (verb.Ending one) = ending_line one
 

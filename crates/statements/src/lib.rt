@@ -5,6 +5,7 @@
 mod accepting;
 mod adding;
 mod arithmetic;
+mod branching;
 mod computing;
 mod continuing;
 mod display;
@@ -17,6 +18,7 @@ mod receivers;
 mod sentences;
 mod stop_run;
 mod subtracting;
+mod turning;
 mod verb;
 
 pub use sentences::sentence;

@@ -68,6 +68,7 @@ impl<F: Fn(Global, &mut Tokens<'_>, usize) -> Result<Statement, ReadFault>> Nest
             Some(VerbWord::Arithmetic(verb)) => self.arithmetic(verb, tokens),
             Some(VerbWord::Continue) => continuing(tokens),
             Some(VerbWord::Display) => display(self.alloc, tokens),
+            Some(VerbWord::If) => self.branching(tokens),
             Some(VerbWord::Move) => moving(self.alloc, tokens),
             Some(VerbWord::Perform) => self.performing(tokens),
             Some(VerbWord::Stop) => stop_run(tokens),

@@ -6,7 +6,6 @@ use Rattle.source_tree.specs.EntryRules.{entry_rules}
 use Rattle.source_tree.specs.Places.{items_of}
 use Rattle.source_tree.specs.Rules.{sections_rules}
 use Rattle.check_rules.specs.Named.{items_in}
-use Rattle.codegen.proofs.Kept.{front_kept, back_kept}
 use Rattle.source_tree.specs.Meaning.{meaning}
 use Rattle.source_tree.specs.Rules.{program_rules}
 use Rattle.code_image.specs.declared.code.Code.{Code}
@@ -14,20 +13,24 @@ use Rattle.code_image.specs.Demands.{IsVerified}
 use Rattle.code_image.specs.Table.{Runs}
 use Rattle.code_image.proofs.Determinism.{one_run}
 use Rattle.codegen.specs.Layout.{code_of}
-use Rattle.codegen.proofs.Verified.{verified, runs}
+use Rattle.codegen.proofs.Verified.{entries_kept, sections_kept, verified, runs}
 use Rattle.codegen.proofs.program.generate.Goals as goal
 
 pub storage_code-requires-clause-rules : goal.storage_code-requires-clause-rules
 storage_code-requires-clause-rules c =
     let program = c.args.checked.now in
-    ap entry_rules c.declarations-declarations.ensures.entries ∙ front_kept (entry_rules program.storage) (sections_rules (items_of program.storage) program.sections) c.program-program.ensures.kept
+    ap entry_rules c.declarations-declarations.ensures.entries ∙ entries_kept program c.program-program.ensures.kept
+
+pub emit_sections-requires-clause-entries : goal.emit_sections-requires-clause-entries
+emit_sections-requires-clause-entries c =
+    ap entry_rules c.declarations-declarations.ensures.entries ∙ entries_kept c.args.checked.now c.program-program.ensures.kept
 
 pub emit_sections-requires-clause-rules : goal.emit_sections-requires-clause-rules
 emit_sections-requires-clause-rules c =
     let program = c.args.checked.now in
     ap (sections_rules (items_in c.declarations-declarations.result.now)) (c.as_slice.ensures ∙ ap (λ (p : Program). p.sections) c.program-program.ensures.same)
     ∙ ap (λ (l : List Entry). sections_rules (items_of l) program.sections) c.declarations-declarations.ensures.entries
-    ∙ back_kept (entry_rules program.storage) (sections_rules (items_of program.storage) program.sections) c.program-program.ensures.kept
+    ∙ sections_kept program c.program-program.ensures.kept
 
 pub returns-clause-ends : goal.returns-clause-ends
 returns-clause-ends c =

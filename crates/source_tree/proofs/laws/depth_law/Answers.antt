@@ -1,5 +1,5 @@
 use Rattle.source_tree.proofs.Programs.{depth_is_enough}
-use Rattle.source_tree.proofs.Depth.{exec_same}
+use Rattle.source_tree.proofs.StatementDepth.{exec_same}
 use Rattle.source_tree.proofs.laws.depth_law.Goals as goal
 
 pub returns-clause-statement : goal.returns-clause-statement

@@ -1,5 +1,5 @@
 use Rattle.source_tree.proofs.Programs.{more_tells_more}
-use Rattle.source_tree.proofs.Runs.{exec_runs}
+use Rattle.source_tree.proofs.StatementRuns.{exec_runs}
 use Rattle.source_tree.proofs.laws.output_law.Goals as goal
 
 pub returns-clause-statement : goal.returns-clause-statement

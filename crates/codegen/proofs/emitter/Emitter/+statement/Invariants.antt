@@ -19,7 +19,25 @@ abbrev pub decreases-emit_times : goal.decreases-emit_times
 decreases-emit_times l = 8 * goal.size-emit_times l + 2
 
 abbrev pub decreases-emit_performing : goal.decreases-emit_performing
-decreases-emit_performing l = 8 * goal.size-emit_performing l + 3
+decreases-emit_performing l = 8 * goal.size-emit_performing l + 6
+
+abbrev pub decreases-emit_turns : goal.decreases-emit_turns
+decreases-emit_turns l = 8 * goal.size-emit_turns l + 5
+
+abbrev pub decreases-emit_until : goal.decreases-emit_until
+decreases-emit_until l = 8 * goal.size-emit_until l + 4
+
+abbrev pub decreases-emit_until_before : goal.decreases-emit_until_before
+decreases-emit_until_before l = 8 * goal.size-emit_until_before l + 3
+
+abbrev pub decreases-emit_until_after : goal.decreases-emit_until_after
+decreases-emit_until_after l = 8 * goal.size-emit_until_after l + 3
+
+abbrev pub decreases-emit_turn_before : goal.decreases-emit_turn_before
+decreases-emit_turn_before l = 8 * goal.size-emit_turn_before l + 2
+
+abbrev pub decreases-emit_branching : goal.decreases-emit_branching
+decreases-emit_branching l = 8 * goal.size-emit_branching l + 4
 
 abbrev pub decreases-emit_phrase : goal.decreases-emit_phrase
 decreases-emit_phrase l = 8 * goal.size-emit_phrase l + 2

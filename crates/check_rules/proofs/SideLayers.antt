@@ -1,0 +1,52 @@
+-- A side of a relation, by the form of its expression.
+use Rattle.std.proofs.Common.{◌≡◌, List, [], ◌∷◌, None, Some, refl, sym, ap, ◌∙◌}
+use Rattle.std.specs.Prelude.{Option}
+use Rattle.lexical.specs.declared.place.Place.{Place}
+use Rattle.source_tree.specs.declared.expression.Operand.{Operand}
+use Rattle.source_tree.specs.declared.expression.Operator.{Operator}
+use Rattle.source_tree.specs.declared.expression.Expression.{Expression, roll-Expression, out-Expression, out-roll-Expression}
+use Rattle.source_tree.specs.declared.expression.Expression.TheVariants as expression
+use Rattle.source_tree.specs.declared.expression.Expression.TheVariants.{rolls-Operand, rolls-Negated, rolls-Chain}
+use Rattle.source_tree.specs.declared.expression.Expression.TheOpen.{Expression-F}
+use Rattle.source_tree.specs.declared.expression.Expression.TheFolds.{map-Expression, fold-roll-Expression}
+use Rattle.source_tree.specs.Places.{Placed}
+use Rattle.source_tree.specs.Broken.{Broken}
+use Rattle.source_tree.specs.LookUp.{first}
+use Rattle.source_tree.specs.NameRules.{named}
+use Rattle.source_tree.specs.Conditions.{alone}
+use Rattle.source_tree.specs.ConditionRules.{Either, compared_only, operand_place, place_layer, expression_place}
+
+-- ---- the operand that it is alone
+
+pub alone_operand : (one : Operand) → alone (out-Expression (expression.Operand one)) ≡ Some one
+alone_operand one = ap (λ (e : Expression). alone (out-Expression e)) (sym (rolls-Operand one)) ∙ ap alone (out-roll-Expression (Expression-F.Operand one))
+
+pub alone_negated : (inner : Expression) → alone (out-Expression (expression.Negated inner)) ≡ None
+alone_negated inner = ap (λ (e : Expression). alone (out-Expression e)) (sym (rolls-Negated inner)) ∙ ap alone (out-roll-Expression (Expression-F.Negated inner))
+
+pub alone_chain : (one : Expression) (more : List (Operator × Expression)) → alone (out-Expression (expression.Chain one more)) ≡ None
+alone_chain one more = ap (λ (e : Expression). alone (out-Expression e)) (sym (rolls-Chain one more)) ∙ ap alone (out-roll-Expression (Expression-F.Chain one more))
+
+-- ---- where it begins
+
+place_rolled : (one : Expression-F Expression) → expression_place (roll-Expression one) ≡ place_layer (map-Expression Expression Place expression_place one)
+unfolding expression_place
+place_rolled one = fold-roll-Expression Place place_layer one
+
+pub place_of_operand : (one : Operand) → expression_place (expression.Operand one) ≡ operand_place one
+place_of_operand one = ap expression_place (sym (rolls-Operand one)) ∙ place_rolled (Expression-F.Operand one)
+
+pub place_of_negated : (inner : Expression) → expression_place (expression.Negated inner) ≡ expression_place inner
+place_of_negated inner = ap expression_place (sym (rolls-Negated inner)) ∙ place_rolled (Expression-F.Negated inner)
+
+pub place_of_chain : (one : Expression) (more : List (Operator × Expression)) → expression_place (expression.Chain one more) ≡ expression_place one
+place_of_chain one more = ap expression_place (sym (rolls-Chain one more)) ∙ place_rolled (Expression-F.Chain one more)
+
+-- ---- what it is beside another
+
+-- What doesn't name one item is either.
+pub either_unnamed : (place : Place) (found : List Placed) (broken : Broken) → ((rules : Placed → List Broken) → first (named place rules found) ≡ Some broken)
+    → compared_only found ≡ Either
+either_unnamed place [] broken h = refl
+either_unnamed place (one ∷ []) broken h = let no : ◌≡◌ {A = Option Broken} None (Some broken) = h (λ found. []) in cc
+either_unnamed place (one ∷ other ∷ more) broken h = refl

@@ -1,0 +1,43 @@
+//! Rule 56: sections without any paragraph or sentence are no procedure.
+
+ghost use Rattle.std.specs.Prelude.{◌≡◌, ◌==◌, length};
+ghost use Rattle.entry_rules.specs.Checks.{Finds};
+ghost use Rattle.source_tree.specs.Meaning.{paragraphs_in};
+ghost use Rattle.source_tree.specs.Rules as spec;
+
+use entry_rules::{BrokenRule, Rule};
+use source_tree::{Place, Program, Section};
+
+/// No section has a paragraph.
+fn are_empty(sections: &[Section]) -> bool
+    ensures { result ≡ (length (paragraphs_in sections.now) == 0) }
+{
+    for one in sections {
+        if !one.paragraphs.as_slice().is_empty() {
+            return false;
+        }
+    }
+    true
+}
+
+/// Where the first section's name stands; where it has none, that place.
+fn procedures_place(other: Place, sections: &[Section]) -> Place
+    ensures { result ≡ spec.procedures_place other sections.now }
+{
+    match sections {
+        [] => other,
+        [one, ..] => match &one.name {
+            None => other,
+            Some(name) => name.place,
+        },
+    }
+}
+
+/// There is a procedure.
+pub(crate) fn procedure_rules(program: &Program) -> Result<(), BrokenRule>
+    ensures { Finds result (spec.procedure_rules program.now) }
+{
+    let sections = program.sections.as_slice();
+    let place = procedures_place(program.name.place, sections);
+    Rule::NoProcedure.broken_if(are_empty(sections), place)
+}

@@ -1,0 +1,128 @@
+//! The rules of relations: 52 besides those of their sides (COBOL-85, Nucleus, "Relation condition").
+
+ghost use Rattle.std.specs.Prelude.{◌≡◌, Some};
+ghost use Rattle.std.specs.Option.{option_copied};
+ghost use Rattle.entry_rules.specs.Checks.{Finds};
+ghost use Rattle.source_tree.specs.declared.expression.Expression.{out-Expression};
+ghost use Rattle.source_tree.specs.Conditions as tree;
+ghost use Rattle.source_tree.specs.ConditionRules as spec;
+ghost use Rattle.check_rules.specs.Named.{IsDeclared, items_in};
+ghost use Rattle.check_rules.specs.Comparing.{meant};
+
+use crate::compared::Compared;
+use crate::declarations::Declarations;
+use crate::forms::literal_rules;
+use entry_rules::{BrokenRule, Rule};
+use source_tree::{Expression, Operand, Place, Side};
+
+/// The operand that an expression is, if it is one alone.
+#[tactic(auto, using(crate::proofs::SideLayers::alone_operand, crate::proofs::SideLayers::alone_negated, crate::proofs::SideLayers::alone_chain))]
+fn operand_alone(one: &Expression) -> Option<&Operand>
+    ensures { option_copied result ≡ tree.alone (out-Expression one.now) }
+{
+    match one {
+        Expression::Operand(operand) => Some(operand),
+        Expression::Negated(_) => None,
+        Expression::Chain { .. } => None,
+    }
+}
+
+/// The side is a literal.
+fn is_literal_alone(one: &Side) -> bool
+    ensures { result ≡ spec.is_literal_alone (tree.alone_side one.now) }
+{
+    match one {
+        Side::Expression(expression) => {
+            matches!(operand_alone(expression), Some(Operand::Literal(_)))
+        }
+        Side::Literal(_) => true,
+    }
+}
+
+fn operand_place(one: &Operand) -> Place
+    ensures { result ≡ spec.operand_place one.now }
+{
+    match one {
+        Operand::Item(reference) => reference.item.name.place,
+        Operand::Literal(literal) => literal.place,
+    }
+}
+
+/// Where an expression begins.
+#[tactic(auto, using(crate::proofs::SideLayers::place_of_operand, crate::proofs::SideLayers::place_of_negated, crate::proofs::SideLayers::place_of_chain))]
+fn expression_place(one: &Expression) -> Place
+    ensures { result ≡ spec.expression_place one.now }
+{
+    match one {
+        Expression::Operand(operand) => operand_place(operand),
+        Expression::Negated(inner) => expression_place(inner.get()),
+        Expression::Chain { first, .. } => expression_place(first.get()),
+    }
+}
+
+fn side_place(one: &Side) -> Place
+    ensures { result ≡ spec.side_place one.now }
+{
+    match one {
+        Side::Expression(expression) => expression_place(expression),
+        Side::Literal(literal) => literal.place,
+    }
+}
+
+impl<'a> Declarations<'a> {
+    /// A side by itself: an operand alone of any kind, or numbers.
+    fn side_rules(&self, one: &Side) -> Result<(), BrokenRule>
+        requires { IsDeclared self.now }
+        ensures { Finds result (spec.side_rules (items_in self.now) one.now) }
+    {
+        match one {
+            Side::Expression(expression) => match operand_alone(expression) {
+                Some(operand) => self.operand_rules(operand),
+                None => self.expression_rules(expression),
+            },
+            Side::Literal(literal) => literal_rules(literal),
+        }
+    }
+
+    /// What an operand is beside another.
+    fn operand_compared(&self, one: &Operand) -> Compared
+        requires { IsDeclared self.now }
+        ensures { meant result ≡ spec.compared_alone (items_in self.now) (Some one.now) }
+    {
+        match one {
+            Operand::Item(reference) => match self.item_named(&reference.item) {
+                Ok(found) => Compared::of_kind(found.item.kind),
+                Err(_) => Compared::Either,
+            },
+            Operand::Literal(literal) => Compared::of_literal(&literal.value),
+        }
+    }
+
+    /// What a side is beside another.
+    fn side_compared(&self, one: &Side) -> Compared
+        requires { IsDeclared self.now }
+        ensures { meant result ≡ spec.compared_alone (items_in self.now) (tree.alone_side one.now) }
+    {
+        match one {
+            Side::Expression(expression) => match operand_alone(expression) {
+                Some(operand) => self.operand_compared(operand),
+                None => Compared::Number,
+            },
+            Side::Literal(literal) => Compared::of_literal(&literal.value),
+        }
+    }
+
+    /// Two sides, which can be compared: not two literals, not a number with decimals or in another usage beside characters.
+    pub fn relation_rules(&self, left: &Side, right: &Side) -> Result<(), BrokenRule>
+        requires { IsDeclared self.now }
+        ensures { Finds result (spec.relation_rules (items_in self.now) left.now right.now) }
+    {
+        self.side_rules(left)?;
+        self.side_rules(right)?;
+        let are_literals = is_literal_alone(left) && is_literal_alone(right);
+        let may_compare = self
+            .side_compared(left)
+            .may_compare(self.side_compared(right));
+        Rule::Comparison.broken_if(are_literals || !may_compare, side_place(left))
+    }
+}

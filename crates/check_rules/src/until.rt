@@ -1,0 +1,49 @@
+//! The rules of how often a PERFORM turns: those of UNTIL and VARYING (COBOL-85, Nucleus, "The PERFORM statement").
+
+ghost use Rattle.std.specs.Prelude.{◌≡◌, Some};
+ghost use Rattle.entry_rules.specs.Checks.{Finds};
+ghost use Rattle.source_tree.specs.ConditionRules as spec;
+ghost use Rattle.source_tree.specs.Rules as rules;
+ghost use Rattle.check_rules.specs.Named.{IsDeclared, items_in};
+
+use crate::asked::Asked;
+use crate::declarations::Declarations;
+use entry_rules::BrokenRule;
+use source_tree::{Turns, Until, Varying};
+use std::slice;
+
+impl<'a> Declarations<'a> {
+    /// VARYING: FROM is a number that is moved, and BY one that is added.
+    fn varying_rules(&self, one: &Varying) -> Result<(), BrokenRule>
+        requires { IsDeclared self.now }
+        ensures { Finds result (spec.varying_rules (items_in self.now) (Some one.now)) }
+    {
+        self.move_rules(&one.from, slice::from_ref(&one.item))?;
+        self.number_rules(&one.from)?;
+        self.number_rules(&one.by)?;
+        self.item_rules(Asked::Numeric, &one.item)
+    }
+
+    /// UNTIL, with VARYING or without.
+    pub fn until_rules(&self, one: &Until) -> Result<(), BrokenRule>
+        requires { IsDeclared self.now }
+        ensures { Finds result (spec.until_rules (items_in self.now) one.now) }
+    {
+        if let Some(varying) = &one.varying {
+            self.varying_rules(varying)?;
+        }
+        self.condition_rules(&one.condition)
+    }
+
+    /// How often a PERFORM turns.
+    pub(crate) fn turns_rules(&self, one: &Turns) -> Result<(), BrokenRule>
+        requires { IsDeclared self.now }
+        ensures { Finds result (rules.turns_rules (items_in self.now) one.now) }
+    {
+        match one {
+            Turns::Once => Ok(()),
+            Turns::Times(_) => Ok(()),
+            Turns::Until(until) => self.until_rules(until),
+        }
+    }
+}

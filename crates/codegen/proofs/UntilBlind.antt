@@ -1,0 +1,73 @@
+-- The code of turns up to where a condition is true doesn't depend on the instructions before it, but on how many there are.
+use Rattle.std.proofs.Common.{ℕ, false, List, [], ◌∷◌, length, Option, Some, None, ap, ◌∙◌}
+use Rattle.source_tree.specs.declared.moving.Moving.TheVariants.{Move}
+use Rattle.source_tree.specs.declared.until.TestTime.{TestTime}
+use Rattle.source_tree.specs.declared.until.TestTime.TheVariants.{Before, After}
+use Rattle.source_tree.specs.declared.until.Varying.{Varying}
+use Rattle.source_tree.specs.declared.until.Until.{Until}
+use Rattle.source_tree.specs.Places.{Placed}
+use Rattle.source_tree.specs.Until.{vary_operation}
+use Rattle.data_instructions.specs.declared.instruction.DataInstruction.TheVariants as i
+use Rattle.code_image.specs.declared.code.Code.{Code}
+use Rattle.code_image.specs.declared.instruction.Instruction.TheVariants.{Tick}
+use Rattle.codegen.specs.Pieces.{Piece, joined, both, plain}
+use Rattle.codegen.specs.Meeting.{branch_code, either_piece, nothing_piece}
+use Rattle.codegen.specs.DataCode.{work_piece}
+use Rattle.codegen.specs.ConditionCode.{condition_piece}
+use Rattle.codegen.specs.UntilCode.{tick_piece, turning_piece, until_before_piece, until_after_piece, until_from_piece, vary_begin_piece, vary_on_piece, until_piece}
+use Rattle.codegen.proofs.Blind.{Blind, constant_blind, both_blind, work_blind, moving_blind}
+use Rattle.codegen.proofs.BlindArithmetic.{arithmetic_blind}
+use Rattle.codegen.proofs.Either.{either_blind}
+use Rattle.codegen.proofs.ConditionBlind.{nothing_blind, condition_blind}
+
+pub tick_blind : (line : ℕ) → Blind (tick_piece line)
+tick_blind line = constant_blind (plain (Tick line ∷ []))
+
+-- the branch back knows how many instructions stand before the turn
+pub turning_blind : (line : ℕ) (turn : Piece) → Blind turn → Blind (turning_piece line turn)
+turning_blind line turn f = record {
+  by = λ a b alike.
+      let same = (both_blind (tick_piece line) turn (tick_blind line) f).by a b alike in
+      ap (λ (c : Code). joined c (branch_code (length a.instructions))) same
+      ∙ ap (λ (n : ℕ). joined (both (tick_piece line) turn b) (branch_code n)) alike.count;
+}
+
+module _ (line : ℕ) (test onward body : Piece) (f : Blind test) (g : Blind onward) (h : Blind body) where
+  -- a turn with its test before the next one
+  pub turn_before_blind : Blind (turning_piece line (both body (both onward test)))
+  turn_before_blind = turning_blind line (both body (both onward test)) (both_blind body (both onward test) h (both_blind onward test g f))
+
+  until_before_blind : Blind (until_before_piece line test onward body)
+  until_before_blind =
+      let turns = turning_piece line (both body (both onward test)) in
+      both_blind test (either_piece nothing_piece turns) f (either_blind nothing_piece turns nothing_blind turn_before_blind)
+
+  -- what goes on where the test is false
+  pub onward_blind : Blind (both onward (work_piece i.ClearTruth))
+  onward_blind = both_blind onward (work_piece i.ClearTruth) g (work_blind i.ClearTruth)
+
+  until_after_blind : Blind (until_after_piece line test onward body)
+  until_after_blind =
+      let ways = either_piece nothing_piece (both onward (work_piece i.ClearTruth)) in
+      turning_blind line (both body (both test ways))
+      (both_blind body (both test ways) h (both_blind test ways f (either_blind nothing_piece (both onward (work_piece i.ClearTruth)) nothing_blind onward_blind)))
+
+  until_from_blind : (tests : TestTime) → Blind (until_from_piece tests line test onward body)
+  until_from_blind Before = until_before_blind
+  until_from_blind After = until_after_blind
+
+module _ (items : List Placed) where
+  vary_begin_blind : (one : Option Varying) → Blind (vary_begin_piece items one)
+  vary_begin_blind None = nothing_blind
+  vary_begin_blind (Some one) = moving_blind items (Move one.from (one.item ∷ []))
+
+  pub vary_on_blind : (one : Option Varying) → Blind (vary_on_piece items one)
+  vary_on_blind None = nothing_blind
+  vary_on_blind (Some one) = arithmetic_blind items false (vary_operation one)
+
+  pub until_blind : (line : ℕ) (one : Until) (body : Piece) → Blind body → Blind (until_piece items line one body)
+  until_blind line one body f =
+      let test = condition_piece items one.condition in
+      let onward = vary_on_piece items one.varying in
+      both_blind (vary_begin_piece items one.varying) (until_from_piece one.test line test onward body) (vary_begin_blind one.varying)
+      (until_from_blind line test onward body (condition_blind items one.condition) (vary_on_blind one.varying) f one.test)

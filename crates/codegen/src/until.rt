@@ -1,0 +1,158 @@
+//! The code of PERFORM with UNTIL (COBOL-85, Nucleus, "The PERFORM statement").
+
+ghost use Rattle.std.specs.Prelude.{◌≡◌, [], false, OnOk};
+ghost use Rattle.source_tree.specs.Broken.{each};
+ghost use Rattle.source_tree.specs.EntryRules.{entry_rules};
+ghost use Rattle.source_tree.specs.ConditionRules.{varying_rules, until_rules};
+ghost use Rattle.source_tree.specs.Rules as rules;
+ghost use Rattle.check_rules.specs.Named.{IsDeclared, items_in};
+ghost use Rattle.codegen.specs.Pieces.{joined, both, in_order};
+ghost use Rattle.codegen.specs.Meeting.{either_piece, nothing_piece};
+ghost use Rattle.codegen.specs.DataCode.{work_piece};
+ghost use Rattle.codegen.specs.ConditionCode.{condition_piece};
+ghost use Rattle.codegen.specs.UntilCode as spec;
+ghost use Rattle.codegen.specs.Layout.{statement_piece};
+ghost use Rattle.data_instructions.specs.declared.instruction.DataInstruction.TheVariants as i;
+
+use crate::arithmetic::discard;
+use crate::emit::emit_tick;
+use crate::emitter::Emitter;
+use crate::phrases::{emit_branch, emit_jump, emit_meeting, emit_way_back};
+use crate::references::emit_work;
+use code_image::Code;
+use data_instructions::DataInstruction;
+use source_tree::{Operator, Statement, TestTime, Until, Varying};
+use std::alloc::AllocError;
+
+impl<'a> Emitter<'a> {
+    /// VARYING begins: FROM is moved in.
+    fn emit_vary_begin(&self, code: &mut Code, one: &Option<Varying>) -> Result<(), AllocError>
+        requires declared { IsDeclared self.now.declarations.now }
+        requires rules { varying_rules (items_in self.now.declarations.now) one.now ≡ [] }
+        ensures { OnOk result (code.new ≡ joined code.old (spec.vary_begin_piece (items_in self.now.declarations.now) one.now code.old)) }
+    {
+        let Some(varying) = one else {
+            return Ok(());
+        };
+        self.emit_sender(code, &varying.from)?;
+        self.emit_taking(code, DataInstruction::Move, &varying.item)
+    }
+
+    /// VARYING goes on: BY is added.
+    fn emit_vary_on(&self, code: &mut Code, one: &Option<Varying>) -> Result<(), AllocError>
+        requires declared { IsDeclared self.now.declarations.now }
+        requires rules { varying_rules (items_in self.now.declarations.now) one.now ≡ [] }
+        ensures { OnOk result (code.new ≡ joined code.old (spec.vary_on_piece (items_in self.now.declarations.now) one.now code.old)) }
+    {
+        let Some(varying) = one else {
+            return Ok(());
+        };
+        emit_work(code, DataInstruction::ClearTruth)?;
+        self.emit_value(code, &varying.by)?;
+        self.emit_update(code, false, Operator::Add, false, &varying.item)?;
+        emit_work(code, discard())
+    }
+
+    /// Where the truth is false, VARYING goes on, and the truth is false behind it.
+    fn emit_onward(&self, code: &mut Code, one: &Option<Varying>) -> Result<(), AllocError>
+        requires declared { IsDeclared self.now.declarations.now }
+        requires rules { varying_rules (items_in self.now.declarations.now) one.now ≡ [] }
+        ensures { OnOk result (code.new ≡ joined code.old (either_piece nothing_piece (both (spec.vary_on_piece (items_in self.now.declarations.now) one.now) (work_piece i.ClearTruth)) code.old)) }
+    {
+        let branch = emit_branch(code)?;
+        let other = emit_jump(code)?;
+        self.emit_vary_on(code, one)?;
+        emit_work(code, DataInstruction::ClearTruth)?;
+        emit_meeting(code, branch, other)
+    }
+
+    /// Statements up to where a condition is true.
+    #[cycle(statement)]
+    pub(crate) fn emit_until(
+        &self,
+        code: &mut Code,
+        line: u32,
+        one: &Until,
+        inside: &[Statement],
+    ) -> Result<(), AllocError>
+        requires declared { IsDeclared self.now.declarations.now }
+        requires entries { entry_rules self.now.declarations.now.entries.now ≡ [] }
+        requires turns { until_rules (items_in self.now.declarations.now) one.now ≡ [] }
+        requires rules { each (rules.statement_rules (items_in self.now.declarations.now)) inside.now ≡ [] }
+        ensures { OnOk result (code.new ≡ joined code.old (spec.until_piece (items_in self.now.declarations.now) line one.now (in_order (statement_piece (items_in self.now.declarations.now)) inside.now) code.old)) }
+    {
+        self.emit_vary_begin(code, &one.varying)?;
+        match one.test {
+            TestTime::Before => self.emit_until_before(code, line, one, inside),
+            TestTime::After => self.emit_until_after(code, line, one, inside),
+        }
+    }
+
+    /// The test stands before the first turn.
+    #[cycle(statement)]
+    fn emit_until_before(
+        &self,
+        code: &mut Code,
+        line: u32,
+        one: &Until,
+        inside: &[Statement],
+    ) -> Result<(), AllocError>
+        requires declared { IsDeclared self.now.declarations.now }
+        requires entries { entry_rules self.now.declarations.now.entries.now ≡ [] }
+        requires turns { until_rules (items_in self.now.declarations.now) one.now ≡ [] }
+        requires rules { each (rules.statement_rules (items_in self.now.declarations.now)) inside.now ≡ [] }
+        ensures { OnOk result (code.new ≡ joined code.old (spec.until_before_piece line (condition_piece (items_in self.now.declarations.now) one.now.condition) (spec.vary_on_piece (items_in self.now.declarations.now) one.now.varying) (in_order (statement_piece (items_in self.now.declarations.now)) inside.now) code.old)) }
+    {
+        self.emit_condition(code, &one.condition)?;
+        let branch = emit_branch(code)?;
+        let other = emit_jump(code)?;
+        self.emit_turn_before(code, line, one, inside)?;
+        emit_meeting(code, branch, other)
+    }
+
+    /// A turn, with the test at its end.
+    #[cycle(statement)]
+    fn emit_turn_before(
+        &self,
+        code: &mut Code,
+        line: u32,
+        one: &Until,
+        inside: &[Statement],
+    ) -> Result<(), AllocError>
+        requires declared { IsDeclared self.now.declarations.now }
+        requires entries { entry_rules self.now.declarations.now.entries.now ≡ [] }
+        requires turns { until_rules (items_in self.now.declarations.now) one.now ≡ [] }
+        requires rules { each (rules.statement_rules (items_in self.now.declarations.now)) inside.now ≡ [] }
+        ensures { OnOk result (code.new ≡ joined code.old (spec.turning_piece line (both (in_order (statement_piece (items_in self.now.declarations.now)) inside.now) (both (spec.vary_on_piece (items_in self.now.declarations.now) one.now.varying) (condition_piece (items_in self.now.declarations.now) one.now.condition))) code.old)) }
+    {
+        let begin = code.instructions.len();
+        emit_tick(code, line)?;
+        self.emit_statements(code, inside)?;
+        self.emit_vary_on(code, &one.varying)?;
+        self.emit_condition(code, &one.condition)?;
+        emit_way_back(code, begin)
+    }
+
+    /// The test stands behind what is performed.
+    #[cycle(statement)]
+    fn emit_until_after(
+        &self,
+        code: &mut Code,
+        line: u32,
+        one: &Until,
+        inside: &[Statement],
+    ) -> Result<(), AllocError>
+        requires declared { IsDeclared self.now.declarations.now }
+        requires entries { entry_rules self.now.declarations.now.entries.now ≡ [] }
+        requires turns { until_rules (items_in self.now.declarations.now) one.now ≡ [] }
+        requires rules { each (rules.statement_rules (items_in self.now.declarations.now)) inside.now ≡ [] }
+        ensures { OnOk result (code.new ≡ joined code.old (spec.until_after_piece line (condition_piece (items_in self.now.declarations.now) one.now.condition) (spec.vary_on_piece (items_in self.now.declarations.now) one.now.varying) (in_order (statement_piece (items_in self.now.declarations.now)) inside.now) code.old)) }
+    {
+        let begin = code.instructions.len();
+        emit_tick(code, line)?;
+        self.emit_statements(code, inside)?;
+        self.emit_condition(code, &one.condition)?;
+        self.emit_onward(code, &one.varying)?;
+        emit_way_back(code, begin)
+    }
+}
