@@ -13,3 +13,4 @@ pub mod PlaceExamples
 pub mod EntryExamples
 pub mod MoveExamples
 pub mod DataExamples
+pub mod UntilExamples
