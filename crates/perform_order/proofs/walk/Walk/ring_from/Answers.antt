@@ -1,0 +1,30 @@
+use Rattle.std.proofs.Common.{◌<◌, None, length, get_or, refl, sym, ap, subst, ◌∙◌, arith}
+use Rattle.perform_order.specs.declared.progress.Progress.TheVariants.{Open}
+use Rattle.perform_order.specs.Walk.{Stands, is_seen, state}
+use Rattle.perform_order.proofs.States.{seen_here}
+use Rattle.perform_order.proofs.Going.{entered_on}
+use Rattle.perform_order.proofs.walk.Walk.ring_from.Goals as goal
+
+pub steps-init : goal.steps-init
+steps-init c =
+    let performed = c.args.performs.now.performed.now in
+    let states = c.args.self.now.states.items in
+    let path = c.args.self.now.path.items in
+    let visit = c.visit.result in
+    let same = c.visit.ensures.paragraph in
+    let stands = subst (λ p. Stands performed states p c.args.self.now.placed) (sym c.requires.path) c.requires.stands in
+    let empty = ap length c.requires.path in
+    let within = subst (λ p. p < length states) (sym same) c.requires.within in
+    let unseen = ap (state states) same ∙ c.requires.unseen in
+    let at = c.visit.ensures.at ∙ ap (λ p. get_or c.args.performs.now.last.items p None) (sym same) in
+    let on =
+    entered_on performed states c.enter.new.self.states.items path c.enter.new.self.path.items c.args.self.now.placed c.enter.new.self.placed visit
+    c.args.performs.now.last.items c.args.performs.now.before.items c.requires.grouped stands within unseen at c.visit.ensures.next
+    (λ depth one end e. absurd (omega (arith, end, empty))) c.in_ok-enter.ensures.states c.in_ok-enter.ensures.path c.enter.ensures.placed in
+    let seen = seen_here states c.enter.new.self.states.items visit.paragraph (Open (length path)) within refl c.in_ok-enter.ensures.states in
+    record {
+      stands = on.stands;
+      same = on.on.same;
+      root_seen = ap (λ p. is_seen (state c.enter.new.self.states.items p)) (sym same) ∙ seen;
+      seen = on.on.seen;
+    }
