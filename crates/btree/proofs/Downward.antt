@@ -28,7 +28,7 @@ use Rattle.btree.proofs.Rising.{part_stands, row_names, turns_here}
 use Rattle.btree.proofs.Upward.{standing_below, ReadNode}
 use Rattle.btree.proofs.Settling.{first_of_way}
 use Rattle.btree.proofs.Shrinking.{shrinks_one, shrinks_same, still_above}
-use Rattle.btree.proofs.Rebalanced.{still_here, shrinks_rebalanced}
+use Rattle.btree.proofs.Rebalanced.{still_level, shrinks_rebalanced}
 use Rattle.btree.proofs.Pairs.{Neighbours, neighbours, is_pair, pair_some}
 
 -- The first turn of a way, where the levels below it fell.
@@ -134,34 +134,35 @@ gone_on form two three turn up node read fares = λ turns start from shrinks key
     (shrinks_one form one two three spot f.next turn f.more [] ordered up f.standing.joined f.standing.once f.turns f.below
     (fares_own form two three turn spot node (λ fm rows. take turn.place rows ++ drop (turn.place + 1) rows) up f.turns.page own.same (fares own.can)))
 
--- The child and its neighbour, where one row is left for the child.
-record LonePair (form : TreeForm) (two : List (Option Sector)) (turn : Turn) (spot next : Spot) (node : Node) (child : ℕ) : Type 0 where
+-- The child and its neighbour, where too few rows are left for the child.
+record LonePair (form : TreeForm) (kind : Kind) (two : List (Option Sector)) (turn : Turn) (spot next : Spot) (node : Node) (child : ℕ) : Type 0 where
   pub n : Neighbours spot next turn.place
-  pub pair : IsPair form two turn.page node.rows turn.place child n.left n.right
+  pub pair : IsPair form kind two turn.page node.rows turn.place child n.left n.right
   pub some : (0 < n.left.page) × (0 < n.right.page)
 
 lone_pair : (form : TreeForm) (one two : List (Option Sector)) (levels : List (List Part)) (turn : Turn) (spot : Spot) (ordered : List (List ℕ)) (child : Child) (node : Node)
-    → (f : Fallen form one two levels turn spot ordered (Underfull child)) → OwnRead form two turn spot node → LonePair form two turn spot f.next node child.page
+    → (f : Fallen form one two levels turn spot ordered (Underfull child)) → OwnRead form two turn spot node → LonePair form child.node.kind two turn spot f.next node child.page
 lone_pair form one two levels turn spot ordered child node f own =
     let stands = own.own in
     let n = neighbours form spot f.next turn f.turns f.standing.joined.1 stands.enough in
     let below = f.below in
     let once = once_right (numbers_of (level_of spot)) (pages_of (level_of f.next ∷ f.more)) f.standing.once in
-    let level = still_here form one two (level_of f.next ∷ f.more) f.next child.node.rows ordered f.standing.joined.2 once below.3 in
-    let pair = is_pair form two spot f.next turn.place f.more f.turns.place f.standing.joined.1 (record { own = stands; level = level; once = f.standing.once }) n in
+    let kind = child.node.kind in
+    let level = still_level kind form one two (level_of f.next ∷ f.more) f.next child.node.rows ordered f.standing.joined.2 once below.4 in
+    let pair = is_pair form kind two spot f.next turn.place f.more f.turns.place f.standing.joined.1 (record { own = stands; level = level; once = f.standing.once }) n in
     let positive = λ (page : ℕ). 0 < page in
     record {
       n = n;
-      pair = subst (λ (p : ℕ). IsPair form two p node.rows turn.place child.page n.left n.right) (sym f.turns.page)
-          (subst (λ (r : List (List ℕ)). IsPair form two spot.part.page r turn.place child.page n.left n.right) (sym (ap (λ (m : Node). m.rows) own.same))
-          (subst (λ (p : ℕ). IsPair form two spot.part.page spot.part.rows turn.place p n.left n.right) (sym below.0) pair));
+      pair = subst (λ (p : ℕ). IsPair form kind two p node.rows turn.place child.page n.left n.right) (sym f.turns.page)
+          (subst (λ (r : List (List ℕ)). IsPair form kind two spot.part.page r turn.place child.page n.left n.right) (sym (ap (λ (m : Node). m.rows) own.same))
+          (subst (λ (p : ℕ). IsPair form kind two spot.part.page spot.part.rows turn.place p n.left n.right) (sym below.0) pair));
       some = pair_some spot f.next turn.place n (all_left positive (numbers_of (level_of f.next)) (pages_of f.more) (all_right positive (numbers_of (level_of spot)) (pages_of (level_of f.next ∷ f.more)) f.standing.some));
     }
 
 -- The page above joins the child with its neighbour.
 abbrev pub Rebalances : TreeForm → List (Option Sector) → List (Option Sector) → Turn → Child → Node → Fate → Type 0
 Rebalances form before after turn child node up =
-    (left right : Part) → CanStand before turn.page node → IsPair form before turn.page node.rows turn.place child.page left right → Rebalanced form before after turn.page node.rows turn.place child.node.rows left right up
+    (left right : Part) → CanStand before turn.page node → IsPair form child.node.kind before turn.page node.rows turn.place child.page left right → Rebalanced form child.node.kind before after turn.page node.rows turn.place child.node.rows left right up
 
 pub lone_on : (form : TreeForm) (two three : List (Option Sector)) (turn : Turn) (child : Child) (up : Fate) (node : Node) → ReadNode form two turn node → Rebalances form two three turn child node up → ShrinksOn form turn two three (Underfull child) up
 lone_on form two three turn child up node read rebalances = λ turns start from shrinks key one levels spot below ordered standing leads bottom.
@@ -169,10 +170,10 @@ lone_on form two three turn child up node read rebalances = λ turns start from 
     let own = own_read form two turn spot node f.turns.page f.above read in
     let stands = own.own in
     let p = lone_pair form one two levels turn spot ordered child node f own in
-    let rebalanced = subst (λ (page : ℕ). Rebalanced form two three page spot.part.rows turn.place child.node.rows p.n.left p.n.right up) f.turns.page
-    (subst (λ (m : Node). Rebalanced form two three turn.page m.rows turn.place child.node.rows p.n.left p.n.right up) own.same (rebalances p.n.left p.n.right own.can p.pair)) in
+    let rebalanced = subst (λ (page : ℕ). Rebalanced form child.node.kind two three page spot.part.rows turn.place child.node.rows p.n.left p.n.right up) f.turns.page
+    (subst (λ (m : Node). Rebalanced form child.node.kind two three turn.page m.rows turn.place child.node.rows p.n.left p.n.right up) own.same (rebalances p.n.left p.n.right own.can p.pair)) in
     subst (λ (l : List (List Part)). Shrinks form one l spot three ordered up) (sym f.is)
-    (shrinks_rebalanced form one two three spot f.next turn f.more child.node.rows ordered up p.n f.standing.joined f.standing.once f.turns stands.enough f.below.3 rebalanced)
+    (shrinks_rebalanced child.node.kind form one two three spot f.next turn f.more child.node.rows ordered up p.n f.standing.joined f.standing.once f.turns stands.enough f.below.4 rebalanced)
 
 -- Where there is a tree, no turn leads to a page that isn't of it.
 pub never_read : (form : TreeForm) (two : List (Option Sector)) (turn : Turn) (told : Fate) → ((kind : Kind) (part : Part) → part.page ≡ turn.page → Stands form two kind part → ⊥) → NeverShrinksOn form turn two told
@@ -211,7 +212,7 @@ never_led form two turn told node read none = λ turns start from shrinks key on
     none on.kind on.place on.some on.is_in
 
 pub never_rebalanced : (form : TreeForm) (two : List (Option Sector)) (turn : Turn) (child : Child) (node : Node) → ReadNode form two turn node
-    → ((left right : Part) → node.kind ≡ Inner → turn.place < length node.rows → 0 < turn.page → 0 < left.page → 0 < right.page → IsPair form two turn.page node.rows turn.place child.page left right → ⊥)
+    → ((left right : Part) → node.kind ≡ Inner → turn.place < length node.rows → 0 < turn.page → 0 < left.page → 0 < right.page → IsPair form child.node.kind two turn.page node.rows turn.place child.page left right → ⊥)
     → NeverShrinksOn form turn two (Underfull child)
 never_rebalanced form two turn child node read none = λ turns start from shrinks key one levels spot below ordered standing leads bottom.
     let f = shrunk form key one start two levels turn turns spot below ordered from (Underfull child) shrinks standing leads bottom in

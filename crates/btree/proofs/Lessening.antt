@@ -1,5 +1,5 @@
 -- What a page becomes that rows leave.
-use Rattle.std.proofs.Common.{◌≡◌, ◌≢◌, inr, ⊎_elim, ◌<◌, ◌≤◌, ◌+◌, ℕ, suc, List, [], ◌∷◌, ◌++◌, length, length-set, take, drop, set, refl, sym, ◌∙◌, ap, subst, arith, Bool, false, true, get_or-set_same, get_or-set_other}
+use Rattle.std.proofs.Common.{◌≡◌, ◌≢◌, inr, ⊎_elim, ◌<◌, ◌≤◌, ◌+◌, ℕ, suc, List, [], ◌∷◌, ◌++◌, length, length-set, take, drop, set, sym, ◌∙◌, ap, subst, arith, Bool, false, true, get_or-set_same, get_or-set_other}
 use Rattle.std.specs.Prelude.{Contains, nat_lt, Option, None, slice_index_or}
 use Rattle.std.proofs.lemmas.Bool.{ltb-true}
 use Rattle.std.proofs.lemmas.List.Elements.{All-nil}
@@ -18,6 +18,7 @@ use Rattle.btree.specs.Moves.{Replaced}
 use Rattle.btree.specs.Rises.{part_of}
 use Rattle.btree.specs.Changes.{IsIn}
 use Rattle.btree.specs.Fates.{Fares}
+use Rattle.btree.specs.Fills.{IsShort}
 use Rattle.btree.proofs.Runs.{in_none, in_cases, in_head}
 use Rattle.btree.proofs.Writes.{is_low}
 use Rattle.btree.proofs.Lifting.{named_row, first_same}
@@ -43,10 +44,10 @@ write_none form kind pages after page old is low = record {
   };
 }
 
--- rows that are neither none nor, in an inner page, one, are enough
-pub enough_left : (kind : Kind) (count : ℕ) → count ≢ 0 → (count ≡ 1 → kind ≡ Inner → ⊥) → fewest kind ≤ count
-enough_left Leaf count some more = omega (arith, some)
-enough_left Inner count some more = let two : count ≢ 1 = λ one. more one refl in omega (arith, some, two)
+-- some rows that aren't too few are enough
+pub enough_left : (form : TreeForm) (kind : Kind) (count : ℕ) → count ≢ 0 → (IsShort form kind count → ⊥) → fewest kind ≤ count
+enough_left form Leaf count some more = omega (arith, some)
+enough_left form Inner count some more = omega (arith, more)
 
 -- A node's rows became others from a place on. What became of its page, to which it is told whether a row stands before that place.
 pub front_fares : (before after : List (Option Sector)) (page place : ℕ) (node new : Node) (more : List (List ℕ)) (kind : Kind) (fate : Fate) → new ≡ with_rows node (take place node.rows ++ more)

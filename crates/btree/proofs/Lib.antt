@@ -32,6 +32,7 @@ pub mod Lessening
 pub mod Sharing
 pub mod Rebalancing
 pub mod Pairing
+pub mod Filling
 pub mod Shrinking
 pub mod Pairs
 pub mod Rebalanced

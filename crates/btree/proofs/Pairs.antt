@@ -6,6 +6,7 @@ use Rattle.std.proofs.lemmas.List.{append-nil, length-map, take-append-drop, dro
 use Rattle.std.proofs.lemmas.List.Elements.{All-head, All-tail, Contains-append_left, Contains-append_right}
 use Rattle.station.specs.Disk.{Sector}
 use Rattle.tree_pages.specs.declared.form.TreeForm.{TreeForm}
+use Rattle.tree_pages.specs.declared.form.Kind.{Kind}
 use Rattle.tree_pages.specs.declared.form.Kind.TheVariants.{Inner}
 use Rattle.btree.specs.Tree.{Part, row_of, rows_of, Stands, pages_of}
 use Rattle.btree.specs.Path.{Spot, level_of, Turn, TurnsTo}
@@ -131,23 +132,23 @@ pair_named form spot next place low two names n =
           ∙ ap (λ x. row_of form n.left ∷ x) (drop_more rows (q + 1) [] within ∙ ap (λ x. x ∷ drop (q + 1 + 1) rows) right ∙ ap (λ (k : ℕ). row_of form n.right ∷ drop k rows) (let two_more : q + 1 + 1 ≡ q + 2 = omega arith in two_more)));
     }
 
--- What stands at a turn above a page that one row is left for.
-pub record PairStands (form : TreeForm) (pages : List (Option Sector)) (spot next : Spot) (more : List (List Part)) : Type 0 where
+-- What stands at a turn above a page that too few rows are left for.
+pub record PairStands (form : TreeForm) (kind : Kind) (pages : List (Option Sector)) (spot next : Spot) (more : List (List Part)) : Type 0 where
   pub own : Stands form pages Inner spot.part
-  pub level : All (Stands form pages Inner) (level_of next)
+  pub level : All (Stands form pages kind) (level_of next)
   pub once : Once (pages_of (level_of spot ∷ level_of next ∷ more))
 
-stands_in : (form : TreeForm) (pages : List (Option Sector)) (part : Part) → Stands form pages Inner part → IsIn pages part.page
-stands_in form pages part stands = λ none. no_node form pages Inner part stands none
+stands_in : (form : TreeForm) (kind : Kind) (pages : List (Option Sector)) (part : Part) → Stands form pages kind part → IsIn pages part.page
+stands_in form kind pages part stands = λ none. no_node form pages kind part stands none
 
-pub is_pair : (form : TreeForm) (pages : List (Option Sector)) (spot next : Spot) (place : ℕ) (more : List (List Part)) → place < length spot.part.rows → rows_of (level_of spot) ≡ map (row_of form) (level_of next) → PairStands form pages spot next more
-    → (n : Neighbours spot next place) → IsPair form pages spot.part.page spot.part.rows place next.part.page n.left n.right
-is_pair form pages spot next place more low names s n =
+pub is_pair : (form : TreeForm) (kind : Kind) (pages : List (Option Sector)) (spot next : Spot) (place : ℕ) (more : List (List Part)) → place < length spot.part.rows → rows_of (level_of spot) ≡ map (row_of form) (level_of next) → PairStands form kind pages spot next more
+    → (n : Neighbours spot next place) → IsPair form kind pages spot.part.page spot.part.rows place next.part.page n.left n.right
+is_pair form kind pages spot next place more low names s n =
     let named = pair_named form spot next place low s.own.enough names n in
-    let level = subst (λ (l : List Part). All (Stands form pages Inner) l) n.level s.level in
-    let pair = all_right (Stands form pages Inner) n.before (n.left ∷ n.right ∷ n.after) level in
-    let left = All-head (Stands form pages Inner) n.left (n.right ∷ n.after) pair in
-    let right = All-head (Stands form pages Inner) n.right n.after (All-tail (Stands form pages Inner) n.left (n.right ∷ n.after) pair) in
+    let level = subst (λ (l : List Part). All (Stands form pages kind) l) n.level s.level in
+    let pair = all_right (Stands form pages kind) n.before (n.left ∷ n.right ∷ n.after) level in
+    let left = All-head (Stands form pages kind) n.left (n.right ∷ n.after) pair in
+    let right = All-head (Stands form pages kind) n.right n.after (All-tail (Stands form pages kind) n.left (n.right ∷ n.after) pair) in
     let upper = numbers_of (level_of spot) in
     let rest : Once (numbers_of (level_of next)) = once_left (numbers_of (level_of next)) (pages_of more) (once_right upper (pages_of (level_of next ∷ more)) s.once) in
     let numbers : numbers_of (level_of next) ≡ numbers_of n.before ++ (n.left.page ∷ n.right.page ∷ numbers_of n.after) = ap numbers_of n.level ∙ numbers_append n.before (n.left ∷ n.right ∷ n.after) in
@@ -160,9 +161,9 @@ is_pair form pages spot next place more low names s n =
       within = named.within;
       left_row = named.left_row;
       right_row = named.right_row;
-      own_in = stands_in form pages spot.part s.own;
-      left_in = stands_in form pages n.left left;
-      right_in = stands_in form pages n.right right;
+      own_in = stands_in form Inner pages spot.part s.own;
+      left_in = stands_in form kind pages n.left left;
+      right_in = stands_in form kind pages n.right right;
       apart = λ same. two.0 (subst (λ x. Contains (n.right.page ∷ numbers_of n.after) x) (sym same) (in_head n.right.page (numbers_of n.after)));
       left_apart = other n.left.page (in_head n.left.page (n.right.page ∷ numbers_of n.after));
       right_apart = other n.right.page (in_tail n.left.page (n.right.page ∷ numbers_of n.after) n.right.page (in_head n.right.page (numbers_of n.after)));

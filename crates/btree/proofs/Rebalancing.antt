@@ -6,6 +6,7 @@ use Rattle.std.proofs.lemmas.List.{take_more_set, drop-set-lt, set_split, drop_a
 use Rattle.byteorder.specs.Endian.{big_bytes}
 use Rattle.station.specs.Disk.{Sector}
 use Rattle.tree_pages.specs.declared.form.TreeForm.{TreeForm}
+use Rattle.tree_pages.specs.declared.form.Kind.{Kind}
 use Rattle.tree_pages.specs.declared.form.Kind.TheVariants.{Inner}
 use Rattle.tree_pages.specs.Form.{row_length}
 use Rattle.tree_pages.specs.Keys.{key_of, rest_of}
@@ -20,6 +21,7 @@ use Rattle.btree.specs.Nodes.{SameNode}
 use Rattle.btree.specs.Rises.{part_of, rights_of, run_of}
 use Rattle.btree.specs.Changes.{IsIn}
 use Rattle.btree.specs.Fates.{Fares, ArePair, Joins}
+use Rattle.btree.specs.Fills.{IsEven}
 use Rattle.btree.proofs.Lessening.{front_fares}
 use Rattle.btree.proofs.Sharing.{still_in}
 
@@ -90,20 +92,21 @@ beside_names rest page None is same = tt
 beside_names rest page (Some right) is same = is ∙ ap (big_bytes 4) (sym same)
 
 -- What two neighbours became, of which the page above them learnt.
-pub record Learns (before mid : List (Option Sector)) (place : ℕ) (node new : Node) (left right : Part) (joined : Grown) : Type 0 where
+pub record Learns (kind : Kind) (before mid : List (Option Sector)) (place : ℕ) (node new : Node) (left right : Part) (joined : Grown) : Type 0 where
   pub inner : node.kind ≡ Inner
   pub page_is : joined.page ≡ left.page
   pub beside_is : IfSome joined.right (λ beside. beside.page ≡ right.page)
-  pub pair : Replaced node.form Inner before (left ∷ right ∷ []) mid (run_of joined)
+  pub pair : Replaced node.form kind before (left ∷ right ∷ []) mid (run_of joined)
+  pub even : IsEven node.form kind (run_of joined)
   pub like : SameNode node new
   pub names : rest_of node.form (slice_index_or node.rows place []) ≡ big_bytes 4 joined.page → IfSome joined.right (λ beside. rest_of node.form (slice_index_or node.rows (place + 1) []) ≡ big_bytes 4 beside.page)
       → new.rows ≡ take place node.rows ++ (map (row_of node.form) (run_of joined) ++ drop (place + 2) node.rows)
 
-pub joins_so : (before mid after : List (Option Sector)) (page place : ℕ) (node new : Node) (left right : Part) (joined : Grown) (fate : Fate) → ArePair node.form before page node.rows place left right
-    → Learns before mid place node new left right joined
+pub joins_so : (kind : Kind) (before mid after : List (Option Sector)) (page place : ℕ) (node new : Node) (left right : Part) (joined : Grown) (fate : Fate) → ArePair node.form before page node.rows place left right
+    → Learns kind before mid place node new left right joined
     → (IsIn mid page → (nat_lt 0 place ≡ true → least new.form (part_of page new.rows) ≡ least new.form (part_of page node.rows)) → Fares new.form new.kind mid after page node.rows new.rows fate)
-    → Joins node.form before after page node.rows place (rows_of (run_of joined)) left right fate
-joins_so before mid after page place node new left right joined fate are learns put =
+    → Joins node.form kind before after page node.rows place (rows_of (run_of joined)) left right fate
+joins_so kind before mid after page place node new left right joined fate are learns put =
     let named = learns.names
     (names_page node.form (slice_index_or node.rows place []) left (are.lengths place [] (omega (arith, are.within))) are.left_row ∙ ap (big_bytes 4) (sym learns.page_is))
     (beside_names (rest_of node.form (slice_index_or node.rows (place + 1) [])) right.page joined.right (names_page node.form (slice_index_or node.rows (place + 1) []) right (are.lengths (place + 1) [] are.within) are.right_row) learns.beside_is) in
@@ -112,7 +115,8 @@ joins_so before mid after page place node new left right joined fate are learns 
       mid = mid;
       run = run_of joined;
       pair = learns.pair;
+      even = learns.even;
       rows_are = refl;
       fares = front_fares mid after page place node new more Inner fate (same_rows node new (take place node.rows ++ more) learns.like named) learns.inner (omega (arith, are.within))
-          (put (still_in node.form Inner before mid left right (run_of joined) page learns.pair are.left_apart are.right_apart are.own_in));
+          (put (still_in node.form kind before mid left right (run_of joined) page learns.pair are.left_apart are.right_apart are.own_in));
     }

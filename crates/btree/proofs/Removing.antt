@@ -14,10 +14,10 @@ use Rattle.btree.specs.Tree.{Part, rows_of, Stands, rows_in_order, IsTree}
 use Rattle.btree.specs.Path.{Spot, Turn, level_of, Leads, lowest, EndsAt}
 use Rattle.btree.specs.Entries.{Entry, entry_of, entries_of, without}
 use Rattle.btree.specs.Rises.{part_of}
-use Rattle.btree.specs.Changes.{CanStand, Settled, Becomes}
+use Rattle.btree.specs.Changes.{CanStand}
 use Rattle.btree.specs.Fates.{Fares}
-use Rattle.btree.specs.Shrinks.{ShrinksBy, NeverShrinks, SettlesShrunk, NeverSettles, Emptied, Shrinks}
-use Rattle.btree.specs.Removals.{Removes}
+use Rattle.btree.specs.Shrinks.{ShrinksBy, NeverShrinks, SettledWell, SettlesShrunk, NeverSettles, Emptied, Shrinks}
+use Rattle.btree.specs.Removals.{Lessens, Removes}
 use Rattle.btree.proofs.Order.{Up}
 use Rattle.btree.proofs.Splices.{rows_append}
 use Rattle.btree.proofs.Rising.{part_stands, some_row}
@@ -58,30 +58,38 @@ rows_around_row before after rows place low =
 -- What is left of a tree: the entries but one.
 left_of : (form : TreeForm) (before after : List (Option Sector)) (root new : ℕ) (levels : List (List Part)) (left right ordered : List (List ℕ)) (row : List ℕ) → IsTree form before root levels
     → rows_in_order levels ≡ left ++ (row ∷ right) → ordered ≡ left ++ right → AllBelow form (key_of form row) left
-    → Settled form before levels after new ordered ⊎ Emptied before levels after new ordered → Becomes form before levels after new (without (entries_of form levels) (key_of form row))
+    → SettledWell form before levels after new ordered ⊎ Emptied before levels after new ordered → Lessens form before levels after new (without (entries_of form levels) (key_of form row))
 left_of form before after root new levels left right ordered row tree old_rows new_rows lower settled =
     let up : Up form ordered = subst (λ r. Up form r) (sym new_rows) (up_goes form left right row (subst (λ r. Up form r) old_rows tree.ascend)) in
     let entries : map (entry_of form) ordered ≡ without (entries_of form levels) (key_of form row) =
     ap (map (entry_of form)) new_rows ∙ entry_goes form left right row lower ∙ ap (λ r. without (map (entry_of form) r) (key_of form row)) (sym old_rows) in
     ⊎_elim
-    (λ some. record {
-      levels = some.levels;
-      holds = tree_holds form after new some.levels (tree_after form before after new levels some.levels tree.numbers some.became some.top (subst (λ r. Up form r) (sym some.rows) up));
-      listed = ap (map (entry_of form)) some.rows ∙ entries;
-      moves = some.became.moves;
+    (λ well.
+    let some = well.settled in
+    record {
+      became = record {
+        levels = some.levels;
+        holds = tree_holds form after new some.levels (tree_after form before after new levels some.levels tree.numbers some.became some.top (subst (λ r. Up form r) (sym some.rows) up));
+        listed = ap (map (entry_of form)) some.rows ∙ entries;
+        moves = some.became.moves;
+      };
+      fill = well.fill;
     })
     (λ none. record {
-      levels = [];
-      holds = inl (none.none, refl);
-      listed = ap (map (entry_of form)) (sym none.rows) ∙ entries;
-      moves = none.moves;
+      became = record {
+        levels = [];
+        holds = inl (none.none, refl);
+        listed = ap (map (entry_of form)) (sym none.rows) ∙ entries;
+        moves = none.moves;
+      };
+      fill = λ many. absurd (omega (arith, many));
     })
     settled
 
 -- All together: the leaf lost a row, the levels fell, and the root is settled.
 tree_lessened : (form : TreeForm) (before one two after : List (Option Sector)) (root new : ℕ) (levels : List (List Part)) (turns : List Turn) (top : Spot) (below : List Spot) (place : ℕ) (key : List ℕ) (out fate : Fate)
     → IsTree form before root levels → Leads form key levels turns top below → Loses form key before one (lowest top below).part place out
-    → ShrinksBy form turns one two out fate → SettlesShrunk form root fate two after new → Becomes form before levels after new (without (entries_of form levels) key)
+    → ShrinksBy form turns one two out fate → SettlesShrunk form root fate two after new → Lessens form before levels after new (without (entries_of form levels) key)
 tree_lessened form before one two after root new levels turns top below place key out fate tree leads loses shrinks settles =
     let leaf = lowest top below in
     let rows = leaf.part.rows in
@@ -97,7 +105,7 @@ tree_lessened form before one two after root new levels turns top below place ke
     let first_row = some_first rows (some_row form before stands.kind leaf.part stands.stands) in
     let lower : AllBelow form key left =
     All-append (λ (r : List ℕ). Precedes (key_of form r) key) (rows_of leaf.before) (take place rows) (left_below form key leaf first_row.0 first_row.1 end.2 first_row.2 (subst (λ r. Up form r) whole tree.ascend)) loses.below in
-    subst (λ (k : List ℕ). Becomes form before levels after new (without (entries_of form levels) k)) loses.here
+    subst (λ (k : List ℕ). Lessens form before levels after new (without (entries_of form levels) k)) loses.here
     (left_of form before after root new levels left right ordered (slice_index_or rows place []) tree (whole ∙ rows_around_row (rows_of leaf.before) (rows_of leaf.after) rows place loses.low)
     (rows_around_gap (rows_of leaf.before) (rows_of leaf.after) rows place) (subst (λ (k : List ℕ). AllBelow form k left) (sym loses.here) lower) settled)
 

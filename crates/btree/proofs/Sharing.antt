@@ -1,19 +1,22 @@
 -- What two neighbours become that are joined, or share their rows.
-use Rattle.std.proofs.Common.{◌≡◌, ◌≢◌, inl, inr, ⊎_elim, ◌≤◌, ℕ, List, [], ◌∷◌, length, length-set, set, sym, ◌∙◌, ap, subst, arith, get_or-set_same, get_or-set_other}
+use Rattle.std.proofs.Common.{◌≡◌, ◌≢◌, inl, inr, ⊎_elim, ◌<◌, ◌≤◌, ◌*◌, ℕ, List, [], ◌∷◌, ◌++◌, length, length-set, take, drop, set, refl, sym, ◌∙◌, ap, subst, arith, get_or-set_same, get_or-set_other, append_assoc}
 use Rattle.std.specs.Prelude.{Contains, Option, Some, None, slice_index_or}
 use Rattle.std.specs.List.{All}
+use Rattle.std.proofs.lemmas.List.{take-append-drop}
 use Rattle.std.proofs.lemmas.List.Elements.{All-nil, All-cons}
 use Rattle.station.specs.Disk.{Sector}
 use Rattle.tree_pages.specs.declared.form.TreeForm.{TreeForm}
 use Rattle.tree_pages.specs.declared.form.Kind.{Kind}
-use Rattle.tree_pages.specs.declared.form.Kind.TheVariants.{Inner}
-use Rattle.tree_pages.specs.Form.{row_length}
+use Rattle.tree_pages.specs.declared.form.Kind.TheVariants.{Leaf, Inner}
+use Rattle.tree_pages.specs.Form.{row_length, capacity}
 use Rattle.tree_pages.specs.Node.{Node, IsNode, node_in}
-use Rattle.btree.specs.Tree.{Part, node_of, Stands}
+use Rattle.tree_pages.specs.Edits.{with_rows}
+use Rattle.btree.specs.Tree.{Part, node_of, fewest, Stands}
 use Rattle.btree.specs.Moves.{Replaced}
 use Rattle.btree.specs.Rises.{part_of}
 use Rattle.btree.specs.Changes.{IsIn}
 use Rattle.btree.specs.Fates.{AreTwo}
+use Rattle.btree.specs.Fills.{IsEven}
 use Rattle.btree.proofs.Runs.{in_none, in_cases, in_head, in_tail}
 use Rattle.btree.proofs.Writes.{Spells, stands_on, spells_node, is_low}
 
@@ -84,12 +87,38 @@ still_in form kind pages after left right run page replaced left_apart right_apa
     let out : Contains (left.page ∷ right.page ∷ []) page → ⊥ = λ has. ⊎_elim (λ same. left_apart (sym same)) (λ rest. ⊎_elim (λ same. right_apart (sym same)) (λ past. in_none page past) (in_cases right.page [] page rest)) (in_cases left.page (right.page ∷ []) page has) in
     λ none. is_in (sym (replaced.moves.others page out (λ has. ⊎_elim out (λ new. is_in new.1) (replaced.moves.joins page has))) ∙ none)
 
--- the rows of an inner node have their lengths
-pub inner_lengths : (form : TreeForm) (node : Node) → node.form ≡ form → node.kind ≡ Inner → IsNode node → All (λ row. length row ≡ row_length form Inner) node.rows
-inner_lengths form node form_is kind_is is =
-    subst (λ (f : TreeForm). All (λ row. length row ≡ row_length f Inner) node.rows) form_is (subst (λ (k : Kind). All (λ row. length row ≡ row_length node.form k) node.rows) kind_is is.lengths)
+-- the rows of a node have their lengths
+pub kind_lengths : (form : TreeForm) (kind : Kind) (node : Node) → node.form ≡ form → node.kind ≡ kind → IsNode node → All (λ row. length row ≡ row_length form kind) node.rows
+kind_lengths form kind node form_is kind_is is =
+    subst (λ (f : TreeForm). All (λ row. length row ≡ row_length f kind) node.rows) form_is (subst (λ (k : Kind). All (λ row. length row ≡ row_length node.form k) node.rows) kind_is is.lengths)
 
--- these bytes spell an inner node with two rows at least
-pub spells_inner : (form : TreeForm) (node : Node) (bytes : List ℕ) → node.form ≡ form → node.kind ≡ Inner → IsNode node → 2 ≤ length node.rows → node_in node.form bytes ≡ Some node → Spells form Inner bytes node.rows
-spells_inner form node bytes form_is kind_is is enough spelled =
-    spells_node (node_of form Inner []) node bytes (record { form = form_is; kind = kind_is }) spelled (inner_lengths form node form_is kind_is is) enough
+-- two rows are enough
+two_enough : (kind : Kind) (count : ℕ) → 2 ≤ count → fewest kind ≤ count
+two_enough Leaf count two = omega (arith, two)
+two_enough Inner count two = two
+
+-- these bytes spell a node with two rows at least
+pub spells_two : (form : TreeForm) (kind : Kind) (node : Node) (bytes : List ℕ) → node.form ≡ form → node.kind ≡ kind → IsNode node → 2 ≤ length node.rows → node_in node.form bytes ≡ Some node → Spells form kind bytes node.rows
+spells_two form kind node bytes form_is kind_is is two spelled =
+    spells_node (node_of form kind []) node bytes (record { form = form_is; kind = kind_is }) spelled (kind_lengths form kind node form_is kind_is is) (two_enough kind (length node.rows) two)
+
+-- these spell a leaf with a row at least
+pub spells_some : (node : Node) (bytes : List ℕ) → node.kind ≡ Leaf → IsNode node → 0 < length node.rows → node_in node.form bytes ≡ Some node → Spells node.form Leaf bytes node.rows
+spells_some node bytes kind_is is some spelled =
+    spells_node (node_of node.form Leaf []) node bytes (record { form = refl; kind = kind_is }) spelled (kind_lengths node.form Leaf node refl kind_is is) (omega (arith, some))
+
+-- both neighbours have half of the rows that they have room for, where they share more than one page has room for
+pub shared_evenly : (form : TreeForm) (kind : Kind) (one two : Part) → capacity form kind ≤ 2 * length one.rows → capacity form kind ≤ 2 * length two.rows → IsEven form kind (one ∷ two ∷ [])
+shared_evenly form kind one two left right =
+    let halved = λ (part : Part). capacity form kind ≤ 2 * length part.rows in
+    inr (All-cons halved one (two ∷ []) left (All-cons halved two [] right (All-nil halved)))
+
+-- rows that were cut in two, of which the upper ones got others behind them
+pub cut_joined : (place : ℕ) (node left rest all : Node) (other : List (List ℕ)) → left ≡ with_rows node (take place node.rows) → rest ≡ with_rows node (drop place node.rows) → all ≡ with_rows rest (rest.rows ++ other)
+    → left.rows ++ all.rows ≡ node.rows ++ other
+cut_joined place node left rest all other left_is rest_is all_is =
+    ap (λ (n : Node). n.rows ++ all.rows) left_is
+    ∙ ap (λ (n : Node). take place node.rows ++ n.rows) all_is
+    ∙ ap (λ (n : Node). take place node.rows ++ (n.rows ++ other)) rest_is
+    ∙ sym (append_assoc (take place node.rows) (drop place node.rows) other)
+    ∙ ap (λ rows. rows ++ other) (take-append-drop place node.rows)

@@ -1,25 +1,29 @@
 -- A removal goes up from the leaf, level by level.
-use Rattle.std.proofs.Common.{◌≡◌, inl, ◌+◌, ℕ, List, [], ◌∷◌, ◌++◌, length, map, take, drop, refl, sym, ◌∙◌, ap, subst}
+use Rattle.std.proofs.Common.{◌≡◌, inl, ◌<◌, ◌≤◌, ◌+◌, ℕ, List, [], ◌∷◌, ◌++◌, length, map, take, drop, refl, sym, ◌∙◌, ap, subst, arith}
 use Rattle.std.specs.Prelude.{Option}
 use Rattle.std.specs.List.{All}
 use Rattle.std.proofs.lemmas.List.{append-nil}
+use Rattle.std.proofs.lemmas.List.Elements.{All-head}
 use Rattle.byteorder.specs.Endian.{big_bytes}
 use Rattle.station.specs.Disk.{Sector}
 use Rattle.tree_pages.specs.declared.form.TreeForm.{TreeForm}
+use Rattle.tree_pages.specs.declared.form.Kind.{Kind}
 use Rattle.tree_pages.specs.declared.form.Kind.TheVariants.{Leaf, Inner}
 use Rattle.btree.specs.declared.fate.Fate.{Fate}
 use Rattle.btree.specs.declared.fate.Fate.TheVariants.{Kept, Renamed, Gone, Underfull}
 use Rattle.tree_pages.specs.Node.{Node}
-use Rattle.btree.specs.Tree.{Part, node_of, least, row_of, rows_of, Stands, Joined, pages_of, rows_in_order}
+use Rattle.btree.specs.Tree.{Part, leaves_of, least, row_of, rows_of, Stands, Joined, pages_of, rows_in_order}
 use Rattle.btree.specs.Path.{Spot, level_of, Turn, TurnsTo}
 use Rattle.btree.specs.Moves.{Once, numbers_of, Became, Replaced}
 use Rattle.btree.specs.Rises.{part_of}
 use Rattle.btree.specs.Fates.{Fares}
-use Rattle.btree.specs.Shrinks.{ShrinksTo, ShrinksUnder, Shrinks}
+use Rattle.btree.specs.Fills.{IsShort, thin_leaves}
+use Rattle.btree.specs.Shrinks.{ShrinksTo, ShrinksUnder, Waits, Shrinks}
 use Rattle.btree.proofs.Runs.{in_none, once_left, once_right, once_apart, once_append}
 use Rattle.btree.proofs.Splices.{rows_append, rows_replaced, all_left, all_right}
 use Rattle.btree.proofs.Steps.{step_by, step_leaves, own_kept}
 use Rattle.btree.proofs.Rising.{turns_here}
+use Rattle.btree.proofs.Filling.{thin_around, not_thin}
 use Rattle.std.proofs.lemmas.List.Elements.{Contains-append_right}
 
 -- What a page fares on: the levels below its spot's became others, which the spot's level names once its part has these rows.
@@ -29,6 +33,7 @@ pub record Under (form : TreeForm) (one two : List (Option Sector)) (spot : Spot
   pub became : Became form one (lower ∷ more) two (lower' ∷ more')
   pub names : rows_of spot.before ++ (rows ++ rows_of spot.after) ≡ map (row_of form) lower'
   pub leaves : rows_in_order (lower' ∷ more') ≡ ordered
+  pub fill : thin_leaves form (leaves_of (lower' ∷ more')) ≤ thin_leaves form (leaves_of (lower ∷ more))
 
 -- the spot's part became these
 shrinks_run : (form : TreeForm) (one two three : List (Option Sector)) (spot : Spot) (lower lower' : List Part) (more more' : List (List Part)) (rows ordered : List (List ℕ)) (run : List Part)
@@ -39,7 +44,12 @@ shrinks_run form one two three spot lower lower' more more' rows ordered run und
   became = step_by form one two three spot.before (spot.part ∷ []) run spot.after lower lower' more more' under.joined under.once under.became own
       (rows_append spot.before (run ++ spot.after) ∙ ap (λ x. rows_of spot.before ++ x) (rows_append run spot.after ∙ ap (λ x. x ++ rows_of spot.after) is) ∙ under.names);
   rows = under.leaves;
+  fill = under.fill;
 }
+
+-- What is told of a page that wasn't written, by its node.
+abbrev Short : TreeForm → List (Option Sector) → List (List Part) → Spot → List (Option Sector) → List (List ℕ) → Node → Type 0
+Short form pages levels spot after ordered node = (node.form ≡ form) × (0 < length node.rows) × IsShort form node.kind (length node.rows) × Waits node.kind form pages levels spot after ordered node.rows
 
 pub shrinks_by : (form : TreeForm) (one two three : List (Option Sector)) (spot : Spot) (lower lower' : List Part) (more more' : List (List Part)) (rows ordered : List (List ℕ)) (fate : Fate)
     → Under form one two spot lower lower' more more' rows ordered → Fares form Inner two three spot.part.page spot.part.rows rows fate
@@ -58,21 +68,19 @@ shrinks_by form one two three spot lower lower' more more' rows ordered (Renamed
 shrinks_by form one two three spot lower lower' more more' rows ordered Gone under fares =
     shrinks_run form one two three spot lower lower' more more' rows ordered [] under fares.0 (sym fares.1)
 shrinks_by form one two three spot lower lower' more more' rows ordered (Underfull child) under fares =
-    let has : child.node.rows ≡ rows = ap (λ (node : Node). node.rows) fares.3 in (
-      fares.2,
-      fares.3 ∙ ap (node_of form Inner) (sym has),
-      ap length has ∙ fares.4,
-      record {
-        old = lower;
-        old_more = more;
-        is = refl;
-        new = lower';
-        new_more = more';
-        became = subst (λ (pages : List (Option Sector)). Became form one (lower ∷ more) pages (lower' ∷ more')) (sym fares.0) under.became;
-        names = ap (λ x. rows_of spot.before ++ (x ++ rows_of spot.after)) has ∙ under.names;
-        leaves = under.leaves;
-      },
-    )
+    let waits : ShrinksUnder form one (level_of spot ∷ lower ∷ more) spot three ordered rows = record {
+      old = lower;
+      old_more = more;
+      is = refl;
+      new = lower';
+      new_more = more';
+      became = subst (λ (pages : List (Option Sector)). Became form one (lower ∷ more) pages (lower' ∷ more')) (sym fares.0) under.became;
+      names = under.names;
+      leaves = under.leaves;
+      fill = under.fill;
+    } in
+    let short = subst (λ (node : Node). Short form one (level_of spot ∷ lower ∷ more) spot three ordered node) (sym fares.2) (refl, fares.3, fares.4, waits) in
+    (fares.1, short.0, short.1, short.2, short.3)
 
 -- The rows of a spot's part, of which some named a run of the next level, which became another.
 pub names_run : (form : TreeForm) (spot : Spot) (rows : List (List ℕ)) (lower_before low low' lower_after : List Part) (left right : List (List ℕ))
@@ -100,6 +108,7 @@ shrinks_one form one two three spot next turn more run ordered fate joined once 
       became = below.became;
       names = names_run form spot rows next.before (next.part ∷ []) run next.after (take turn.place spot.part.rows) (drop (turn.place + 1) spot.part.rows) here.count here.rows refl joined.1;
       leaves = below.rows;
+      fill = below.fill;
     })
     fares
 
@@ -114,6 +123,12 @@ still_under form one two spot next more rows ordered stand once below =
     let skips = subst (λ (m : List (List Part)). Once (numbers_of (level_of spot) ++ pages_of m)) tails (once_skips (numbers_of (level_of spot)) (numbers_of (level_of next)) (pages_of more) once) in
     own_kept form one two spot.before (spot.part ∷ []) spot.after (below.old ∷ below.old_more) (below.new ∷ below.new_more) stand skips below.became
 
+-- nothing is written before a leaf's neighbour is known
+still_waits : (kind : Kind) (form : TreeForm) (one two : List (Option Sector)) (spot next : Spot) (more : List (List Part)) (rows ordered : List (List ℕ)) → All (Stands form one Inner) (level_of spot) → Once (pages_of (level_of spot ∷ level_of next ∷ more))
+    → Waits kind form one (level_of next ∷ more) next two ordered rows → All (Stands form two Inner) (level_of spot)
+still_waits Leaf form one two spot next more rows ordered stand once below = subst (λ (pages : List (Option Sector)). All (Stands form pages Inner) (level_of spot)) (sym below.same) stand
+still_waits Inner form one two spot next more rows ordered stand once below = still_under form one two spot next more rows ordered stand once below
+
 still_to : (form : TreeForm) (one two : List (Option Sector)) (spot next : Spot) (more : List (List Part)) (ordered : List (List ℕ)) (run : List Part) → All (Stands form one Inner) (level_of spot) → Once (pages_of (level_of spot ∷ level_of next ∷ more))
     → ShrinksTo form one (level_of next ∷ more) next two ordered run → All (Stands form two Inner) (level_of spot)
 still_to form one two spot next more ordered run stand once below =
@@ -124,7 +139,7 @@ pub still_above : (form : TreeForm) (one two : List (Option Sector)) (spot next 
 still_above form one two spot next more ordered Kept stand once below = still_to form one two spot next more ordered below.0 stand once below.2
 still_above form one two spot next more ordered (Renamed child) stand once below = still_to form one two spot next more ordered (part_of child.page child.node.rows ∷ []) stand once below.1
 still_above form one two spot next more ordered Gone stand once below = still_to form one two spot next more ordered [] stand once below
-still_above form one two spot next more ordered (Underfull child) stand once below = still_under form one two spot next more child.node.rows ordered stand once below.3
+still_above form one two spot next more ordered (Underfull child) stand once below = still_waits child.node.kind form one two spot next more child.node.rows ordered stand once below.4
 
 -- nothing to be told: the spot's part stays as it is
 pub shrinks_same : (form : TreeForm) (one two : List (Option Sector)) (spot next : Spot) (turn : Turn) (more : List (List Part)) (ordered : List (List ℕ))
@@ -141,17 +156,19 @@ shrinks_same form one two spot next turn more ordered joined once turns below =
     ap (λ x. take turn.place spot.part.rows ++ (x ++ drop (turn.place + 1) spot.part.rows)) names ∙ sym here.rows in
     let own : Replaced form Inner two (spot.part ∷ []) two (spot.part ∷ []) =
     record { stand = all_left (Stands form two Inner) (spot.part ∷ []) spot.after (all_right (Stands form two Inner) spot.before ((spot.part ∷ []) ++ spot.after) stand); once = (in_none spot.part.page, tt); moves = record { count = refl; others = λ page was is. refl; joins = λ page has. inl has; leaves = λ page has. inl has } } in
-    let fares : Fares form Inner two two spot.part.page spot.part.rows spot.part.rows Kept = (own, refl) in
+    let enough = All-head (Stands form two Inner) spot.part [] own.stand in
+    let fares : Fares form Inner two two spot.part.page spot.part.rows spot.part.rows Kept = (own, refl, λ short. omega (arith, short, enough.enough)) in
     shrinks_one form one two two spot next turn more below.0 ordered Kept joined once turns below.2
     (subst (λ (r : List (List ℕ)). Fares form Inner two two spot.part.page spot.part.rows r Kept) (sym rows) fares)
 
 -- the change of the leaf itself
 leaf_run : (form : TreeForm) (one three : List (Option Sector)) (spot : Spot) (run : List Part) (rows : List (List ℕ)) → All (Stands form one Leaf) (level_of spot) → Once (pages_of (level_of spot ∷ []))
-    → Replaced form Leaf one (spot.part ∷ []) three run → rows_of run ≡ rows → ShrinksTo form one (level_of spot ∷ []) spot three (rows_of spot.before ++ (rows ++ rows_of spot.after)) run
-leaf_run form one three spot run rows stand once own is = record {
+    → Replaced form Leaf one (spot.part ∷ []) three run → rows_of run ≡ rows → thin_leaves form run ≡ 0 → ShrinksTo form one (level_of spot ∷ []) spot three (rows_of spot.before ++ (rows ++ rows_of spot.after)) run
+leaf_run form one three spot run rows stand once own is none = record {
   more = [];
   became = step_leaves form one three spot.before (spot.part ∷ []) run spot.after stand once own;
   rows = rows_append spot.before (run ++ spot.after) ∙ ap (λ x. rows_of spot.before ++ x) (rows_append run spot.after ∙ ap (λ x. x ++ rows_of spot.after) is);
+  fill = thin_around form spot.before (spot.part ∷ []) run spot.after (omega (arith, none));
 }
 
 pub shrinks_leaf : (form : TreeForm) (one three : List (Option Sector)) (spot : Spot) (rows : List (List ℕ)) (fate : Fate) → All (Stands form one Leaf) (level_of spot) → Once (pages_of (level_of spot ∷ []))
@@ -159,13 +176,16 @@ pub shrinks_leaf : (form : TreeForm) (one three : List (Option Sector)) (spot : 
 shrinks_leaf form one three spot rows Kept stand once fares = (
   part_of spot.part.page rows ∷ [],
   record { part = part_of spot.part.page rows; alone = refl; page = refl; least = fares.1 },
-  leaf_run form one three spot (part_of spot.part.page rows ∷ []) rows stand once fares.0 (append-nil rows),
+  leaf_run form one three spot (part_of spot.part.page rows ∷ []) rows stand once fares.0 (append-nil rows) (not_thin form (part_of spot.part.page rows) fares.2),
 )
 shrinks_leaf form one three spot rows (Renamed child) stand once fares = (
   fares.1,
   subst (λ (run : List Part). ShrinksTo form one (level_of spot ∷ []) spot three (rows_of spot.before ++ (rows ++ rows_of spot.after)) run)
       (ap (λ (page : ℕ). part_of page rows ∷ []) (sym fares.1) ∙ ap (λ (node : Node). part_of child.page node.rows ∷ []) (sym fares.2))
-      (leaf_run form one three spot (part_of spot.part.page rows ∷ []) rows stand once fares.0 (append-nil rows)),
+      (leaf_run form one three spot (part_of spot.part.page rows ∷ []) rows stand once fares.0 (append-nil rows) (not_thin form (part_of spot.part.page rows) fares.3)),
 )
-shrinks_leaf form one three spot rows Gone stand once fares = leaf_run form one three spot [] rows stand once fares.0 (sym fares.1)
-shrinks_leaf form one three spot rows (Underfull child) stand once fares = absurd (let clash : Leaf ≡ Inner = fares.1 in cc)
+shrinks_leaf form one three spot rows Gone stand once fares = leaf_run form one three spot [] rows stand once fares.0 (sym fares.1) refl
+shrinks_leaf form one three spot rows (Underfull child) stand once fares =
+    let short = subst (λ (node : Node). Short form one (level_of spot ∷ []) spot three (rows_of spot.before ++ (rows ++ rows_of spot.after)) node) (sym fares.2)
+    (refl, fares.3, fares.4, record { is = refl; same = fares.0; leaves = refl }) in
+    (fares.1, short.0, short.1, short.2, short.3)

@@ -10,6 +10,7 @@ use Rattle.btree.specs.declared.fate.Fate.{Fate}
 use Rattle.btree.specs.declared.fate.Fate.TheVariants.{Kept, Renamed, Gone, Underfull}
 use Rattle.btree.specs.declared.grown.Grown.{Grown}
 use Rattle.btree.specs.Tree.{Part, least, row_of, rows_of, node_of, Stands}
+use Rattle.btree.specs.Fills.{IsShort, IsEven}
 use Rattle.btree.specs.Moves.{Replaced}
 use Rattle.btree.specs.Rises.{part_of}
 use Rattle.btree.specs.Changes.{IsIn, HasKeys}
@@ -17,18 +18,18 @@ use Rattle.btree.specs.Changes.{IsIn, HasKeys}
 -- What a page became that had the old rows and is to have these.
 abbrev pub Fares : TreeForm → Kind → List (Option Sector) → List (Option Sector) → ℕ → List (List ℕ) → List (List ℕ) → Fate → Type 0
 Fares form kind before after page old rows Kept =
-    Replaced form kind before (part_of page old ∷ []) after (part_of page rows ∷ []) × (least form (part_of page rows) ≡ least form (part_of page old))
+    Replaced form kind before (part_of page old ∷ []) after (part_of page rows ∷ []) × (least form (part_of page rows) ≡ least form (part_of page old)) × (IsShort form kind (length rows) → ⊥)
 Fares form kind before after page old rows (Renamed child) =
-    Replaced form kind before (part_of page old ∷ []) after (part_of page rows ∷ []) × (child.page ≡ page) × (child.node ≡ node_of form kind rows)
+    Replaced form kind before (part_of page old ∷ []) after (part_of page rows ∷ []) × (child.page ≡ page) × (child.node ≡ node_of form kind rows) × (IsShort form kind (length rows) → ⊥)
 Fares form kind before after page old rows Gone = Replaced form kind before (part_of page old ∷ []) after [] × (rows ≡ [])
-Fares form kind before after page old rows (Underfull child) = (after ≡ before) × (kind ≡ Inner) × (child.page ≡ page) × (child.node ≡ node_of form kind rows) × (length rows ≡ 1)
+Fares form kind before after page old rows (Underfull child) = (after ≡ before) × (child.page ≡ page) × (child.node ≡ node_of form kind rows) × (0 < length rows) × IsShort form kind (length rows)
 
 -- what the page above needs of it
 abbrev pub Fits : TreeForm → Fate → Type 0
 Fits form Kept = ⊤
 Fits form (Renamed child) = (child.node.form ≡ form) × (0 < length child.node.rows)
 Fits form Gone = ⊤
-Fits form (Underfull child) = (child.node.form ≡ form) × (child.node.kind ≡ Inner) × (length child.node.rows ≡ 1)
+Fits form (Underfull child) = (child.node.form ≡ form) × (0 < length child.node.rows) × IsShort form child.node.kind (length child.node.rows)
 
 -- a page that wasn't written may be changed yet
 abbrev pub spare : Fate → ℕ
@@ -47,8 +48,8 @@ abbrev pub rows_together : ℕ → List (List ℕ) → Part → Part → List (L
 rows_together zero lone left right = lone ++ right.rows
 rows_together (suc place) lone left right = left.rows ++ lone
 
--- The child at a place of these rows, and its neighbour. The child's page has its old rows, the neighbour stands.
-pub record IsPair (form : TreeForm) (before : List (Option Sector)) (page : ℕ) (old : List (List ℕ)) (place : ℕ) (child : ℕ) (left right : Part) : Type 0 where
+-- The child at a place of these rows, and its neighbour, of one kind. The child's page has its old rows, the neighbour stands.
+pub record IsPair (form : TreeForm) (kind : Kind) (before : List (Option Sector)) (page : ℕ) (old : List (List ℕ)) (place : ℕ) (child : ℕ) (left right : Part) : Type 0 where
   pub within : pair_of place + 1 < length old
   pub left_row : slice_index_or old (pair_of place) [] ≡ row_of form left
   pub right_row : slice_index_or old (pair_of place + 1) [] ≡ row_of form right
@@ -58,13 +59,14 @@ pub record IsPair (form : TreeForm) (before : List (Option Sector)) (page : ℕ)
   pub apart : left.page ≢ right.page
   pub left_apart : left.page ≢ page
   pub right_apart : right.page ≢ page
-  pub either : (place ≡ 0) × (left.page ≡ child) × Stands form before Inner right ⊎ (place ≢ 0) × (right.page ≡ child) × Stands form before Inner left
+  pub either : (place ≡ 0) × (left.page ≡ child) × Stands form before kind right ⊎ (place ≢ 0) × (right.page ≡ child) × Stands form before kind left
 
 -- What the two neighbours became, and the page above them.
-pub record Rebalanced (form : TreeForm) (before after : List (Option Sector)) (page : ℕ) (old : List (List ℕ)) (place : ℕ) (lone : List (List ℕ)) (left right : Part) (fate : Fate) : Type 0 where
+pub record Rebalanced (form : TreeForm) (kind : Kind) (before after : List (Option Sector)) (page : ℕ) (old : List (List ℕ)) (place : ℕ) (lone : List (List ℕ)) (left right : Part) (fate : Fate) : Type 0 where
   pub mid : List (Option Sector)
   pub run : List Part
-  pub pair : Replaced form Inner before (left ∷ right ∷ []) mid run
+  pub pair : Replaced form kind before (left ∷ right ∷ []) mid run
+  pub even : IsEven form kind run
   pub rows : rows_of run ≡ rows_together place lone left right
   pub fares : Fares form Inner mid after page old (take (pair_of place) old ++ (map (row_of form) run ++ drop (pair_of place + 2) old)) fate
 
@@ -92,9 +94,10 @@ pub record ArePair (form : TreeForm) (before : List (Option Sector)) (page : ℕ
   pub right_apart : right.page ≢ page
 
 -- What two neighbours became that are to have these rows together, and the page above them.
-pub record Joins (form : TreeForm) (before after : List (Option Sector)) (page : ℕ) (old : List (List ℕ)) (place : ℕ) (rows : List (List ℕ)) (left right : Part) (fate : Fate) : Type 0 where
+pub record Joins (form : TreeForm) (kind : Kind) (before after : List (Option Sector)) (page : ℕ) (old : List (List ℕ)) (place : ℕ) (rows : List (List ℕ)) (left right : Part) (fate : Fate) : Type 0 where
   pub mid : List (Option Sector)
   pub run : List Part
-  pub pair : Replaced form Inner before (left ∷ right ∷ []) mid run
+  pub pair : Replaced form kind before (left ∷ right ∷ []) mid run
+  pub even : IsEven form kind run
   pub rows_are : rows_of run ≡ rows
   pub fares : Fares form Inner mid after page old (take place old ++ (map (row_of form) run ++ drop (place + 2) old)) fate

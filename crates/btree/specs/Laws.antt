@@ -1,10 +1,13 @@
 -- What holds of every tree.
-use Rattle.std.specs.Prelude.{◌≡◌, ◌≤◌, ◌↔◌, ◌^◌, ◌++◌, ℕ, List, [], ◌∷◌, map, length, Option, Some, IfSome, option_map, Contains, ⊤}
+use Rattle.std.specs.Prelude.{◌≡◌, ◌≤◌, ◌+◌, ◌*◌, ◌↔◌, ◌^◌, ◌++◌, ℕ, List, [], ◌∷◌, map, length, Option, Some, IfSome, option_map, Contains, ⊤}
 use Rattle.station.specs.Disk.{Sector}
 use Rattle.tree_pages.specs.declared.form.TreeForm.{TreeForm}
+use Rattle.tree_pages.specs.declared.form.Kind.TheVariants.{Leaf}
+use Rattle.tree_pages.specs.Form.{capacity}
 use Rattle.tree_pages.specs.Keys.{keys_of, Ascend}
 use Rattle.btree.specs.Entries.{Entry, entries_of, entry_with, value_of}
-use Rattle.btree.specs.Tree.{Part, IsTree, Holds, rows_of, pages_of}
+use Rattle.btree.specs.Fills.{thin_leaves}
+use Rattle.btree.specs.Tree.{Part, IsTree, Holds, rows_of, leaves_of, pages_of}
 use Rattle.btree.specs.Moves.{Moves, Once}
 
 -- the keys of each level ascend
@@ -55,3 +58,7 @@ EntriesAscend = (form : TreeForm) (pages : List (Option Sector)) (root : ℕ) (l
 
 abbrev pub EntryThere : Type 0
 EntryThere = (entries : List Entry) (entry : Entry) → Ascend (keys_listed entries) → Contains entries entry → entry_with entries entry.key ≡ Some entry
+
+-- a tree has few leaves for its entries: each has a quarter of those that it has room for, but for those that have less
+abbrev pub FewLeaves : Type 0
+FewLeaves = (form : TreeForm) (levels : List (List Part)) → length (leaves_of levels) * capacity form Leaf ≤ 4 * length (entries_of form levels) + thin_leaves form (leaves_of levels) * capacity form Leaf

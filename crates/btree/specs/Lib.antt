@@ -1,8 +1,10 @@
 pub mod Tree
+pub mod Fills
 pub mod Path
 pub mod Entries
 pub mod Laws
 pub mod Reading
+pub mod Calls
 pub mod Refusals
 pub mod Rooted
 pub mod Moves

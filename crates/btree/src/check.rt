@@ -1,8 +1,8 @@
 //! The walk that tells whether the pages under a root are a tree.
-ghost use Rattle.std.specs.Prelude.{true, false, ◌≡◌, ◌≢◌, ◌≤◌, ◌<◌, ◌+◌, ◌^◌, ◌↔◌, Err, ℕ, List, [], ◌∷◌, length, map, slice_index_or, IsTrue, IfOk, IfErr, OnOk, MatchOption, IfSome};
+ghost use Rattle.std.specs.Prelude.{true, false, ◌≡◌, ◌≢◌, ◌≤◌, ◌<◌, ◌+◌, ◌^◌, ◌↔◌, Err, ℕ, List, [], ◌∷◌, length, slice_index_or, IfOk, IfErr, OnOk, MatchOption, IfSome};
 ghost use Rattle.std.specs.List.{All};
 ghost use Rattle.station.specs.Calls.{OnlyReads};
-ghost use Rattle.pages.specs.Pages.{map_now, is_spent, sectors_of, Agrees, IsOpen};
+ghost use Rattle.pages.specs.Pages.{is_spent, sectors_of, Agrees, IsOpen};
 ghost use Rattle.tree_pages.specs.Form.{IsForm};
 ghost use Rattle.tree_pages.specs.Keys.{keys_of, Ascend, AllBelow};
 ghost use Rattle.btree.specs.declared.name.Name.{Name as Named};
@@ -10,6 +10,7 @@ ghost use Rattle.btree.specs.Tree.{Part, fewest, rows_of, pages_of, Stands, Hold
 ghost use Rattle.btree.specs.Reading.{Untouched, IsReadRefusal};
 ghost use Rattle.btree.specs.Walks.{name_of, pages_named, IsUnmarked, CanMark, Marks, IsNamed, IsLevel, Lists, IsUnder, Finds, FindsTree};
 ghost use Rattle.btree.specs.Refusals.{IsChangeRefusal};
+ghost use Rattle.btree.specs.Calls.{Agreed, pages_on};
 
 use crate::descend::LEVELS;
 use crate::key::Key;
@@ -56,15 +57,15 @@ fn check_part<D: Device>(
     requires form { IsForm form }
     ensures only { OnlyReads D.Device (result ≡ Err PagesError.Device) device.old device.new }
     ensures untouched { Untouched pages.old pages.new }
-    ensures agrees { D.is_honest device.old → Agrees pages.old (D.state device.old).disk → Agrees pages.new (D.state device.new).disk }
+    ensures agrees { Agreed D.Device pages.old device.old (Agrees pages.new (D.state device.new).disk) }
     ensures open { IsOpen pages.new }
-    ensures part { D.is_honest device.old → Agrees pages.old (D.state device.old).disk →
-        IfOk result (λ part. IsNamed form (map_now pages.old (D.state device.old).disk.present).pages kind name.now part.rows) }
+    ensures part { Agreed D.Device pages.old device.old
+        (IfOk result (λ part. IsNamed form (pages_on D.Device pages.old device.old) kind name.now part.rows)) }
     ensures shape { IfOk result (λ part. (part.form ≡ form) × (part.kind ≡ kind) × (fewest kind ≤ length part.rows) × (length part.rows ≤ 4080)) }
     ensures marks { OnOk result (Marks seen.old (name.now.page ∷ []) seen.new) }
-    ensures damaged { D.is_honest device.old → Agrees pages.old (D.state device.old).disk → result ≡ Err PagesError.Damaged →
-        CanMark seen.old (name.now.page ∷ []) → (part : Part) → name_of form part ≡ name.now →
-        Stands form (map_now pages.old (D.state device.old).disk.present).pages kind part → ⊥ }
+    ensures damaged { Agreed D.Device pages.old device.old
+        (result ≡ Err PagesError.Damaged → CanMark seen.old (name.now.page ∷ []) → (part : Part) → name_of form part ≡ name.now →
+        Stands form (pages_on D.Device pages.old device.old) kind part → ⊥) }
     ensures spent { result ≡ Err PagesError.Spent → is_spent pages.old ≡ true }
     ensures cause { IfErr result IsReadRefusal }
 {
@@ -97,16 +98,17 @@ fn check_inner<D: Device>(
     requires form { IsForm form }
     ensures only { OnlyReads D.Device (result ≡ Err PagesError.Device) device.old device.new }
     ensures untouched { Untouched pages.old pages.new }
-    ensures agrees { D.is_honest device.old → Agrees pages.old (D.state device.old).disk → Agrees pages.new (D.state device.new).disk }
+    ensures agrees { Agreed D.Device pages.old device.old (Agrees pages.new (D.state device.new).disk) }
     ensures open { IsOpen pages.new }
-    ensures level { D.is_honest device.old → Agrees pages.old (D.state device.old).disk → IfOk result (λ lower.
-        (level : List Part) × IsLevel form (map_now pages.old (D.state device.old).disk.present).pages Kind.Inner names.now level × Lists form (rows_of level) lower.items) }
+    ensures level { Agreed D.Device pages.old device.old
+        (IfOk result (λ lower. (level : List Part) × IsLevel form (pages_on D.Device pages.old device.old) Kind.Inner names.now level ×
+        Lists form (rows_of level) lower.items)) }
     ensures marks { OnOk result (Marks seen.old (pages_named names.now) seen.new) }
     ensures more { IfOk result (λ lower. length names.now ≤ length lower.items) }
     ensures few { IfOk result (λ lower. length lower.items ≤ length seen.old) }
-    ensures damaged { D.is_honest device.old → Agrees pages.old (D.state device.old).disk → result ≡ Err PagesError.Damaged →
-        CanMark seen.old (pages_named names.now) → (level : List Part) →
-        IsLevel form (map_now pages.old (D.state device.old).disk.present).pages Kind.Inner names.now level → length (rows_of level) ≤ length seen.old → ⊥ }
+    ensures damaged { Agreed D.Device pages.old device.old
+        (result ≡ Err PagesError.Damaged → CanMark seen.old (pages_named names.now) → (level : List Part) →
+        IsLevel form (pages_on D.Device pages.old device.old) Kind.Inner names.now level → length (rows_of level) ≤ length seen.old → ⊥) }
     ensures spent { result ≡ Err PagesError.Spent → is_spent pages.old ≡ true }
     ensures cause { IfErr result IsChangeRefusal }
 {
@@ -155,14 +157,15 @@ fn check_leaves<D: Device>(
     requires form { IsForm form }
     ensures only { OnlyReads D.Device (result ≡ Err PagesError.Device) device.old device.new }
     ensures untouched { Untouched pages.old pages.new }
-    ensures agrees { D.is_honest device.old → Agrees pages.old (D.state device.old).disk → Agrees pages.new (D.state device.new).disk }
+    ensures agrees { Agreed D.Device pages.old device.old (Agrees pages.new (D.state device.new).disk) }
     ensures open { IsOpen pages.new }
-    ensures level { D.is_honest device.old → Agrees pages.old (D.state device.old).disk → OnOk result (
-        (level : List Part) × IsLevel form (map_now pages.old (D.state device.old).disk.present).pages Kind.Leaf names.now level × Ascend (keys_of form (rows_of level))) }
+    ensures level { Agreed D.Device pages.old device.old
+        (OnOk result ((level : List Part) × IsLevel form (pages_on D.Device pages.old device.old) Kind.Leaf names.now level ×
+        Ascend (keys_of form (rows_of level)))) }
     ensures marks { OnOk result (Marks seen.old (pages_named names.now) seen.new) }
-    ensures damaged { D.is_honest device.old → Agrees pages.old (D.state device.old).disk → result ≡ Err PagesError.Damaged →
-        CanMark seen.old (pages_named names.now) → (level : List Part) →
-        IsLevel form (map_now pages.old (D.state device.old).disk.present).pages Kind.Leaf names.now level → Ascend (keys_of form (rows_of level)) → ⊥ }
+    ensures damaged { Agreed D.Device pages.old device.old
+        (result ≡ Err PagesError.Damaged → CanMark seen.old (pages_named names.now) → (level : List Part) →
+        IsLevel form (pages_on D.Device pages.old device.old) Kind.Leaf names.now level → Ascend (keys_of form (rows_of level)) → ⊥) }
     ensures spent { result ≡ Err PagesError.Spent → is_spent pages.old ≡ true }
     ensures cause { IfErr result IsReadRefusal }
 {
@@ -190,17 +193,18 @@ fn check_level<D: Device>(
     requires some { 0 < length names.now }
     ensures only { OnlyReads D.Device (result ≡ Err PagesError.Device) device.old device.new }
     ensures untouched { Untouched pages.old pages.new }
-    ensures agrees { D.is_honest device.old → Agrees pages.old (D.state device.old).disk → Agrees pages.new (D.state device.new).disk }
+    ensures agrees { Agreed D.Device pages.old device.old (Agrees pages.new (D.state device.new).disk) }
     ensures open { IsOpen pages.new }
-    ensures level { D.is_honest device.old → Agrees pages.old (D.state device.old).disk → IfOk result (λ lower. MatchOption lower
-        ((level : List Part) × IsLevel form (map_now pages.old (D.state device.old).disk.present).pages Kind.Leaf names.now level × Ascend (keys_of form (rows_of level)))
-        (λ lower. (level : List Part) × IsLevel form (map_now pages.old (D.state device.old).disk.present).pages Kind.Inner names.now level × Lists form (rows_of level) lower.items)) }
+    ensures level { Agreed D.Device pages.old device.old
+        (IfOk result (λ lower. MatchOption lower
+        ((level : List Part) × IsLevel form (pages_on D.Device pages.old device.old) Kind.Leaf names.now level × Ascend (keys_of form (rows_of level)))
+        (λ lower. (level : List Part) × IsLevel form (pages_on D.Device pages.old device.old) Kind.Inner names.now level × Lists form (rows_of level) lower.items))) }
     ensures marks { OnOk result (Marks seen.old (pages_named names.now) seen.new) }
     ensures some { IfOk result (λ lower. IfSome lower (λ lower. 0 < length lower.items)) }
-    ensures damaged { D.is_honest device.old → Agrees pages.old (D.state device.old).disk → result ≡ Err PagesError.Damaged →
-        CanMark seen.old (pages_named names.now) → (kind : Kind) (level : List Part) →
-        IsLevel form (map_now pages.old (D.state device.old).disk.present).pages kind names.now level → (kind ≡ Kind.Leaf → Ascend (keys_of form (rows_of level))) →
-        (kind ≡ Kind.Inner → length (rows_of level) ≤ length seen.old) → ⊥ }
+    ensures damaged { Agreed D.Device pages.old device.old
+        (result ≡ Err PagesError.Damaged → CanMark seen.old (pages_named names.now) → (kind : Kind) (level : List Part) →
+        IsLevel form (pages_on D.Device pages.old device.old) kind names.now level → (kind ≡ Kind.Leaf → Ascend (keys_of form (rows_of level))) →
+        (kind ≡ Kind.Inner → length (rows_of level) ≤ length seen.old) → ⊥) }
     ensures spent { result ≡ Err PagesError.Spent → is_spent pages.old ≡ true }
     ensures cause { IfErr result IsChangeRefusal }
 {
@@ -233,13 +237,13 @@ fn check_levels<D: Device>(
     requires some { 0 < length names.items }
     ensures only { OnlyReads D.Device (result ≡ Err PagesError.Device) device.old device.new }
     ensures untouched { Untouched pages.old pages.new }
-    ensures agrees { D.is_honest device.old → Agrees pages.old (D.state device.old).disk → Agrees pages.new (D.state device.new).disk }
+    ensures agrees { Agreed D.Device pages.old device.old (Agrees pages.new (D.state device.new).disk) }
     ensures open { IsOpen pages.new }
-    ensures finds { D.is_honest device.old → Agrees pages.old (D.state device.old).disk →
-        OnOk result (Finds form (map_now pages.old (D.state device.old).disk.present).pages names.items seen.old seen.new) }
-    ensures damaged { D.is_honest device.old → Agrees pages.old (D.state device.old).disk → result ≡ Err PagesError.Damaged →
-        (levels : List (List Part)) → IsUnder form (map_now pages.old (D.state device.old).disk.present).pages names.items levels →
-        CanMark seen.old (pages_of levels) → All (λ page. page < 2 ^ 32) (pages_of levels) → length levels ≤ depth → ⊥ }
+    ensures finds { Agreed D.Device pages.old device.old
+        (OnOk result (Finds form (pages_on D.Device pages.old device.old) names.items seen.old seen.new)) }
+    ensures damaged { Agreed D.Device pages.old device.old
+        (result ≡ Err PagesError.Damaged → (levels : List (List Part)) → IsUnder form (pages_on D.Device pages.old device.old) names.items levels →
+        CanMark seen.old (pages_of levels) → All (λ page. page < 2 ^ 32) (pages_of levels) → length levels ≤ depth → ⊥) }
     ensures spent { result ≡ Err PagesError.Spent → is_spent pages.old ≡ true }
     ensures cause { IfErr result IsChangeRefusal }
 {
@@ -268,15 +272,15 @@ impl Tree {
         requires sectors { sectors_of pages.old ≤ D.sectors device.old }
         ensures only { OnlyReads D.Device (result ≡ Err PagesError.Device) device.old device.new }
         ensures untouched { Untouched pages.old pages.new }
-        ensures agrees { D.is_honest device.old → Agrees pages.old (D.state device.old).disk → Agrees pages.new (D.state device.new).disk }
+        ensures agrees { Agreed D.Device pages.old device.old (Agrees pages.new (D.state device.new).disk) }
         ensures open { IsOpen pages.new }
 
         // There is a tree, and no page of it was marked.
-        ensures holds { D.is_honest device.old → Agrees pages.old (D.state device.old).disk →
-            OnOk result (FindsTree self.now.form (map_now pages.old (D.state device.old).disk.present).pages self.now.root seen.old seen.new) }
-        ensures damaged { D.is_honest device.old → Agrees pages.old (D.state device.old).disk → result ≡ Err PagesError.Damaged →
-            (levels : List (List Part)) → Holds self.now.form (map_now pages.old (D.state device.old).disk.present).pages self.now.root levels →
-            All (IsUnmarked seen.old) (pages_of levels) → ⊥ }
+        ensures holds { Agreed D.Device pages.old device.old
+            (OnOk result (FindsTree self.now.form (pages_on D.Device pages.old device.old) self.now.root seen.old seen.new)) }
+        ensures damaged { Agreed D.Device pages.old device.old
+            (result ≡ Err PagesError.Damaged → (levels : List (List Part)) →
+            Holds self.now.form (pages_on D.Device pages.old device.old) self.now.root levels → All (IsUnmarked seen.old) (pages_of levels) → ⊥) }
         ensures spent { result ≡ Err PagesError.Spent ↔ ((is_spent pages.old ≡ true) × (self.now.root ≢ 0)) }
         ensures cause { IfErr result IsChangeRefusal }
     {

@@ -6,13 +6,14 @@ ghost use Rattle.station.specs.Calls.{OnlyReads};
 ghost use Rattle.pages.specs.Pages.{is_spent, sectors_of, catalog_of, page_count, filled_of, Agrees, IsOpen, SameCommitted};
 ghost use Rattle.tree_pages.specs.Form.{IsForm};
 ghost use Rattle.tree_pages.specs.Keys.{child_of};
-ghost use Rattle.btree.specs.Tree.{Part, rows_of, pages_of, Stands, Holds};
+ghost use Rattle.btree.specs.Tree.{Part, rows_of, pages_of, Stands};
 ghost use Rattle.btree.specs.Laws.{IsSmall};
 ghost use Rattle.btree.specs.Moves.{Moves, numbers_of};
 ghost use Rattle.btree.specs.Changes.{pages_of_map, Keeps};
 ghost use Rattle.btree.specs.Reading.{Untouched};
 ghost use Rattle.btree.specs.Walks.{HasPages, IsDown, levels_below};
 ghost use Rattle.btree.specs.Refusals.{IsRestRefusal, IsChangeRefusal};
+ghost use Rattle.btree.specs.Calls.{Agreed, OnNoTree, OnTree, pages_on};
 
 use crate::descend::LEVELS;
 use crate::part::read_part;
@@ -73,14 +74,14 @@ fn children_of<D: Device>(
     requires form { IsForm form }
     ensures only { OnlyReads D.Device (result ≡ Err PagesError.Device) device.old device.new }
     ensures untouched { Untouched pages.old pages.new }
-    ensures agrees { D.is_honest device.old → Agrees pages.old (D.state device.old).disk → Agrees pages.new (D.state device.new).disk }
+    ensures agrees { Agreed D.Device pages.old device.old (Agrees pages.new (D.state device.new).disk) }
     ensures open { IsOpen pages.new }
-    ensures children { D.is_honest device.old → Agrees pages.old (D.state device.old).disk → (level : List Part) →
-        All (Stands form (pages_of_map pages.old (D.state device.old).disk.present) Kind.Inner) level → numbers_of level ≡ numbers.now →
-        IfOk result (λ children. children.items ≡ map (child_of form) (rows_of level)) }
-    ensures damaged { D.is_honest device.old → Agrees pages.old (D.state device.old).disk → result ≡ Err PagesError.Damaged → (level : List Part) →
-        All (Stands form (pages_of_map pages.old (D.state device.old).disk.present) Kind.Inner) level → numbers_of level ≡ numbers.now →
-        length (rows_of level) ≤ length (pages_of_map pages.old (D.state device.old).disk.present) → ⊥ }
+    ensures children { Agreed D.Device pages.old device.old
+        ((level : List Part) → All (Stands form (pages_on D.Device pages.old device.old) Kind.Inner) level → numbers_of level ≡ numbers.now →
+        IfOk result (λ children. children.items ≡ map (child_of form) (rows_of level))) }
+    ensures damaged { Agreed D.Device pages.old device.old
+        (result ≡ Err PagesError.Damaged → (level : List Part) → All (Stands form (pages_on D.Device pages.old device.old) Kind.Inner) level →
+        numbers_of level ≡ numbers.now → length (rows_of level) ≤ length (pages_on D.Device pages.old device.old) → ⊥) }
     ensures few { IfOk result (λ children. length children.items ≤ page_count pages.old) }
     ensures spent { result ≡ Err PagesError.Spent → is_spent pages.old ≡ true }
     ensures cause { IfErr result IsChangeRefusal }
@@ -115,13 +116,15 @@ fn below<D: Device>(
     requires some { 0 < length numbers.now }
     ensures only { OnlyReads D.Device (result ≡ Err PagesError.Device) device.old device.new }
     ensures untouched { Untouched pages.old pages.new }
-    ensures agrees { D.is_honest device.old → Agrees pages.old (D.state device.old).disk → Agrees pages.new (D.state device.new).disk }
+    ensures agrees { Agreed D.Device pages.old device.old (Agrees pages.new (D.state device.new).disk) }
     ensures open { IsOpen pages.new }
-    ensures below { D.is_honest device.old → Agrees pages.old (D.state device.old).disk → (levels : List (List Part)) →
-        IsSmall (pages_of_map pages.old (D.state device.old).disk.present) → IsDown form (pages_of_map pages.old (D.state device.old).disk.present) numbers.now levels →
-        IfOk result (λ children. HasPages children.items (levels_below levels)) }
-    ensures damaged { D.is_honest device.old → Agrees pages.old (D.state device.old).disk → result ≡ Err PagesError.Damaged → (levels : List (List Part)) →
-        IsDown form (pages_of_map pages.old (D.state device.old).disk.present) numbers.now levels → ⊥ }
+    ensures below { Agreed D.Device pages.old device.old
+        ((levels : List (List Part)) → IsSmall (pages_on D.Device pages.old device.old) →
+        IsDown form (pages_on D.Device pages.old device.old) numbers.now levels →
+        IfOk result (λ children. HasPages children.items (levels_below levels))) }
+    ensures damaged { Agreed D.Device pages.old device.old
+        (result ≡ Err PagesError.Damaged → (levels : List (List Part)) → IsDown form (pages_on D.Device pages.old device.old) numbers.now levels →
+        ⊥) }
     ensures few { IfOk result (λ children. length children.items ≤ page_count pages.old) }
     ensures spent { result ≡ Err PagesError.Spent ↔ is_spent pages.old ≡ true }
     ensures cause { IfErr result IsChangeRefusal }
@@ -146,16 +149,17 @@ fn clear_levels<D: Device>(
     requires sectors { sectors_of pages.old ≤ D.sectors device.old }
     requires form { IsForm form }
     ensures only { OnlyReads D.Device (result ≡ Err PagesError.Device) device.old device.new }
-    ensures cleared { D.is_honest device.old → Agrees pages.old (D.state device.old).disk → (levels : List (List Part)) →
-        IsSmall (pages_of_map pages.old (D.state device.old).disk.present) → IsDown form (pages_of_map pages.old (D.state device.old).disk.present) numbers.items levels →
-        OnOk result (Moves (pages_of_map pages.old (D.state device.old).disk.present) (pages_of levels) (pages_of_map pages.new (D.state device.old).disk.present) []) }
-    ensures damaged { D.is_honest device.old → Agrees pages.old (D.state device.old).disk → result ≡ Err PagesError.Damaged → (levels : List (List Part)) →
-        IsSmall (pages_of_map pages.old (D.state device.old).disk.present) → IsDown form (pages_of_map pages.old (D.state device.old).disk.present) numbers.items levels →
-        length levels ≤ depth → ⊥ }
+    ensures cleared { Agreed D.Device pages.old device.old
+        ((levels : List (List Part)) → IsSmall (pages_on D.Device pages.old device.old) →
+        IsDown form (pages_on D.Device pages.old device.old) numbers.items levels →
+        OnOk result (Moves (pages_on D.Device pages.old device.old) (pages_of levels) (pages_on D.Device pages.new device.old) [])) }
+    ensures damaged { Agreed D.Device pages.old device.old
+        (result ≡ Err PagesError.Damaged → (levels : List (List Part)) → IsSmall (pages_on D.Device pages.old device.old) →
+        IsDown form (pages_on D.Device pages.old device.old) numbers.items levels → length levels ≤ depth → ⊥) }
     ensures filled { filled_of pages.new ≤ filled_of pages.old }
     ensures committed { SameCommitted pages.old pages.new }
     ensures catalog { catalog_of pages.new ≡ catalog_of pages.old }
-    ensures agrees { D.is_honest device.old → Agrees pages.old (D.state device.old).disk → Agrees pages.new (D.state device.new).disk }
+    ensures agrees { Agreed D.Device pages.old device.old (Agrees pages.new (D.state device.new).disk) }
     ensures open { IsOpen pages.new }
     ensures spent { result ≡ Err PagesError.Spent → is_spent pages.old ≡ true }
     ensures told { is_spent pages.old ≡ true → 0 < length numbers.items → 0 < depth → result ≡ Err PagesError.Spent }
@@ -187,18 +191,16 @@ impl Tree {
         ensures only { OnlyReads D.Device (result ≡ Err PagesError.Device) device.old device.new }
 
         // Each page of the tree leaves the map, and the others stay as they are.
-        ensures cleared { D.is_honest device.old → Agrees pages.old (D.state device.old).disk → (levels : List (List Part)) →
-            Holds self.old.form (pages_of_map pages.old (D.state device.old).disk.present) self.old.root levels →
-            OnOk result (Moves (pages_of_map pages.old (D.state device.old).disk.present) (pages_of levels) (pages_of_map pages.new (D.state device.old).disk.present) []) }
-        ensures damaged { D.is_honest device.old → Agrees pages.old (D.state device.old).disk → result ≡ Err PagesError.Damaged →
-            (levels : List (List Part)) → Holds self.old.form (pages_of_map pages.old (D.state device.old).disk.present) self.old.root levels → ⊥ }
+        ensures cleared { OnTree D.Device self.old.form self.old.root pages.old device.old
+            (λ levels. OnOk result (Moves (pages_on D.Device pages.old device.old) (pages_of levels) (pages_on D.Device pages.new device.old) [])) }
+        ensures damaged { OnNoTree D.Device self.old.form self.old.root pages.old device.old (result ≡ Err PagesError.Damaged) }
         ensures form { self.new.form ≡ self.old.form }
         ensures root { OnOk result (self.new.root ≡ 0) }
         ensures same { OnErr result (self.new ≡ self.old) }
         ensures filled { filled_of pages.new ≤ filled_of pages.old }
         ensures committed { SameCommitted pages.old pages.new }
         ensures catalog { catalog_of pages.new ≡ catalog_of pages.old }
-        ensures agrees { D.is_honest device.old → Agrees pages.old (D.state device.old).disk → Agrees pages.new (D.state device.new).disk }
+        ensures agrees { Agreed D.Device pages.old device.old (Agrees pages.new (D.state device.new).disk) }
         ensures open { IsOpen pages.new }
         ensures spent { result ≡ Err PagesError.Spent → (is_spent pages.old ≡ true) × (self.old.root ≢ 0) }
         ensures cause { IfErr result IsChangeRefusal }

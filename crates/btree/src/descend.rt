@@ -1,13 +1,14 @@
 //! The way of a key down a tree.
 ghost use Rattle.std.specs.Prelude.{true, ◌≡◌, ◌≤◌, ◌↔◌, Err, List, length, IfOk, IfErr};
 ghost use Rattle.station.specs.Calls.{OnlyReads};
-ghost use Rattle.pages.specs.Pages.{map_now, is_spent, sectors_of, Agrees, IsOpen};
+ghost use Rattle.pages.specs.Pages.{is_spent, sectors_of, Agrees, IsOpen};
 ghost use Rattle.tree_pages.specs.Form.{IsForm};
 ghost use Rattle.tree_pages.specs.Node.{IsNode};
 ghost use Rattle.btree.specs.Tree.{Part, IsTree};
 ghost use Rattle.btree.specs.Path.{EndsAt};
 ghost use Rattle.btree.specs.Steps.{LeadsTo};
 ghost use Rattle.btree.specs.Reading.{Untouched, IsRefusal};
+ghost use Rattle.btree.specs.Calls.{Agreed, pages_on};
 
 use crate::key::Key;
 use crate::part::read_part;
@@ -53,13 +54,13 @@ fn follow<D: Device>(
     requires form { IsForm form }
     ensures only { OnlyReads D.Device (result ≡ Err PagesError.Device) device.old device.new }
     ensures untouched { Untouched pages.old pages.new }
-    ensures agrees { D.is_honest device.old → Agrees pages.old (D.state device.old).disk → Agrees pages.new (D.state device.new).disk }
+    ensures agrees { Agreed D.Device pages.old device.old (Agrees pages.new (D.state device.new).disk) }
     ensures open { IsOpen pages.new }
-    ensures way { D.is_honest device.old → Agrees pages.old (D.state device.old).disk → (levels : List (List Part)) →
-        IsTree form (map_now pages.old (D.state device.old).disk.present).pages root levels →
-        IfOk result (λ way. LeadsTo form (map_now pages.old (D.state device.old).disk.present).pages key.now levels way.path.items way.page way.right) }
-    ensures damaged { D.is_honest device.old → Agrees pages.old (D.state device.old).disk → result ≡ Err PagesError.Damaged →
-        (levels : List (List Part)) → IsTree form (map_now pages.old (D.state device.old).disk.present).pages root levels → ⊥ }
+    ensures way { Agreed D.Device pages.old device.old
+        ((levels : List (List Part)) → IsTree form (pages_on D.Device pages.old device.old) root levels →
+        IfOk result (λ way. LeadsTo form (pages_on D.Device pages.old device.old) key.now levels way.path.items way.page way.right)) }
+    ensures damaged { Agreed D.Device pages.old device.old
+        (result ≡ Err PagesError.Damaged → (levels : List (List Part)) → IsTree form (pages_on D.Device pages.old device.old) root levels → ⊥) }
     ensures spent { result ≡ Err PagesError.Spent ↔ is_spent pages.old ≡ true }
     ensures cause { IfErr result (IsRefusal form) }
 {
@@ -98,13 +99,13 @@ pub(crate) fn descend<D: Device>(
     requires form { IsForm form }
     ensures only { OnlyReads D.Device (result ≡ Err PagesError.Device) device.old device.new }
     ensures untouched { Untouched pages.old pages.new }
-    ensures agrees { D.is_honest device.old → Agrees pages.old (D.state device.old).disk → Agrees pages.new (D.state device.new).disk }
+    ensures agrees { Agreed D.Device pages.old device.old (Agrees pages.new (D.state device.new).disk) }
     ensures open { IsOpen pages.new }
-    ensures way { D.is_honest device.old → Agrees pages.old (D.state device.old).disk → (levels : List (List Part)) →
-        IsTree form (map_now pages.old (D.state device.old).disk.present).pages root levels →
-        IfOk result (λ descent. EndsAt form key.now levels descent.path.items descent.page descent.leaf.rows descent.right) }
-    ensures damaged { D.is_honest device.old → Agrees pages.old (D.state device.old).disk → result ≡ Err PagesError.Damaged →
-        (levels : List (List Part)) → IsTree form (map_now pages.old (D.state device.old).disk.present).pages root levels → ⊥ }
+    ensures way { Agreed D.Device pages.old device.old
+        ((levels : List (List Part)) → IsTree form (pages_on D.Device pages.old device.old) root levels →
+        IfOk result (λ descent. EndsAt form key.now levels descent.path.items descent.page descent.leaf.rows descent.right)) }
+    ensures damaged { Agreed D.Device pages.old device.old
+        (result ≡ Err PagesError.Damaged → (levels : List (List Part)) → IsTree form (pages_on D.Device pages.old device.old) root levels → ⊥) }
     ensures leaf { IfOk result (λ descent. (descent.leaf.form ≡ form) × (descent.leaf.kind ≡ Kind.Leaf) × (length descent.leaf.rows ≤ 4080)) }
     ensures node { IfOk result (λ descent. IsNode descent.leaf) }
     ensures spent { result ≡ Err PagesError.Spent ↔ is_spent pages.old ≡ true }

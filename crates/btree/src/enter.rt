@@ -8,6 +8,7 @@ ghost use Rattle.btree.specs.Tree.{Part, IsTree};
 ghost use Rattle.btree.specs.Path.{EndsAt};
 ghost use Rattle.btree.specs.Changes.{pages_of_map, Keeps, HasKeys, Settles, Enters};
 ghost use Rattle.btree.specs.Refusals.{IsWriteRefusal, IsInsertRefusal};
+ghost use Rattle.btree.specs.Calls.{Agreed, pages_on};
 
 use crate::descend::Descent;
 use crate::grown::Grown;
@@ -71,18 +72,18 @@ pub(crate) fn enter<D: Device>(
     requires key { length key.now ≡ form.key_length }
     requires value { length value.now ≡ form.value_length }
     ensures only { OnlyReads D.Device (result ≡ Err PagesError.Device) device.old device.new }
-    ensures entered { D.is_honest device.old → Agrees pages.old (D.state device.old).disk → IfOk result (λ new.
-        Enters form root (pages_of_map pages.old (D.state device.old).disk.present) (pages_of_map pages.new (D.state device.old).disk.present) descent.path.items descent.page descent.leaf.rows descent.right
-        place key.now value.now new) }
-    ensures damaged { D.is_honest device.old → Agrees pages.old (D.state device.old).disk → result ≡ Err PagesError.Damaged →
-        (levels : List (List Part)) → IsTree form (pages_of_map pages.old (D.state device.old).disk.present) root levels →
-        EndsAt form key.now levels descent.path.items descent.page descent.leaf.rows descent.right → ⊥ }
+    ensures entered { Agreed D.Device pages.old device.old
+        (IfOk result (λ new. Enters form root (pages_on D.Device pages.old device.old) (pages_on D.Device pages.new device.old)
+        descent.path.items descent.page descent.leaf.rows descent.right place key.now value.now new)) }
+    ensures damaged { Agreed D.Device pages.old device.old
+        (result ≡ Err PagesError.Damaged → (levels : List (List Part)) → IsTree form (pages_on D.Device pages.old device.old) root levels →
+        EndsAt form key.now levels descent.path.items descent.page descent.leaf.rows descent.right → ⊥) }
     ensures some { 0 < root → IfOk result (λ new. 0 < new) }
     ensures touched { length (touched_of pages.new) ≤ length (touched_of pages.old) + 2 * length descent.path.items + 3 }
     ensures filled { filled_of pages.new ≤ filled_of pages.old + 2 * length descent.path.items + 3 }
     ensures committed { SameCommitted pages.old pages.new }
     ensures catalog { catalog_of pages.new ≡ catalog_of pages.old }
-    ensures agrees { D.is_honest device.old → Agrees pages.old (D.state device.old).disk → Agrees pages.new (D.state device.new).disk }
+    ensures agrees { Agreed D.Device pages.old device.old (Agrees pages.new (D.state device.new).disk) }
     ensures open { IsOpen pages.new }
     ensures cause { IfErr result IsInsertRefusal }
     ensures full { result ≡ Err PagesError.Full → HasEachPage pages.new }

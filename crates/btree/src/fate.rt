@@ -17,6 +17,6 @@ pub(crate) enum Fate {
     Renamed(Child),
     /// No row was left, and it was released.
     Gone,
-    /// One row is left for an inner page, which is too few. Nothing was written, so that its page is as it was.
+    /// Rows are left, but too few. Nothing was written, so that its page is as it was.
     Underfull(Child),
 }

@@ -1,14 +1,14 @@
 //! A new entry.
-ghost use Rattle.std.specs.Prelude.{◌≡◌, ◌≤◌, ◌<◌, ◌+◌, ◌↔◌, Err, Ok, Some, None, List, length, true, false, IsSome, IfOk, IfErr, OnErr};
+ghost use Rattle.std.specs.Prelude.{◌≡◌, ◌≤◌, ◌<◌, ◌+◌, ◌↔◌, Err, Ok, Some, None, length, true, false, IsSome, IfOk, IfErr, OnErr};
 ghost use Rattle.station.specs.Calls.{OnlyReads};
 ghost use Rattle.pages.specs.Pages.{IsOpen, Agrees, SameCommitted, HasEachPage, is_spent, committed_of, catalog_of, sectors_of, touched_of, filled_of};
 ghost use Rattle.pages.specs.Use.{free_count};
 ghost use Rattle.tree_pages.specs.Form.{IsForm};
-ghost use Rattle.btree.specs.Tree.{Part, Holds};
 ghost use Rattle.btree.specs.Entries.{entries_of, entry_with};
 ghost use Rattle.btree.specs.Reading.{Untouched};
-ghost use Rattle.btree.specs.Changes.{pages_of_map, Inserts};
+ghost use Rattle.btree.specs.Changes.{Inserts};
 ghost use Rattle.btree.specs.Refusals.{IsInsertRefusal};
+ghost use Rattle.btree.specs.Calls.{Agreed, OnNoTree, OnTree, pages_on};
 
 use crate::descend::descend;
 use crate::enter::enter;
@@ -36,19 +36,15 @@ fn insert_entry<D: Device>(
     requires key { length key.now ≡ form.key_length }
     requires value { length value.now ≡ form.value_length }
     ensures only { OnlyReads D.Device (result ≡ Err PagesError.Device) device.old device.new }
-    ensures inserted { D.is_honest device.old → Agrees pages.old (D.state device.old).disk → (levels : List (List Part)) →
-        Holds form (pages_of_map pages.old (D.state device.old).disk.present) root levels →
-        IfOk result (Inserts form (pages_of_map pages.old (D.state device.old).disk.present) levels (pages_of_map pages.new (D.state device.old).disk.present) key.now value.now) }
-    ensures damaged { D.is_honest device.old → Agrees pages.old (D.state device.old).disk → result ≡ Err PagesError.Damaged →
-        (levels : List (List Part)) → Holds form (pages_of_map pages.old (D.state device.old).disk.present) root levels → ⊥ }
+    ensures inserted { OnTree D.Device form root pages.old device.old
+        (λ levels. IfOk result (Inserts form (pages_on D.Device pages.old device.old) levels (pages_on D.Device pages.new device.old) key.now value.now)) }
+    ensures damaged { OnNoTree D.Device form root pages.old device.old (result ≡ Err PagesError.Damaged) }
     ensures there { result ≡ Ok None → Untouched pages.old pages.new }
-    ensures touched { D.is_honest device.old → Agrees pages.old (D.state device.old).disk → (levels : List (List Part)) →
-        Holds form (pages_of_map pages.old (D.state device.old).disk.present) root levels → length (touched_of pages.new) ≤ length (touched_of pages.old) + 42 }
-    ensures filled { D.is_honest device.old → Agrees pages.old (D.state device.old).disk → (levels : List (List Part)) →
-        Holds form (pages_of_map pages.old (D.state device.old).disk.present) root levels → filled_of pages.new ≤ filled_of pages.old + 42 }
+    ensures touched { OnTree D.Device form root pages.old device.old (λ levels. length (touched_of pages.new) ≤ length (touched_of pages.old) + 42) }
+    ensures filled { OnTree D.Device form root pages.old device.old (λ levels. filled_of pages.new ≤ filled_of pages.old + 42) }
     ensures committed { SameCommitted pages.old pages.new }
     ensures catalog { catalog_of pages.new ≡ catalog_of pages.old }
-    ensures agrees { D.is_honest device.old → Agrees pages.old (D.state device.old).disk → Agrees pages.new (D.state device.new).disk }
+    ensures agrees { Agreed D.Device pages.old device.old (Agrees pages.new (D.state device.new).disk) }
     ensures open { IsOpen pages.new }
     ensures full { result ≡ Err PagesError.Full → HasEachPage pages.new }
     ensures spent { result ≡ Err PagesError.Spent ↔ is_spent pages.old ≡ true }
@@ -95,33 +91,30 @@ impl Tree {
         ensures only { OnlyReads D.Device (result ≡ Err PagesError.Device) device.old device.new }
 
         // The list of entries has the new one at its place, and the pages around the tree stay.
-        ensures inserted { D.is_honest device.old → Agrees pages.old (D.state device.old).disk → (levels : List (List Part)) →
-            Holds self.old.form (pages_of_map pages.old (D.state device.old).disk.present) self.old.root levels →
-            result ≡ Ok true → Inserts self.old.form (pages_of_map pages.old (D.state device.old).disk.present) levels (pages_of_map pages.new (D.state device.old).disk.present) key.now value.now (Some self.new.root) }
-        ensures there { D.is_honest device.old → Agrees pages.old (D.state device.old).disk → (levels : List (List Part)) →
-            Holds self.old.form (pages_of_map pages.old (D.state device.old).disk.present) self.old.root levels →
-            result ≡ Ok false → IsSome (entry_with (entries_of self.old.form levels) key.now) }
+        ensures inserted { OnTree D.Device self.old.form self.old.root pages.old device.old
+            (λ levels. result ≡ Ok true →
+            Inserts self.old.form (pages_on D.Device pages.old device.old) levels (pages_on D.Device pages.new device.old)
+            key.now value.now (Some self.new.root)) }
+        ensures there { OnTree D.Device self.old.form self.old.root pages.old device.old
+            (λ levels. result ≡ Ok false → IsSome (entry_with (entries_of self.old.form levels) key.now)) }
         ensures same { result ≡ Ok false → Untouched pages.old pages.new × (self.new ≡ self.old) }
-        ensures damaged { D.is_honest device.old → Agrees pages.old (D.state device.old).disk → result ≡ Err PagesError.Damaged →
-            (levels : List (List Part)) → Holds self.old.form (pages_of_map pages.old (D.state device.old).disk.present) self.old.root levels → ⊥ }
+        ensures damaged { OnNoTree D.Device self.old.form self.old.root pages.old device.old (result ≡ Err PagesError.Damaged) }
         ensures form { self.new.form ≡ self.old.form }
         ensures refused { OnErr result (self.new ≡ self.old) }
 
         // At most so many pages are changed, whatever the answer.
-        ensures touched { D.is_honest device.old → Agrees pages.old (D.state device.old).disk → (levels : List (List Part)) →
-            Holds self.old.form (pages_of_map pages.old (D.state device.old).disk.present) self.old.root levels → length (touched_of pages.new) ≤ length (touched_of pages.old) + 42 }
-        ensures filled { D.is_honest device.old → Agrees pages.old (D.state device.old).disk → (levels : List (List Part)) →
-            Holds self.old.form (pages_of_map pages.old (D.state device.old).disk.present) self.old.root levels → filled_of pages.new ≤ filled_of pages.old + 42 }
+        ensures touched { OnTree D.Device self.old.form self.old.root pages.old device.old
+            (λ levels. length (touched_of pages.new) ≤ length (touched_of pages.old) + 42) }
+        ensures filled { OnTree D.Device self.old.form self.old.root pages.old device.old (λ levels. filled_of pages.new ≤ filled_of pages.old + 42) }
         ensures committed { SameCommitted pages.old pages.new }
         ensures catalog { catalog_of pages.new ≡ catalog_of pages.old }
-        ensures agrees { D.is_honest device.old → Agrees pages.old (D.state device.old).disk → Agrees pages.new (D.state device.new).disk }
+        ensures agrees { Agreed D.Device pages.old device.old (Agrees pages.new (D.state device.new).disk) }
         ensures open { IsOpen pages.new }
 
         // `Full` tells that each page number is used, and so that few sectors were free. `Spent` comes exactly where the map is spent.
         ensures full { result ≡ Err PagesError.Full → HasEachPage pages.new }
-        ensures room { D.is_honest device.old → Agrees pages.old (D.state device.old).disk → (levels : List (List Part)) →
-            Holds self.old.form (pages_of_map pages.old (D.state device.old).disk.present) self.old.root levels →
-            result ≡ Err PagesError.Full → free_count (committed_of pages.old) < length (touched_of pages.old) + 42 }
+        ensures room { OnTree D.Device self.old.form self.old.root pages.old device.old
+            (λ levels. result ≡ Err PagesError.Full → free_count (committed_of pages.old) < length (touched_of pages.old) + 42) }
         ensures spent { result ≡ Err PagesError.Spent ↔ is_spent pages.old ≡ true }
         ensures cause { IfErr result IsInsertRefusal }
     {

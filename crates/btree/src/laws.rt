@@ -1,5 +1,5 @@
 //! The laws of trees.
-ghost use Rattle.btree.specs.Laws.{EntriesAscend, EntryOfKey, EntryThere, FewLevels, LevelsAscend, OnceInParts, OneTree, PagesOnce, TreeStays};
+ghost use Rattle.btree.specs.Laws.{EntriesAscend, EntryOfKey, EntryThere, FewLeaves, FewLevels, LevelsAscend, OnceInParts, OneTree, PagesOnce, TreeStays};
 
 /// The entry that `get` answers has the key that was asked for, and that key's value.
 pub fn entry_of_key()
@@ -19,6 +19,11 @@ pub fn one_tree()
 /// A tree has at most 20 levels.
 pub fn few_levels()
     ensures { FewLevels }
+{}
+
+/// A tree has at most four leaves for as many entries as one has room for, besides those that have less than a quarter of them.
+pub fn few_leaves()
+    ensures { FewLeaves }
 {}
 
 /// A change of another tree's pages leaves a tree as it is, where they have no page in common, and they have none then.

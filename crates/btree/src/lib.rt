@@ -32,7 +32,7 @@ mod turn;
 
 pub use entry::Entry;
 pub use laws::{
-    entries_ascend, entry_of_key, entry_there, few_levels, levels_ascend, one_tree, pages_once,
-    tree_stays,
+    entries_ascend, entry_of_key, entry_there, few_leaves, few_levels, levels_ascend, one_tree,
+    pages_once, tree_stays,
 };
 pub use tree::Tree;

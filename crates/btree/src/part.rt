@@ -1,11 +1,12 @@
 //! A page of a tree is read.
 ghost use Rattle.std.specs.Prelude.{true, ◌≡◌, ◌≤◌, ◌<◌, ◌↔◌, Err, Some, ℕ, length, IfOk, IfErr, OnErr};
 ghost use Rattle.station.specs.Calls.{OnlyReads};
-ghost use Rattle.pages.specs.Pages.{map_now, is_spent, sectors_of, Agrees, IsOpen};
+ghost use Rattle.pages.specs.Pages.{is_spent, sectors_of, Agrees, IsOpen};
 ghost use Rattle.tree_pages.specs.Form.{IsForm};
 ghost use Rattle.tree_pages.specs.Node.{IsNode, node_in};
 ghost use Rattle.btree.specs.Tree.{Part, node_at, fewest, Stands};
 ghost use Rattle.btree.specs.Reading.{Untouched, IsReadRefusal, SpellsNoPart};
+ghost use Rattle.btree.specs.Calls.{Agreed, pages_on};
 
 use pages::{PageMap, PagesError};
 use station::Device;
@@ -64,14 +65,15 @@ pub(crate) fn read_part<D: Device>(
     requires form { IsForm form }
     ensures only { OnlyReads D.Device (result ≡ Err PagesError.Device) device.old device.new }
     ensures untouched { Untouched pages.old pages.new }
-    ensures agrees { D.is_honest device.old → Agrees pages.old (D.state device.old).disk → Agrees pages.new (D.state device.new).disk }
+    ensures agrees { Agreed D.Device pages.old device.old (Agrees pages.new (D.state device.new).disk) }
     ensures open { IsOpen pages.new }
-    ensures part { D.is_honest device.old → Agrees pages.old (D.state device.old).disk →
-        IfOk result (λ part. node_at form (map_now pages.old (D.state device.old).disk.present).pages page ≡ Some part) }
+    ensures part { Agreed D.Device pages.old device.old
+        (IfOk result (λ part. node_at form (pages_on D.Device pages.old device.old) page ≡ Some part)) }
     ensures shape { IfOk result (λ part. (part.form ≡ form) × (fewest part.kind ≤ length part.rows) × (length part.rows ≤ 4080)) }
     ensures node { IfOk result IsNode }
-    ensures damaged { D.is_honest device.old → Agrees pages.old (D.state device.old).disk → result ≡ Err PagesError.Damaged →
-        (kind : Kind) (part : Part) → part.page ≡ page → Stands form (map_now pages.old (D.state device.old).disk.present).pages kind part → ⊥ }
+    ensures damaged { Agreed D.Device pages.old device.old
+        (result ≡ Err PagesError.Damaged → (kind : Kind) (part : Part) → part.page ≡ page →
+        Stands form (pages_on D.Device pages.old device.old) kind part → ⊥) }
     ensures spent { result ≡ Err PagesError.Spent ↔ is_spent pages.old ≡ true }
     ensures cause { IfErr result IsReadRefusal }
 {

@@ -3,7 +3,7 @@ ghost use Rattle.std.specs.Prelude.{true, ◌≡◌, ◌≤◌, ◌<◌, ◌+◌
 ghost use Rattle.std.specs.List.{All};
 ghost use Rattle.station.specs.Disk.{Sector};
 ghost use Rattle.pages.specs.Pages.{IsOpen, HasEachPage, is_spent, touched_of, filled_of};
-ghost use Rattle.tree_pages.specs.Form.{IsForm, rest_length, row_length};
+ghost use Rattle.tree_pages.specs.Form.{IsForm, row_length};
 ghost use Rattle.btree.specs.Tree.{fewest, row_of};
 ghost use Rattle.btree.specs.Moves.{Replaced};
 ghost use Rattle.btree.specs.Rises.{part_of};

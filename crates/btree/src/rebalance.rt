@@ -1,12 +1,13 @@
-//! An inner page that one row is left for is joined with a neighbour, or takes rows of it.
+//! A page that too few rows are left for is joined with a neighbour, or takes rows of it.
 ghost use Rattle.std.specs.Prelude.{true, ◌≡◌, ◌≢◌, ◌≤◌, ◌<◌, ◌+◌, ◌++◌, ◌↔◌, Err, Some, ℕ, List, [], ◌∷◌, length, map, take, drop, slice_index_or, IfSome, IfOk, IfErr, OnOk};
 ghost use Rattle.byteorder.specs.Endian.{big_bytes};
 ghost use Rattle.station.specs.Disk.{Sector};
 ghost use Rattle.station.specs.Calls.{OnlyReads};
-ghost use Rattle.pages.specs.Pages.{map_now, is_spent, IsOpen, IsPage, Agrees, SameCommitted, catalog_of, sectors_of, touched_of, filled_of};
+ghost use Rattle.pages.specs.Pages.{is_spent, IsOpen, IsPage, Agrees, SameCommitted, catalog_of, sectors_of, touched_of, filled_of};
 ghost use Rattle.tree_pages.specs.Form.{IsForm, capacity};
 ghost use Rattle.tree_pages.specs.Keys.{rest_of};
-ghost use Rattle.btree.specs.Tree.{Part, node_at, row_of, rows_of, Stands};
+ghost use Rattle.btree.specs.Tree.{Part, node_at, row_of, rows_of, fewest, Stands};
+ghost use Rattle.btree.specs.Fills.{IsEven};
 ghost use Rattle.btree.specs.Reading.{Untouched, IsReadRefusal};
 ghost use Rattle.btree.specs.Moves.{Replaced};
 ghost use Rattle.btree.specs.Nodes.{SameNode};
@@ -14,6 +15,7 @@ ghost use Rattle.btree.specs.Rises.{part_of, run_of};
 ghost use Rattle.btree.specs.Changes.{pages_of_map, CanStand, Keeps, HasKeys};
 ghost use Rattle.btree.specs.Fates.{Fits, spare, AreTwo, IsJoined, ArePair, Joins, IsPair, Rebalanced};
 ghost use Rattle.btree.specs.Refusals.{IsPutRefusal, IsRestRefusal};
+ghost use Rattle.btree.specs.Calls.{Agreed, pages_on};
 
 use crate::fate::{Child, Fate};
 use crate::grown::{Grown, Right};
@@ -50,13 +52,13 @@ fn share_rows(left: &mut TreePage, right: &mut TreePage)
 /// tells that one of the two pages is none.
 fn rebalance(pages: &mut PageMap, left: Child, right: Child) -> Result<Grown, PagesError>
     requires open { IsOpen pages.old }
-    requires inner { left.node.kind ≡ Kind.Inner }
     requires like { SameNode left.node right.node }
     requires many { 2 ≤ length left.node.rows + length right.node.rows }
     ensures rows { IfOk result (λ joined. rows_of (run_of joined) ≡ left.node.rows ++ right.node.rows) }
     ensures pages { IfOk result (λ joined. (image : List Sector) (one two : List (List ℕ)) → AreTwo (pages_of_map pages.old image) left.page right.page →
-        Replaced left.node.form Kind.Inner (pages_of_map pages.old image) (part_of left.page one ∷ part_of right.page two ∷ []) (pages_of_map pages.new image) (run_of joined)) }
+        Replaced left.node.form left.node.kind (pages_of_map pages.old image) (part_of left.page one ∷ part_of right.page two ∷ []) (pages_of_map pages.new image) (run_of joined)) }
     ensures joined { IfOk result (IsJoined left.node.form left.page right.page) }
+    ensures even { IfOk result (λ joined. IsEven left.node.form left.node.kind (run_of joined)) }
     ensures touched { OnOk result (length (touched_of pages.new) ≤ length (touched_of pages.old) + 2) }
     ensures filled { OnOk result (filled_of pages.new ≤ filled_of pages.old + 2) }
     ensures keeps { Keeps pages.old pages.new }
@@ -71,7 +73,8 @@ fn rebalance(pages: &mut PageMap, left: Child, right: Child) -> Result<Grown, Pa
     if !is_page(pages, right.page) {
         return Err(PagesError::Damaged);
     }
-    if left.node.count() + right.node.count() <= left.node.form().capacity(Kind::Inner) {
+    let room = left.node.form().capacity(left.node.kind());
+    if left.node.count() + right.node.count() <= room {
         let one = merge(pages, left, right)?;
         return Ok(one);
     }
@@ -84,14 +87,14 @@ fn merge(pages: &mut PageMap, left: Child, right: Child) -> Result<Grown, PagesE
     requires open { IsOpen pages.old }
     requires left_page { IsPage pages.old left.page }
     requires right_page { IsPage pages.old right.page }
-    requires inner { left.node.kind ≡ Kind.Inner }
     requires like { SameNode left.node right.node }
     requires many { 2 ≤ length left.node.rows + length right.node.rows }
-    requires room { length left.node.rows + length right.node.rows ≤ capacity left.node.form Kind.Inner }
+    requires room { length left.node.rows + length right.node.rows ≤ capacity left.node.form left.node.kind }
     ensures rows { IfOk result (λ joined. rows_of (run_of joined) ≡ left.node.rows ++ right.node.rows) }
     ensures pages { IfOk result (λ joined. (image : List Sector) (one two : List (List ℕ)) → AreTwo (pages_of_map pages.old image) left.page right.page →
-        Replaced left.node.form Kind.Inner (pages_of_map pages.old image) (part_of left.page one ∷ part_of right.page two ∷ []) (pages_of_map pages.new image) (run_of joined)) }
+        Replaced left.node.form left.node.kind (pages_of_map pages.old image) (part_of left.page one ∷ part_of right.page two ∷ []) (pages_of_map pages.new image) (run_of joined)) }
     ensures joined { IfOk result (IsJoined left.node.form left.page right.page) }
+    ensures even { IfOk result (λ joined. IsEven left.node.form left.node.kind (run_of joined)) }
     ensures touched { OnOk result (length (touched_of pages.new) ≤ length (touched_of pages.old) + 2) }
     ensures filled { OnOk result (filled_of pages.new ≤ filled_of pages.old + 2) }
     ensures keeps { Keeps pages.old pages.new }
@@ -118,13 +121,14 @@ fn redistribute(pages: &mut PageMap, left: Child, right: Child) -> Result<Grown,
     requires open { IsOpen pages.old }
     requires left_page { IsPage pages.old left.page }
     requires right_page { IsPage pages.old right.page }
-    requires inner { left.node.kind ≡ Kind.Inner }
     requires like { SameNode left.node right.node }
     requires many { 4 ≤ length left.node.rows + length right.node.rows }
+    requires full { capacity left.node.form left.node.kind < length left.node.rows + length right.node.rows }
     ensures rows { IfOk result (λ joined. rows_of (run_of joined) ≡ left.node.rows ++ right.node.rows) }
     ensures pages { IfOk result (λ joined. (image : List Sector) (one two : List (List ℕ)) → AreTwo (pages_of_map pages.old image) left.page right.page →
-        Replaced left.node.form Kind.Inner (pages_of_map pages.old image) (part_of left.page one ∷ part_of right.page two ∷ []) (pages_of_map pages.new image) (run_of joined)) }
+        Replaced left.node.form left.node.kind (pages_of_map pages.old image) (part_of left.page one ∷ part_of right.page two ∷ []) (pages_of_map pages.new image) (run_of joined)) }
     ensures joined { IfOk result (IsJoined left.node.form left.page right.page) }
+    ensures even { IfOk result (λ joined. IsEven left.node.form left.node.kind (run_of joined)) }
     ensures touched { OnOk result (length (touched_of pages.new) ≤ length (touched_of pages.old) + 2) }
     ensures filled { OnOk result (filled_of pages.new ≤ filled_of pages.old + 2) }
     ensures keeps { Keeps pages.old pages.new }
@@ -186,12 +190,12 @@ fn rebalance_pair(
     requires page { IsPage pages.old page }
     requires inner { node.kind ≡ Kind.Inner }
     requires place { place + 1 < length node.rows }
-    requires left { SameNode node left.node }
-    requires right { SameNode node right.node }
+    requires form { left.node.form ≡ node.form }
+    requires like { SameNode left.node right.node }
     requires many { 2 ≤ length left.node.rows + length right.node.rows }
     ensures joins { IfOk result (λ fate. (image : List Sector) (one two : Part) → ArePair node.form (pages_of_map pages.old image) page node.rows place one two →
         one.page ≡ left.page → two.page ≡ right.page →
-        Joins node.form (pages_of_map pages.old image) (pages_of_map pages.new image) page node.rows place (left.node.rows ++ right.node.rows) one two fate) }
+        Joins node.form left.node.kind (pages_of_map pages.old image) (pages_of_map pages.new image) page node.rows place (left.node.rows ++ right.node.rows) one two fate) }
     ensures fits { IfOk result (Fits node.form) }
     ensures touched { IfOk result (λ fate. length (touched_of pages.new) + spare fate ≤ length (touched_of pages.old) + 3) }
     ensures filled { IfOk result (λ fate. filled_of pages.new + spare fate ≤ filled_of pages.old + 3) }
@@ -207,12 +211,13 @@ fn rebalance_pair(
     Ok(fate)
 }
 
-/// The neighbour of a child. `Damaged` tells that its page is no inner one of a tree, or has too few rows.
+/// The neighbour of a child, which is of the child's kind. `Damaged` tells that its page is no such one of a tree.
 #[tactic(auto, using(crate::proofs::Pairing::same_catalog))]
 fn neighbour<D: Device>(
     pages: &mut PageMap,
     device: &mut D,
     form: TreeForm,
+    kind: Kind,
     page: u32,
 ) -> Result<Child, PagesError>
     requires open { IsOpen pages.old }
@@ -220,26 +225,26 @@ fn neighbour<D: Device>(
     requires form { IsForm form }
     ensures only { OnlyReads D.Device (result ≡ Err PagesError.Device) device.old device.new }
     ensures untouched { Untouched pages.old pages.new }
-    ensures agrees { D.is_honest device.old → Agrees pages.old (D.state device.old).disk → Agrees pages.new (D.state device.new).disk }
+    ensures agrees { Agreed D.Device pages.old device.old (Agrees pages.new (D.state device.new).disk) }
     ensures catalog { catalog_of pages.new ≡ catalog_of pages.old }
     ensures open { IsOpen pages.new }
-    ensures part { D.is_honest device.old → Agrees pages.old (D.state device.old).disk →
-        IfOk result (λ child. node_at form (map_now pages.old (D.state device.old).disk.present).pages page ≡ Some child.node) }
-    ensures shape { IfOk result (λ child. (child.page ≡ page) × (child.node.form ≡ form) × (child.node.kind ≡ Kind.Inner) × (2 ≤ length child.node.rows)) }
-    ensures damaged { D.is_honest device.old → Agrees pages.old (D.state device.old).disk → result ≡ Err PagesError.Damaged →
-        (part : Part) → part.page ≡ page → Stands form (map_now pages.old (D.state device.old).disk.present).pages Kind.Inner part → ⊥ }
+    ensures part { Agreed D.Device pages.old device.old
+        (IfOk result (λ child. node_at form (pages_on D.Device pages.old device.old) page ≡ Some child.node)) }
+    ensures shape { IfOk result (λ child. (child.page ≡ page) × (child.node.form ≡ form) × (child.node.kind ≡ kind) × (fewest kind ≤ length child.node.rows)) }
+    ensures damaged { Agreed D.Device pages.old device.old
+        (result ≡ Err PagesError.Damaged → (part : Part) → part.page ≡ page → Stands form (pages_on D.Device pages.old device.old) kind part → ⊥) }
     ensures spent { result ≡ Err PagesError.Spent ↔ is_spent pages.old ≡ true }
     ensures cause { IfErr result IsReadRefusal }
 {
     let node = read_part(pages, device, form, page)?;
-    if node.kind() != Kind::Inner {
+    if node.kind() != kind {
         return Err(PagesError::Damaged);
     }
     Ok(Child { page, node })
 }
 
-/// One row is left for the child that a turn led to. It is joined with the neighbour to its left, or to its right where it is the
-/// first. `Damaged` tells that the turn leads to no such page.
+/// Too few rows are left for the child that a turn led to. It is joined with the neighbour to its left, or to its right where it is
+/// the first. `Damaged` tells that the turn leads to no such page.
 pub(crate) fn rebalance_at<D: Device>(
     pages: &mut PageMap,
     device: &mut D,
@@ -252,22 +257,23 @@ pub(crate) fn rebalance_at<D: Device>(
     requires sectors { sectors_of pages.old ≤ D.sectors device.old }
     requires form { IsForm form }
     requires node { node.form ≡ form }
-    requires lone { (lone.node.form ≡ form) × (lone.node.kind ≡ Kind.Inner) × (length lone.node.rows ≡ 1) }
+    requires lone { (lone.node.form ≡ form) × (0 < length lone.node.rows) }
     ensures only { OnlyReads D.Device (result ≡ Err PagesError.Device) device.old device.new }
-    ensures rebalances { D.is_honest device.old → Agrees pages.old (D.state device.old).disk → IfOk result (λ fate. (left right : Part) →
-        CanStand (pages_of_map pages.old (D.state device.old).disk.present) turn.page node →
-        IsPair form (pages_of_map pages.old (D.state device.old).disk.present) turn.page node.rows turn.place lone.page left right →
-        Rebalanced form (pages_of_map pages.old (D.state device.old).disk.present) (pages_of_map pages.new (D.state device.old).disk.present)
-        turn.page node.rows turn.place lone.node.rows left right fate) }
-    ensures damaged { D.is_honest device.old → Agrees pages.old (D.state device.old).disk → result ≡ Err PagesError.Damaged → (left right : Part) →
-        node.kind ≡ Kind.Inner → turn.place < length node.rows → 0 < turn.page → 0 < left.page → 0 < right.page →
-        IsPair form (pages_of_map pages.old (D.state device.old).disk.present) turn.page node.rows turn.place lone.page left right → ⊥ }
+    ensures rebalances { Agreed D.Device pages.old device.old
+        (IfOk result (λ fate. (left right : Part) → CanStand (pages_on D.Device pages.old device.old) turn.page node →
+        IsPair form lone.node.kind (pages_on D.Device pages.old device.old) turn.page node.rows turn.place lone.page left right →
+        Rebalanced form lone.node.kind (pages_on D.Device pages.old device.old) (pages_on D.Device pages.new device.old)
+        turn.page node.rows turn.place lone.node.rows left right fate)) }
+    ensures damaged { Agreed D.Device pages.old device.old
+        (result ≡ Err PagesError.Damaged → (left right : Part) → node.kind ≡ Kind.Inner → turn.place < length node.rows → 0 < turn.page →
+        0 < left.page → 0 < right.page →
+        IsPair form lone.node.kind (pages_on D.Device pages.old device.old) turn.page node.rows turn.place lone.page left right → ⊥) }
     ensures fits { IfOk result (Fits form) }
     ensures touched { IfOk result (λ fate. length (touched_of pages.new) + spare fate ≤ length (touched_of pages.old) + 3) }
     ensures filled { IfOk result (λ fate. filled_of pages.new + spare fate ≤ filled_of pages.old + 3) }
     ensures committed { SameCommitted pages.old pages.new }
     ensures catalog { catalog_of pages.new ≡ catalog_of pages.old }
-    ensures agrees { D.is_honest device.old → Agrees pages.old (D.state device.old).disk → Agrees pages.new (D.state device.new).disk }
+    ensures agrees { Agreed D.Device pages.old device.old (Agrees pages.new (D.state device.new).disk) }
     ensures open { IsOpen pages.new }
     ensures spent { result ≡ Err PagesError.Spent → is_spent pages.old ≡ true }
     ensures cause { result ≢ Err PagesError.Full × result ≢ Err PagesError.ForeignMark }
@@ -278,13 +284,14 @@ pub(crate) fn rebalance_at<D: Device>(
     if node.count() < 2 {
         return Err(PagesError::Damaged);
     }
+    let kind = lone.node.kind();
     if turn.place == 0 {
-        let right = neighbour(pages, device, form, node.child(1))?;
+        let right = neighbour(pages, device, form, kind, node.child(1))?;
         let first = rebalance_pair(pages, turn.page, node, 0, lone, right)?;
         return Ok(first);
     }
     let place = turn.place - 1;
-    let left = neighbour(pages, device, form, node.child(place))?;
+    let left = neighbour(pages, device, form, kind, node.child(place))?;
     let fate = rebalance_pair(pages, turn.page, node, place, left, lone)?;
     Ok(fate)
 }

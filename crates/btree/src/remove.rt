@@ -4,14 +4,14 @@ ghost use Rattle.station.specs.Disk.{Sector};
 ghost use Rattle.station.specs.Calls.{OnlyReads};
 ghost use Rattle.pages.specs.Pages.{IsOpen, Agrees, SameCommitted, is_spent, catalog_of, sectors_of, touched_of, filled_of};
 ghost use Rattle.tree_pages.specs.Form.{IsForm};
-ghost use Rattle.btree.specs.Tree.{Part, Holds};
 ghost use Rattle.btree.specs.Entries.{entries_of, entry_with};
 ghost use Rattle.btree.specs.Reading.{Untouched};
 ghost use Rattle.btree.specs.Changes.{pages_of_map, IsIn, Keeps};
 ghost use Rattle.btree.specs.Fates.{spare};
-ghost use Rattle.btree.specs.Shrinks.{Collapsed, SettlesShrunk, NeverSettles, Collapses};
+ghost use Rattle.btree.specs.Shrinks.{Collapsed, Stayed, SettlesShrunk, NeverSettles, Collapses};
 ghost use Rattle.btree.specs.Removals.{Removes};
 ghost use Rattle.btree.specs.Refusals.{IsRestRefusal, IsChangeRefusal};
+ghost use Rattle.btree.specs.Calls.{Agreed, OnNoTree, OnTree, pages_on};
 
 use crate::descend::descend;
 use crate::fate::{Child, Fate};
@@ -43,6 +43,29 @@ fn collapse_root(pages: &mut PageMap, lone: Child) -> Result<u32, PagesError>
     Ok(lone.node.child(0))
 }
 
+/// A leaf that is the root stays, however few rows it has.
+fn keep_leaf(pages: &mut PageMap, lone: Child) -> Result<u32, PagesError>
+    requires open { IsOpen pages.old }
+    requires lone { (lone.node.kind ≡ Kind.Leaf) × (0 < length lone.node.rows) }
+    ensures stays { IfOk result (λ new. (image : List Sector) → Stayed (pages_of_map pages.old image) (pages_of_map pages.new image) lone new) }
+    ensures touched { OnOk result (length (touched_of pages.new) ≤ length (touched_of pages.old) + 1) }
+    ensures filled { OnOk result (filled_of pages.new ≤ filled_of pages.old + 1) }
+    ensures keeps { Keeps pages.old pages.new }
+    ensures open { IsOpen pages.new }
+    ensures damaged { result ≡ Err PagesError.Damaged → (image : List Sector) → 0 < lone.page → IsIn (pages_of_map pages.old image) lone.page → ⊥ }
+    ensures spent { result ≡ Err PagesError.Spent → is_spent pages.old ≡ true }
+    ensures cause { IfErr result IsRestRefusal }
+{
+    if !is_page(pages, lone.page) {
+        return Err(PagesError::Damaged);
+    }
+    // What this tells is needed below: each row has its length.
+    let _count = lone.node.count();
+    let spelled = lone.node.bytes();
+    pages.edit(lone.page, &spelled)?;
+    Ok(lone.page)
+}
+
 /// The page of the root, after what became of the one there was: 0 where it is gone.
 fn settle_shrunk(pages: &mut PageMap, root: u32, fate: Fate) -> Result<u32, PagesError>
     requires open { IsOpen pages.old }
@@ -60,7 +83,10 @@ fn settle_shrunk(pages: &mut PageMap, root: u32, fate: Fate) -> Result<u32, Page
         Fate::Kept => Ok(root),
         Fate::Renamed(_child) => Ok(root),
         Fate::Gone => Ok(0),
-        Fate::Underfull(child) => collapse_root(pages, child),
+        Fate::Underfull(child) => match child.node.kind() {
+            Kind::Leaf => keep_leaf(pages, child),
+            Kind::Inner => collapse_root(pages, child),
+        },
     }
 }
 
@@ -78,19 +104,16 @@ fn remove_entry<D: Device>(
     requires sectors { sectors_of pages.old ≤ D.sectors device.old }
     requires form { IsForm form }
     ensures only { OnlyReads D.Device (result ≡ Err PagesError.Device) device.old device.new }
-    ensures removed { D.is_honest device.old → Agrees pages.old (D.state device.old).disk → (levels : List (List Part)) →
-        Holds form (pages_of_map pages.old (D.state device.old).disk.present) root levels →
-        IfOk result (Removes form (pages_of_map pages.old (D.state device.old).disk.present) levels (pages_of_map pages.new (D.state device.old).disk.present) key.now) }
-    ensures damaged { D.is_honest device.old → Agrees pages.old (D.state device.old).disk → result ≡ Err PagesError.Damaged →
-        (levels : List (List Part)) → Holds form (pages_of_map pages.old (D.state device.old).disk.present) root levels → ⊥ }
+    ensures removed { OnTree D.Device form root pages.old device.old
+        (λ levels. IfOk result (Removes form (pages_on D.Device pages.old device.old) levels (pages_on D.Device pages.new device.old) key.now)) }
+    ensures damaged { OnNoTree D.Device form root pages.old device.old (result ≡ Err PagesError.Damaged) }
     ensures missing { result ≡ Ok None → Untouched pages.old pages.new }
-    ensures touched { D.is_honest device.old → Agrees pages.old (D.state device.old).disk → (levels : List (List Part)) →
-        Holds form (pages_of_map pages.old (D.state device.old).disk.present) root levels → OnOk result (length (touched_of pages.new) ≤ length (touched_of pages.old) + 42) }
-    ensures filled { D.is_honest device.old → Agrees pages.old (D.state device.old).disk → (levels : List (List Part)) →
-        Holds form (pages_of_map pages.old (D.state device.old).disk.present) root levels → OnOk result (filled_of pages.new ≤ filled_of pages.old + 42) }
+    ensures touched { OnTree D.Device form root pages.old device.old
+        (λ levels. OnOk result (length (touched_of pages.new) ≤ length (touched_of pages.old) + 42)) }
+    ensures filled { OnTree D.Device form root pages.old device.old (λ levels. OnOk result (filled_of pages.new ≤ filled_of pages.old + 42)) }
     ensures committed { SameCommitted pages.old pages.new }
     ensures catalog { catalog_of pages.new ≡ catalog_of pages.old }
-    ensures agrees { D.is_honest device.old → Agrees pages.old (D.state device.old).disk → Agrees pages.new (D.state device.new).disk }
+    ensures agrees { Agreed D.Device pages.old device.old (Agrees pages.new (D.state device.new).disk) }
     ensures open { IsOpen pages.new }
     ensures spent { result ≡ Err PagesError.Spent ↔ ((is_spent pages.old ≡ true) × (root ≢ 0)) }
     ensures cause { IfErr result IsChangeRefusal }
@@ -127,26 +150,25 @@ impl Tree {
         requires sectors { sectors_of pages.old ≤ D.sectors device.old }
         ensures only { OnlyReads D.Device (result ≡ Err PagesError.Device) device.old device.new }
 
-        // The list of entries is without the one of the key, and the pages around the tree stay.
-        ensures removed { D.is_honest device.old → Agrees pages.old (D.state device.old).disk → (levels : List (List Part)) →
-            Holds self.old.form (pages_of_map pages.old (D.state device.old).disk.present) self.old.root levels →
-            result ≡ Ok true → Removes self.old.form (pages_of_map pages.old (D.state device.old).disk.present) levels (pages_of_map pages.new (D.state device.old).disk.present) key.now (Some self.new.root) }
-        ensures missing { D.is_honest device.old → Agrees pages.old (D.state device.old).disk → (levels : List (List Part)) →
-            Holds self.old.form (pages_of_map pages.old (D.state device.old).disk.present) self.old.root levels →
-            result ≡ Ok false → entry_with (entries_of self.old.form levels) key.now ≡ None }
+        // The list of entries is without the one of the key, and the pages around the tree stay. No more leaves than before have less
+        // than a quarter of the rows that they have room for, unless one leaf is all that is left.
+        ensures removed { OnTree D.Device self.old.form self.old.root pages.old device.old
+            (λ levels. result ≡ Ok true →
+            Removes self.old.form (pages_on D.Device pages.old device.old) levels (pages_on D.Device pages.new device.old) key.now (Some self.new.root)) }
+        ensures missing { OnTree D.Device self.old.form self.old.root pages.old device.old
+            (λ levels. result ≡ Ok false → entry_with (entries_of self.old.form levels) key.now ≡ None) }
         ensures same { result ≡ Ok false → Untouched pages.old pages.new × (self.new ≡ self.old) }
-        ensures damaged { D.is_honest device.old → Agrees pages.old (D.state device.old).disk → result ≡ Err PagesError.Damaged →
-            (levels : List (List Part)) → Holds self.old.form (pages_of_map pages.old (D.state device.old).disk.present) self.old.root levels → ⊥ }
+        ensures damaged { OnNoTree D.Device self.old.form self.old.root pages.old device.old (result ≡ Err PagesError.Damaged) }
         ensures form { self.new.form ≡ self.old.form }
 
         // At most so many pages are changed.
-        ensures touched { D.is_honest device.old → Agrees pages.old (D.state device.old).disk → (levels : List (List Part)) →
-            Holds self.old.form (pages_of_map pages.old (D.state device.old).disk.present) self.old.root levels → OnOk result (length (touched_of pages.new) ≤ length (touched_of pages.old) + 42) }
-        ensures filled { D.is_honest device.old → Agrees pages.old (D.state device.old).disk → (levels : List (List Part)) →
-            Holds self.old.form (pages_of_map pages.old (D.state device.old).disk.present) self.old.root levels → OnOk result (filled_of pages.new ≤ filled_of pages.old + 42) }
+        ensures touched { OnTree D.Device self.old.form self.old.root pages.old device.old
+            (λ levels. OnOk result (length (touched_of pages.new) ≤ length (touched_of pages.old) + 42)) }
+        ensures filled { OnTree D.Device self.old.form self.old.root pages.old device.old
+            (λ levels. OnOk result (filled_of pages.new ≤ filled_of pages.old + 42)) }
         ensures committed { SameCommitted pages.old pages.new }
         ensures catalog { catalog_of pages.new ≡ catalog_of pages.old }
-        ensures agrees { D.is_honest device.old → Agrees pages.old (D.state device.old).disk → Agrees pages.new (D.state device.new).disk }
+        ensures agrees { Agreed D.Device pages.old device.old (Agrees pages.new (D.state device.new).disk) }
         ensures open { IsOpen pages.new }
         ensures refused { OnErr result (self.new ≡ self.old) }
         ensures spent { result ≡ Err PagesError.Spent ↔ ((is_spent pages.old ≡ true) × (self.old.root ≢ 0)) }

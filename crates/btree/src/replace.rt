@@ -5,13 +5,13 @@ ghost use Rattle.station.specs.Calls.{OnlyReads};
 ghost use Rattle.pages.specs.Pages.{IsOpen, Agrees, SameCommitted, is_spent, catalog_of, sectors_of, touched_of, filled_of};
 ghost use Rattle.tree_pages.specs.Form.{rest_length};
 ghost use Rattle.tree_pages.specs.Keys.{key_of};
-ghost use Rattle.btree.specs.Tree.{Part, Holds};
 ghost use Rattle.btree.specs.Entries.{entries_of, entry_with, with_value};
 ghost use Rattle.btree.specs.Reading.{Untouched};
 ghost use Rattle.btree.specs.Moves.{Replaced};
 ghost use Rattle.btree.specs.Rises.{part_of};
 ghost use Rattle.btree.specs.Changes.{pages_of_map, IsIn, CanStand, Keeps, Becomes};
 ghost use Rattle.btree.specs.Refusals.{IsRestRefusal, IsChangeRefusal};
+ghost use Rattle.btree.specs.Calls.{Agreed, OnNoTree, OnTree, pages_on};
 
 use crate::descend::descend;
 use crate::lift::put_back;
@@ -69,22 +69,21 @@ impl Tree {
         ensures only { OnlyReads D.Device (result ≡ Err PagesError.Device) device.old device.new }
 
         // The entry of the key has the new value, and the pages around the tree stay.
-        ensures replaced { D.is_honest device.old → Agrees pages.old (D.state device.old).disk → (levels : List (List Part)) →
-            Holds self.old.form (pages_of_map pages.old (D.state device.old).disk.present) self.old.root levels →
-            result ≡ Ok true → IsSome (entry_with (entries_of self.old.form levels) key.now) × Becomes self.old.form (pages_of_map pages.old (D.state device.old).disk.present) levels
-            (pages_of_map pages.new (D.state device.old).disk.present) self.old.root (with_value (entries_of self.old.form levels) (record { key = key.now; value = value.now })) }
-        ensures missing { D.is_honest device.old → Agrees pages.old (D.state device.old).disk → (levels : List (List Part)) →
-            Holds self.old.form (pages_of_map pages.old (D.state device.old).disk.present) self.old.root levels →
-            result ≡ Ok false → entry_with (entries_of self.old.form levels) key.now ≡ None }
+        ensures replaced { OnTree D.Device self.old.form self.old.root pages.old device.old
+            (λ levels. result ≡ Ok true →
+            IsSome (entry_with (entries_of self.old.form levels) key.now) ×
+            Becomes self.old.form (pages_on D.Device pages.old device.old) levels (pages_on D.Device pages.new device.old) self.old.root
+            (with_value (entries_of self.old.form levels) (record { key = key.now; value = value.now }))) }
+        ensures missing { OnTree D.Device self.old.form self.old.root pages.old device.old
+            (λ levels. result ≡ Ok false → entry_with (entries_of self.old.form levels) key.now ≡ None) }
         ensures same { result ≡ Ok false → Untouched pages.old pages.new }
-        ensures damaged { D.is_honest device.old → Agrees pages.old (D.state device.old).disk → result ≡ Err PagesError.Damaged →
-            (levels : List (List Part)) → Holds self.old.form (pages_of_map pages.old (D.state device.old).disk.present) self.old.root levels → ⊥ }
+        ensures damaged { OnNoTree D.Device self.old.form self.old.root pages.old device.old (result ≡ Err PagesError.Damaged) }
         ensures tree { self.new ≡ self.old }
         ensures touched { length (touched_of pages.new) ≤ length (touched_of pages.old) + 1 }
         ensures filled { filled_of pages.new ≤ filled_of pages.old + 1 }
         ensures committed { SameCommitted pages.old pages.new }
         ensures catalog { catalog_of pages.new ≡ catalog_of pages.old }
-        ensures agrees { D.is_honest device.old → Agrees pages.old (D.state device.old).disk → Agrees pages.new (D.state device.new).disk }
+        ensures agrees { Agreed D.Device pages.old device.old (Agrees pages.new (D.state device.new).disk) }
         ensures open { IsOpen pages.new }
         ensures spent { result ≡ Err PagesError.Spent ↔ ((is_spent pages.old ≡ true) × (self.old.root ≢ 0)) }
         ensures cause { IfErr result IsChangeRefusal }

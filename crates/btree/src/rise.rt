@@ -9,6 +9,7 @@ ghost use Rattle.tree_pages.specs.Keys.{rest_of};
 ghost use Rattle.btree.specs.Rises.{run_of};
 ghost use Rattle.btree.specs.Changes.{pages_of_map, IsIn, CanStand, Keeps, HasKeys, Lifts, RisesBy, NeverRises};
 ghost use Rattle.btree.specs.Refusals.{IsLiftRefusal, IsInsertRefusal};
+ghost use Rattle.btree.specs.Calls.{Agreed, pages_on};
 
 use crate::grown::Grown;
 use crate::lift::lift;
@@ -71,16 +72,16 @@ pub(crate) fn rise<D: Device>(
     requires form { IsForm form }
     requires keys { HasKeys form grown }
     ensures only { OnlyReads D.Device (result ≡ Err PagesError.Device) device.old device.new }
-    ensures rises { D.is_honest device.old → Agrees pages.old (D.state device.old).disk → IfOk result (λ up.
-        RisesBy form path.now (pages_of_map pages.old (D.state device.old).disk.present) (pages_of_map pages.new (D.state device.old).disk.present) (Some grown) up) }
-    ensures damaged { D.is_honest device.old → Agrees pages.old (D.state device.old).disk → result ≡ Err PagesError.Damaged →
-        NeverRises form path.now (pages_of_map pages.old (D.state device.old).disk.present) (Some grown) }
+    ensures rises { Agreed D.Device pages.old device.old
+        (IfOk result (λ up. RisesBy form path.now (pages_on D.Device pages.old device.old) (pages_on D.Device pages.new device.old) (Some grown) up)) }
+    ensures damaged { Agreed D.Device pages.old device.old
+        (result ≡ Err PagesError.Damaged → NeverRises form path.now (pages_on D.Device pages.old device.old) (Some grown)) }
     ensures keys { IfOk result (λ up. IfSome up (HasKeys form)) }
     ensures touched { length (touched_of pages.new) ≤ length (touched_of pages.old) + 2 * length path.now }
     ensures filled { filled_of pages.new ≤ filled_of pages.old + 2 * length path.now }
     ensures committed { SameCommitted pages.old pages.new }
     ensures catalog { catalog_of pages.new ≡ catalog_of pages.old }
-    ensures agrees { D.is_honest device.old → Agrees pages.old (D.state device.old).disk → Agrees pages.new (D.state device.new).disk }
+    ensures agrees { Agreed D.Device pages.old device.old (Agrees pages.new (D.state device.new).disk) }
     ensures open { IsOpen pages.new }
     ensures cause { IfErr result IsInsertRefusal }
     ensures full { result ≡ Err PagesError.Full → HasEachPage pages.new }

@@ -3,10 +3,10 @@ ghost use Rattle.std.specs.Prelude.{true, ◌≡◌, ◌≤◌, ◌+◌, ◌*◌
 ghost use Rattle.station.specs.Calls.{OnlyReads};
 ghost use Rattle.pages.specs.Pages.{IsOpen, Agrees, SameCommitted, is_spent, catalog_of, sectors_of, touched_of, filled_of};
 ghost use Rattle.tree_pages.specs.Form.{IsForm};
-ghost use Rattle.btree.specs.Changes.{pages_of_map};
 ghost use Rattle.btree.specs.Fates.{Fits, spare};
 ghost use Rattle.btree.specs.Shrinks.{ShrinksBy, NeverShrinks, ShrinksOn, NeverShrinksOn};
 ghost use Rattle.btree.specs.Refusals.{IsChangeRefusal};
+ghost use Rattle.btree.specs.Calls.{Agreed, pages_on};
 
 use crate::fate::Fate;
 use crate::part::read_part;
@@ -31,16 +31,16 @@ pub(crate) fn shrink<D: Device>(
     requires form { IsForm form }
     requires fits { Fits form fate }
     ensures only { OnlyReads D.Device (result ≡ Err PagesError.Device) device.old device.new }
-    ensures shrinks { D.is_honest device.old → Agrees pages.old (D.state device.old).disk → IfOk result (
-        ShrinksBy form path.now (pages_of_map pages.old (D.state device.old).disk.present) (pages_of_map pages.new (D.state device.old).disk.present) fate) }
-    ensures damaged { D.is_honest device.old → Agrees pages.old (D.state device.old).disk → result ≡ Err PagesError.Damaged →
-        NeverShrinks form path.now (pages_of_map pages.old (D.state device.old).disk.present) fate }
+    ensures shrinks { Agreed D.Device pages.old device.old
+        (IfOk result (ShrinksBy form path.now (pages_on D.Device pages.old device.old) (pages_on D.Device pages.new device.old) fate)) }
+    ensures damaged { Agreed D.Device pages.old device.old
+        (result ≡ Err PagesError.Damaged → NeverShrinks form path.now (pages_on D.Device pages.old device.old) fate) }
     ensures fits { IfOk result (Fits form) }
     ensures touched { IfOk result (λ up. length (touched_of pages.new) + spare up ≤ length (touched_of pages.old) + spare fate + 2 * length path.now) }
     ensures filled { IfOk result (λ up. filled_of pages.new + spare up ≤ filled_of pages.old + spare fate + 2 * length path.now) }
     ensures committed { SameCommitted pages.old pages.new }
     ensures catalog { catalog_of pages.new ≡ catalog_of pages.old }
-    ensures agrees { D.is_honest device.old → Agrees pages.old (D.state device.old).disk → Agrees pages.new (D.state device.new).disk }
+    ensures agrees { Agreed D.Device pages.old device.old (Agrees pages.new (D.state device.new).disk) }
     ensures open { IsOpen pages.new }
     ensures spent { result ≡ Err PagesError.Spent → is_spent pages.old ≡ true }
     ensures cause { IfErr result IsChangeRefusal }
@@ -68,16 +68,16 @@ fn shrink_at<D: Device>(
     requires form { IsForm form }
     requires fits { Fits form below }
     ensures only { OnlyReads D.Device (result ≡ Err PagesError.Device) device.old device.new }
-    ensures shrinks { D.is_honest device.old → Agrees pages.old (D.state device.old).disk → IfOk result (
-        ShrinksOn form turn (pages_of_map pages.old (D.state device.old).disk.present) (pages_of_map pages.new (D.state device.old).disk.present) below) }
-    ensures damaged { D.is_honest device.old → Agrees pages.old (D.state device.old).disk → result ≡ Err PagesError.Damaged →
-        NeverShrinksOn form turn (pages_of_map pages.old (D.state device.old).disk.present) below }
+    ensures shrinks { Agreed D.Device pages.old device.old
+        (IfOk result (ShrinksOn form turn (pages_on D.Device pages.old device.old) (pages_on D.Device pages.new device.old) below)) }
+    ensures damaged { Agreed D.Device pages.old device.old
+        (result ≡ Err PagesError.Damaged → NeverShrinksOn form turn (pages_on D.Device pages.old device.old) below) }
     ensures fits { IfOk result (Fits form) }
     ensures touched { IfOk result (λ up. length (touched_of pages.new) + spare up ≤ length (touched_of pages.old) + spare below + 2) }
     ensures filled { IfOk result (λ up. filled_of pages.new + spare up ≤ filled_of pages.old + spare below + 2) }
     ensures committed { SameCommitted pages.old pages.new }
     ensures catalog { catalog_of pages.new ≡ catalog_of pages.old }
-    ensures agrees { D.is_honest device.old → Agrees pages.old (D.state device.old).disk → Agrees pages.new (D.state device.new).disk }
+    ensures agrees { Agreed D.Device pages.old device.old (Agrees pages.new (D.state device.new).disk) }
     ensures open { IsOpen pages.new }
     ensures spent { result ≡ Err PagesError.Spent → is_spent pages.old ≡ true }
     ensures cause { IfErr result IsChangeRefusal }

@@ -8,6 +8,7 @@ ghost use Rattle.btree.specs.Tree.{least, row_of};
 ghost use Rattle.btree.specs.Rises.{part_of};
 ghost use Rattle.btree.specs.Changes.{pages_of_map, IsIn, CanStand, Keeps};
 ghost use Rattle.btree.specs.Fates.{Fares, Fits, spare};
+ghost use Rattle.btree.specs.Fills.{IsShort};
 ghost use Rattle.btree.specs.Refusals.{IsPutRefusal, IsRestRefusal};
 
 use crate::fate::{Child, Fate};
@@ -15,7 +16,18 @@ use crate::turn::Turn;
 use pages::{PageMap, PagesError};
 use tree_pages::{Kind, TreePage};
 
-/// Puts a node back on its page. A node without rows gives its page up, and an inner page with one row isn't written.
+/// Whether a page has too few rows: a leaf less than a quarter of those that it has room for, an inner page less than two.
+fn is_short(node: &TreePage) -> bool
+    ensures { IsTrue result ↔ IsShort node.now.form node.now.kind (length node.now.rows) }
+{
+    let count = node.count();
+    match node.kind() {
+        Kind::Leaf => count * 4 < node.form().capacity(Kind::Leaf),
+        Kind::Inner => count < 2,
+    }
+}
+
+/// Puts a node back on its page. A node without rows gives its page up, and one with too few rows isn't written.
 pub(crate) fn write_back(
     pages: &mut PageMap,
     page: u32,
@@ -40,7 +52,7 @@ pub(crate) fn write_back(
         pages.release(page)?;
         return Ok(Fate::Gone);
     }
-    if count == 1 && node.kind() == Kind::Inner {
+    if is_short(&node) {
         return Ok(Fate::Underfull(Child { page, node }));
     }
     let spelled = node.bytes();

@@ -1,11 +1,12 @@
 //! One step of a key's way down a tree.
 ghost use Rattle.std.specs.Prelude.{true, ◌≡◌, ◌⊎◌, ◌<◌, ◌≤◌, ◌↔◌, Err, ℕ, IfOk, IfErr, OnErr};
 ghost use Rattle.station.specs.Calls.{OnlyReads};
-ghost use Rattle.pages.specs.Pages.{map_now, is_spent, sectors_of, Agrees, IsOpen};
+ghost use Rattle.pages.specs.Pages.{is_spent, sectors_of, Agrees, IsOpen};
 ghost use Rattle.tree_pages.specs.Form.{IsForm};
 ghost use Rattle.btree.specs.Tree.{Part, Stands};
 ghost use Rattle.btree.specs.Reading.{Untouched, IsRefusal, SpellsNoPart};
 ghost use Rattle.btree.specs.Steps.{StepsIn, StepsAt};
+ghost use Rattle.btree.specs.Calls.{Agreed, pages_on};
 
 use crate::child::{Child, child_place, note_right};
 use crate::key::Key;
@@ -54,12 +55,13 @@ pub(crate) fn step_at<D: Device>(
     requires form { IsForm form }
     ensures only { OnlyReads D.Device (result ≡ Err PagesError.Device) device.old device.new }
     ensures untouched { Untouched pages.old pages.new }
-    ensures agrees { D.is_honest device.old → Agrees pages.old (D.state device.old).disk → Agrees pages.new (D.state device.new).disk }
+    ensures agrees { Agreed D.Device pages.old device.old (Agrees pages.new (D.state device.new).disk) }
     ensures open { IsOpen pages.new }
-    ensures step { D.is_honest device.old → Agrees pages.old (D.state device.old).disk →
-        IfOk result (λ child. StepsAt form (map_now pages.old (D.state device.old).disk.present).pages page key.now right.old right.new child) }
-    ensures damaged { D.is_honest device.old → Agrees pages.old (D.state device.old).disk → result ≡ Err PagesError.Damaged →
-        (kind : Kind) (part : Part) → part.page ≡ page → Stands form (map_now pages.old (D.state device.old).disk.present).pages kind part → ⊥ }
+    ensures step { Agreed D.Device pages.old device.old
+        (IfOk result (λ child. StepsAt form (pages_on D.Device pages.old device.old) page key.now right.old right.new child)) }
+    ensures damaged { Agreed D.Device pages.old device.old
+        (result ≡ Err PagesError.Damaged → (kind : Kind) (part : Part) → part.page ≡ page →
+        Stands form (pages_on D.Device pages.old device.old) kind part → ⊥) }
     ensures spent { result ≡ Err PagesError.Spent ↔ is_spent pages.old ≡ true }
     ensures cause { IfErr result (IsRefusal form) }
 {

@@ -1,13 +1,14 @@
 //! A tree, and what is read of it.
-ghost use Rattle.std.specs.Prelude.{true, ◌≡◌, ◌≢◌, ◌≤◌, ◌↔◌, ◌++◌, Err, Some, None, ℕ, List, [], length, drop, option_map, IfOk, IfErr, IfSome};
+ghost use Rattle.std.specs.Prelude.{true, ◌≡◌, ◌≢◌, ◌≤◌, ◌↔◌, ◌++◌, Err, Some, None, ℕ, List, [], drop, IfOk, IfErr, IfSome};
 ghost use Rattle.station.specs.Calls.{OnlyReads};
-ghost use Rattle.pages.specs.Pages.{map_now, is_spent, sectors_of, Agrees, IsOpen};
+ghost use Rattle.pages.specs.Pages.{is_spent, sectors_of, Agrees, IsOpen};
 ghost use Rattle.tree_pages.specs.Form.{IsForm};
 ghost use Rattle.tree_pages.specs.Node.{IsNode};
-ghost use Rattle.btree.specs.Tree.{Part, Holds, IsTree, rows_in_order};
+ghost use Rattle.btree.specs.Tree.{Part, IsTree, rows_in_order};
 ghost use Rattle.btree.specs.Path.{first_key};
-ghost use Rattle.btree.specs.Entries.{HasLengths, entry_of, entries_of, entry_with, value_of, first_from, first_after, first_entry, listed};
+ghost use Rattle.btree.specs.Entries.{HasLengths, entries_of, entry_with, first_from, first_after, first_entry, listed};
 ghost use Rattle.btree.specs.Reading.{Untouched, IsRefusal};
+ghost use Rattle.btree.specs.Calls.{Agreed, OnNoTree, OnTree, pages_on};
 
 use crate::descend::{Descent, descend};
 use crate::entry::Entry;
@@ -77,13 +78,11 @@ impl Tree {
         requires sectors { sectors_of pages.old ≤ D.sectors device.old }
         ensures only { OnlyReads D.Device (result ≡ Err PagesError.Device) device.old device.new }
         ensures untouched { Untouched pages.old pages.new }
-        ensures agrees { D.is_honest device.old → Agrees pages.old (D.state device.old).disk → Agrees pages.new (D.state device.new).disk }
+        ensures agrees { Agreed D.Device pages.old device.old (Agrees pages.new (D.state device.new).disk) }
         ensures open { IsOpen pages.new }
-        ensures entry { D.is_honest device.old → Agrees pages.old (D.state device.old).disk → (levels : List (List Part)) →
-            Holds self.now.form (map_now pages.old (D.state device.old).disk.present).pages self.now.root levels →
-            IfOk result (λ entry. entry ≡ entry_with (entries_of self.now.form levels) key.now) }
-        ensures damaged { D.is_honest device.old → Agrees pages.old (D.state device.old).disk → result ≡ Err PagesError.Damaged →
-            (levels : List (List Part)) → Holds self.now.form (map_now pages.old (D.state device.old).disk.present).pages self.now.root levels → ⊥ }
+        ensures entry { OnTree D.Device self.now.form self.now.root pages.old device.old
+            (λ levels. IfOk result (λ entry. entry ≡ entry_with (entries_of self.now.form levels) key.now)) }
+        ensures damaged { OnNoTree D.Device self.now.form self.now.root pages.old device.old (result ≡ Err PagesError.Damaged) }
         ensures spent { result ≡ Err PagesError.Spent ↔ ((is_spent pages.old ≡ true) × (self.now.root ≢ 0)) }
         ensures lengths { IfOk result (λ entry. IfSome entry (HasLengths self.now.form)) }
         ensures cause { IfErr result (IsRefusal self.now.form) }
@@ -109,13 +108,11 @@ impl Tree {
         requires sectors { sectors_of pages.old ≤ D.sectors device.old }
         ensures only { OnlyReads D.Device (result ≡ Err PagesError.Device) device.old device.new }
         ensures untouched { Untouched pages.old pages.new }
-        ensures agrees { D.is_honest device.old → Agrees pages.old (D.state device.old).disk → Agrees pages.new (D.state device.new).disk }
+        ensures agrees { Agreed D.Device pages.old device.old (Agrees pages.new (D.state device.new).disk) }
         ensures open { IsOpen pages.new }
-        ensures entry { D.is_honest device.old → Agrees pages.old (D.state device.old).disk → (levels : List (List Part)) →
-            Holds self.now.form (map_now pages.old (D.state device.old).disk.present).pages self.now.root levels →
-            IfOk result (λ entry. entry ≡ first_from (entries_of self.now.form levels) key.now) }
-        ensures damaged { D.is_honest device.old → Agrees pages.old (D.state device.old).disk → result ≡ Err PagesError.Damaged →
-            (levels : List (List Part)) → Holds self.now.form (map_now pages.old (D.state device.old).disk.present).pages self.now.root levels → ⊥ }
+        ensures entry { OnTree D.Device self.now.form self.now.root pages.old device.old
+            (λ levels. IfOk result (λ entry. entry ≡ first_from (entries_of self.now.form levels) key.now)) }
+        ensures damaged { OnNoTree D.Device self.now.form self.now.root pages.old device.old (result ≡ Err PagesError.Damaged) }
         ensures spent { result ≡ Err PagesError.Spent ↔ ((is_spent pages.old ≡ true) × (self.now.root ≢ 0)) }
         ensures lengths { IfOk result (λ entry. IfSome entry (HasLengths self.now.form)) }
         ensures cause { IfErr result (IsRefusal self.now.form) }
@@ -142,13 +139,11 @@ impl Tree {
         requires sectors { sectors_of pages.old ≤ D.sectors device.old }
         ensures only { OnlyReads D.Device (result ≡ Err PagesError.Device) device.old device.new }
         ensures untouched { Untouched pages.old pages.new }
-        ensures agrees { D.is_honest device.old → Agrees pages.old (D.state device.old).disk → Agrees pages.new (D.state device.new).disk }
+        ensures agrees { Agreed D.Device pages.old device.old (Agrees pages.new (D.state device.new).disk) }
         ensures open { IsOpen pages.new }
-        ensures entry { D.is_honest device.old → Agrees pages.old (D.state device.old).disk → (levels : List (List Part)) →
-            Holds self.now.form (map_now pages.old (D.state device.old).disk.present).pages self.now.root levels →
-            IfOk result (λ entry. entry ≡ first_after (entries_of self.now.form levels) key.now) }
-        ensures damaged { D.is_honest device.old → Agrees pages.old (D.state device.old).disk → result ≡ Err PagesError.Damaged →
-            (levels : List (List Part)) → Holds self.now.form (map_now pages.old (D.state device.old).disk.present).pages self.now.root levels → ⊥ }
+        ensures entry { OnTree D.Device self.now.form self.now.root pages.old device.old
+            (λ levels. IfOk result (λ entry. entry ≡ first_after (entries_of self.now.form levels) key.now)) }
+        ensures damaged { OnNoTree D.Device self.now.form self.now.root pages.old device.old (result ≡ Err PagesError.Damaged) }
         ensures spent { result ≡ Err PagesError.Spent ↔ ((is_spent pages.old ≡ true) × (self.now.root ≢ 0)) }
         ensures lengths { IfOk result (λ entry. IfSome entry (HasLengths self.now.form)) }
         ensures cause { IfErr result (IsRefusal self.now.form) }
@@ -174,13 +169,11 @@ impl Tree {
         requires sectors { sectors_of pages.old ≤ D.sectors device.old }
         ensures only { OnlyReads D.Device (result ≡ Err PagesError.Device) device.old device.new }
         ensures untouched { Untouched pages.old pages.new }
-        ensures agrees { D.is_honest device.old → Agrees pages.old (D.state device.old).disk → Agrees pages.new (D.state device.new).disk }
+        ensures agrees { Agreed D.Device pages.old device.old (Agrees pages.new (D.state device.new).disk) }
         ensures open { IsOpen pages.new }
-        ensures entry { D.is_honest device.old → Agrees pages.old (D.state device.old).disk → (levels : List (List Part)) →
-            Holds self.now.form (map_now pages.old (D.state device.old).disk.present).pages self.now.root levels →
-            IfOk result (λ entry. entry ≡ first_entry (entries_of self.now.form levels)) }
-        ensures damaged { D.is_honest device.old → Agrees pages.old (D.state device.old).disk → result ≡ Err PagesError.Damaged →
-            (levels : List (List Part)) → Holds self.now.form (map_now pages.old (D.state device.old).disk.present).pages self.now.root levels → ⊥ }
+        ensures entry { OnTree D.Device self.now.form self.now.root pages.old device.old
+            (λ levels. IfOk result (λ entry. entry ≡ first_entry (entries_of self.now.form levels))) }
+        ensures damaged { OnNoTree D.Device self.now.form self.now.root pages.old device.old (result ≡ Err PagesError.Damaged) }
         ensures spent { result ≡ Err PagesError.Spent ↔ ((is_spent pages.old ≡ true) × (self.now.root ≢ 0)) }
         ensures lengths { IfOk result (λ entry. IfSome entry (HasLengths self.now.form)) }
         ensures cause { IfErr result (IsRefusal self.now.form) }
@@ -202,15 +195,17 @@ impl Tree {
         requires leaf { IsNode descent.leaf × (descent.leaf.kind ≡ Kind.Leaf) }
         ensures only { OnlyReads D.Device (result ≡ Err PagesError.Device) device.old device.new }
         ensures untouched { Untouched pages.old pages.new }
-        ensures agrees { D.is_honest device.old → Agrees pages.old (D.state device.old).disk → Agrees pages.new (D.state device.new).disk }
+        ensures agrees { Agreed D.Device pages.old device.old (Agrees pages.new (D.state device.new).disk) }
         ensures open { IsOpen pages.new }
-        ensures entry { D.is_honest device.old → Agrees pages.old (D.state device.old).disk → (levels : List (List Part)) →
-            IsTree self.now.form (map_now pages.old (D.state device.old).disk.present).pages self.now.root levels →
-            (before after : List (List ℕ)) → rows_in_order levels ≡ before ++ (descent.leaf.rows ++ after) → descent.right ≡ first_key self.now.form after →
-            IfOk result (λ entry. entry ≡ first_entry (listed self.now.form (drop place descent.leaf.rows ++ after))) }
-        ensures damaged { D.is_honest device.old → Agrees pages.old (D.state device.old).disk → result ≡ Err PagesError.Damaged → (levels : List (List Part)) →
-            IsTree self.now.form (map_now pages.old (D.state device.old).disk.present).pages self.now.root levels →
-            (before after : List (List ℕ)) → rows_in_order levels ≡ before ++ (descent.leaf.rows ++ after) → descent.right ≡ first_key self.now.form after → ⊥ }
+        ensures entry { Agreed D.Device pages.old device.old
+            ((levels : List (List Part)) → IsTree self.now.form (pages_on D.Device pages.old device.old) self.now.root levels →
+            (before after : List (List ℕ)) → rows_in_order levels ≡ before ++ (descent.leaf.rows ++ after) →
+            descent.right ≡ first_key self.now.form after →
+            IfOk result (λ entry. entry ≡ first_entry (listed self.now.form (drop place descent.leaf.rows ++ after)))) }
+        ensures damaged { Agreed D.Device pages.old device.old
+            (result ≡ Err PagesError.Damaged → (levels : List (List Part)) →
+            IsTree self.now.form (pages_on D.Device pages.old device.old) self.now.root levels → (before after : List (List ℕ)) →
+            rows_in_order levels ≡ before ++ (descent.leaf.rows ++ after) → descent.right ≡ first_key self.now.form after → ⊥) }
         ensures spent { result ≡ Err PagesError.Spent → is_spent pages.old ≡ true }
         ensures lengths { IfOk result (λ entry. IfSome entry (HasLengths self.now.form)) }
         ensures cause { IfErr result (IsRefusal self.now.form) }

@@ -51,6 +51,12 @@ fn lose(rt: &impl Abort, alloc: Global, form: TreeForm, rows: &[Row]) {
     }
 }
 
+/// Leaves of 8 rows, of which one row is less than a quarter, and inner pages of 39.
+const EIGHT: TreeForm = TreeForm {
+    key_length: 100,
+    value_length: 410,
+};
+
 // The leaf keeps entries. The page above changes where the least one went.
 #[test]
 fn leaves_that_stay(rt: HostRuntime) {
@@ -86,6 +92,49 @@ fn leaves_that_go(rt: HostRuntime) {
         ("111111/33/2", 60, "11111/32/2", 2),
     ];
     lose(&rt, rt.alloc(), THREE, &rows);
+}
+
+// A leaf that one entry is left for is joined with the one to its left, and the first one with the one to its right. As the root it
+// stays.
+#[test]
+fn leaves_that_are_joined(rt: HostRuntime) {
+    let rows = [
+        ("2", 10, "1", 1),
+        ("22/2", 10, "3", 3),
+        ("22/2", 40, "3", 3),
+        ("12/2", 20, "2", 3),
+        ("222/3", 10, "32/2", 3),
+        ("222/3", 20, "32/2", 3),
+        ("222/3", 30, "32/2", 3),
+        ("222/3", 50, "23/2", 3),
+        ("272/3", 10, "82/2", 3),
+        ("227/3", 40, "37/2", 3),
+        ("722/3", 80, "82/2", 3),
+        ("212/3", 30, "22/2", 2),
+        ("2222/22/2", 10, "322/3", 5),
+        ("2222/22/2", 60, "223/3", 5),
+        ("222222/222/3", 10, "32222/32/2", 5),
+        ("22222/23/2", 60, "2232/22/2", 4),
+        ("22222/23/2", 50, "2232/22/2", 4),
+    ];
+    lose(&rt, rt.alloc(), EIGHT, &rows);
+}
+
+// Where the neighbour is full, the two share its entries and the one that is left.
+#[test]
+fn leaves_that_share(rt: HostRuntime) {
+    let rows = [
+        ("28/2", 10, "45/2", 3),
+        ("82/2", 100, "54/2", 3),
+        ("282/3", 10, "452/3", 3),
+        ("282/3", 110, "254/3", 3),
+        ("828/3", 90, "548/3", 3),
+        ("2828/22/2", 10, "4528/22/2", 4),
+        ("2828/22/2", 20, "4528/22/2", 4),
+        ("2828/22/2", 110, "2845/22/2", 4),
+        ("2882/22/2", 200, "2854/22/2", 4),
+    ];
+    lose(&rt, rt.alloc(), EIGHT, &rows);
 }
 
 // An inner page that one child is left for is joined with the one to its left, and the first one with the one to its right.

@@ -6,6 +6,8 @@ mod damage_tests;
 #[cfg(test)]
 mod entries;
 #[cfg(test)]
+mod fill_tests;
+#[cfg(test)]
 mod join_tests;
 #[cfg(test)]
 mod planted;

@@ -171,6 +171,22 @@ pub fn entries_in(drawing: &[u8]) -> usize {
     entries
 }
 
+/// How many leaves the tree of a drawing has, and how many of them have fewer rows than so many.
+pub fn leaves_in(drawing: &[u8], least: usize) -> (usize, usize) {
+    let mut leaves = 0usize;
+    let mut thin = 0usize;
+    for byte in drawing {
+        if *byte == b'/' {
+            return (leaves, thin);
+        }
+        leaves = leaves.wrapping_add(1);
+        if rows_in(*byte) < least {
+            thin = thin.wrapping_add(1);
+        }
+    }
+    (leaves, thin)
+}
+
 /// How many pages the tree of a drawing has.
 pub fn pages_in(drawing: &[u8]) -> usize {
     let mut pages = 0usize;

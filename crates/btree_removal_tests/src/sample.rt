@@ -1,7 +1,7 @@
 //! A tree in a volume beside what it is to have: which of the entries 10, 20, 30 and so on are there. The volume's catalog is the
 //! tree's root.
 use crate::entries::{is_entry, number_of};
-use crate::planted::{drawn, entries_in, plant};
+use crate::planted::{drawn, entries_in, leaves_in, plant};
 use crate::volume::{Volume, marked, tree_of};
 use btree::Tree;
 use pages::PagesError;
@@ -193,6 +193,25 @@ impl Sample {
             );
         }
         place_at(Order::Scattered, first, count)
+    }
+
+    /// Of the hundred entries that a round takes, from left to right, all go but the last one.
+    pub fn remove_but_one(&mut self, rt: &impl Abort, round: usize) {
+        let first = round.wrapping_mul(100);
+        for step in 0..99usize {
+            self.remove(rt, first.wrapping_add(step));
+        }
+        self.commit(rt);
+    }
+
+    /// How many leaves the tree has, and how many of them have fewer rows than so many.
+    pub fn leaves(&mut self, rt: &impl Abort, least: usize) -> (usize, usize) {
+        let root = self.tree.root();
+        if root == 0 {
+            return (0, 0);
+        }
+        let now = drawn(rt, self.alloc, &mut self.volume, self.tree.form(), root);
+        leaves_in(&now, least)
     }
 
     /// All entries go at once.

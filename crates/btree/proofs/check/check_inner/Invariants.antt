@@ -1,4 +1,4 @@
-use Rattle.std.proofs.Common.{◌≡◌, ◌≤◌, List, length, take}
+use Rattle.std.proofs.Common.{◌≤◌, List, length, take}
 use Rattle.station.specs.Calls.{OnlyReads}
 use Rattle.pages.specs.Pages.{map_now, Agrees, IsOpen}
 use Rattle.tree_pages.specs.declared.form.Kind.TheVariants.{Inner}

@@ -3,7 +3,7 @@ use Rattle.std.specs.Prelude.{Option, Some, slice_index_or}
 use Rattle.std.proofs.lemmas.Result.{err_from_is_err_and}
 use Rattle.station.specs.Disk.{Sector}
 use Rattle.station.proofs.Calls.{reads_then}
-use Rattle.pages.specs.declared.error.PagesError.TheVariants.{Device, Damaged}
+use Rattle.pages.specs.declared.error.PagesError.TheVariants.{Damaged}
 use Rattle.tree_pages.specs.declared.form.TreeForm.{TreeForm}
 use Rattle.tree_pages.specs.declared.form.Kind.TheVariants.{Leaf, Inner}
 use Rattle.tree_pages.specs.Keys.{child_of}

@@ -1,11 +1,11 @@
-use Rattle.std.proofs.Common.{◌≡◌, ◌≤◌, ◌+◌, ℕ, List, length, false, Err, refl, sym, ap, subst, ◌∙◌, arith}
+use Rattle.std.proofs.Common.{◌≡◌, ◌≤◌, ◌+◌, ℕ, List, length, false, Err, sym, ap, subst, ◌∙◌, arith}
 use Rattle.std.specs.Prelude.{Option, None}
 use Rattle.std.proofs.lemmas.List.{length-append}
 use Rattle.std.proofs.lemmas.Result.{err_from_is_err_and}
 use Rattle.station.specs.Disk.{Sector}
 use Rattle.station.proofs.Calls.{reads_nothing, reads_then}
 use Rattle.pages.specs.Pages.{map_now, is_spent, page_count}
-use Rattle.pages.specs.declared.error.PagesError.TheVariants.{Device, Damaged, Spent}
+use Rattle.pages.specs.declared.error.PagesError.TheVariants.{Damaged, Spent}
 use Rattle.btree.specs.Tree.{Stands}
 use Rattle.btree.specs.Path.{Turn}
 use Rattle.btree.proofs.Descents.{Along, start, too_deep, along_stands}

@@ -1,4 +1,4 @@
-use Rattle.std.proofs.Common.{◌≡◌, ◌≤◌, ◌<◌, List, length, false}
+use Rattle.std.proofs.Common.{◌≡◌, ◌<◌, List, length, false}
 use Rattle.station.specs.Calls.{OnlyReads}
 use Rattle.pages.specs.Pages.{map_now, is_spent, Agrees, IsOpen}
 use Rattle.btree.specs.Tree.{Part, IsTree}

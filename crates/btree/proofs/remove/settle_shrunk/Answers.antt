@@ -1,9 +1,9 @@
-use Rattle.std.proofs.Common.{sym, subst}
+use Rattle.std.proofs.Common.{sym, ◌∙◌, subst}
 use Rattle.std.proofs.lemmas.Result.{IfOk-weaker}
 use Rattle.btree.specs.declared.fate.Fate.{Fate}
 use Rattle.btree.specs.Changes.{pages_of_map}
 use Rattle.btree.specs.Shrinks.{SettlesShrunk, NeverSettles}
-use Rattle.btree.proofs.Collapsing.{settle_kept, settle_renamed, settle_gone, settle_lone, never_settles}
+use Rattle.btree.proofs.Collapsing.{settle_kept, settle_renamed, settle_gone, settle_lone, settle_leaf, never_settles}
 use Rattle.btree.proofs.remove.settle_shrunk.Goals as goal
 
 pub returns-in-Kept-clause-settles : goal.returns-in-Kept-clause-settles
@@ -21,16 +21,30 @@ returns-in-Gone-clause-settles c = λ image form.
     let now = pages_of_map c.args.pages.now image in
     subst (λ (fate : Fate). SettlesShrunk form c.args.root fate now now 0) (sym c.in-Gone.is) (settle_gone form c.args.root now)
 
-pub returns-in-Underfull-clause-settles : goal.returns-in-Underfull-clause-settles
-returns-in-Underfull-clause-settles c =
+pub returns-in-Leaf-clause-settles : goal.returns-in-Leaf-clause-settles
+returns-in-Leaf-clause-settles c =
+    IfOk-weaker c.keep_leaf.result _ _
+    (λ new stays image form.
+    let before = pages_of_map c.args.pages.now image in
+    let after = pages_of_map c.keep_leaf.new.pages image in
+    subst (λ (fate : Fate). SettlesShrunk form c.args.root fate before after new) (sym c.in-Underfull.is) (settle_leaf form c.args.root before after c.in-Underfull.child new (sym c.kind.ensures ∙ c.in-Leaf.is) (stays image)))
+    c.keep_leaf.ensures.stays
+
+pub returns-in-Leaf-clause-damaged : goal.returns-in-Leaf-clause-damaged
+returns-in-Leaf-clause-damaged c = λ is image form.
+    let before = pages_of_map c.args.pages.now image in
+    subst (λ (fate : Fate). NeverSettles form c.args.root fate before) (sym c.in-Underfull.is) (never_settles form c.args.root before c.in-Underfull.child (c.keep_leaf.ensures.damaged is image))
+
+pub returns-in-Inner-clause-settles : goal.returns-in-Inner-clause-settles
+returns-in-Inner-clause-settles c =
     IfOk-weaker c.collapse_root.result _ _
     (λ new gives image form.
     let before = pages_of_map c.args.pages.now image in
     let after = pages_of_map c.collapse_root.new.pages image in
-    subst (λ (fate : Fate). SettlesShrunk form c.args.root fate before after new) (sym c.in-Underfull.is) (settle_lone form c.args.root before after c.in-Underfull.child new (gives image)))
+    subst (λ (fate : Fate). SettlesShrunk form c.args.root fate before after new) (sym c.in-Underfull.is) (settle_lone form c.args.root before after c.in-Underfull.child new (sym c.kind.ensures ∙ c.in-Inner.is) (gives image)))
     c.collapse_root.ensures.gives
 
-pub returns-in-Underfull-clause-damaged : goal.returns-in-Underfull-clause-damaged
-returns-in-Underfull-clause-damaged c = λ is image form.
+pub returns-in-Inner-clause-damaged : goal.returns-in-Inner-clause-damaged
+returns-in-Inner-clause-damaged c = λ is image form.
     let before = pages_of_map c.args.pages.now image in
     subst (λ (fate : Fate). NeverSettles form c.args.root fate before) (sym c.in-Underfull.is) (never_settles form c.args.root before c.in-Underfull.child (c.collapse_root.ensures.damaged is image))

@@ -124,7 +124,7 @@ returns-in-Underfull-clause-damaged g c = λ honest agrees is.
     subst (λ (below : Fate). NeverShrinksOn c.args.form turn two below) (sym c.in-Underfull.is)
     (never_rebalanced c.args.form two turn child node read (λ left right kind place some one other pair.
     c.rebalance_at.ensures.damaged (c.read_part.ensures.only.honest.0 honest) (c.read_part.ensures.agrees honest agrees) is left right kind place some one other
-    (subst (λ (pages : List (Option Sector)). IsPair c.args.form pages turn.page node.rows turn.place child.page left right) (sym same) pair)))
+    (subst (λ (pages : List (Option Sector)). IsPair c.args.form child.node.kind pages turn.page node.rows turn.place child.page left right) (sym same) pair)))
 
 pub returns-in-Underfull-clause-catalog : goal.returns-in-Underfull-clause-catalog
 returns-in-Underfull-clause-catalog g c = c.rebalance_at.ensures.catalog ∙ ap (λ (m : Map). m.catalog) (c.read_part.ensures.untouched.map [])

@@ -1,4 +1,4 @@
-use Rattle.std.proofs.Common.{◌≤◌, ℕ, List, [], ◌∷◌, length, refl, arith, rules}
+use Rattle.std.proofs.Common.{◌≤◌, ℕ, List, [], ◌∷◌, length, refl, arith}
 use Rattle.std.proofs.lemmas.List.{nil_from_length}
 use Rattle.station.specs.Disk.{Sector}
 use Rattle.btree.specs.Tree.{fewest}
@@ -6,9 +6,9 @@ use Rattle.btree.specs.Moves.{Replaced}
 use Rattle.btree.specs.Rises.{part_of}
 use Rattle.btree.specs.Changes.{pages_of_map, IsIn}
 use Rattle.btree.proofs.Writes.{write_one, is_low, spells_node}
-use Rattle.btree.proofs.Lessening.{write_none, enough_left}
+use Rattle.btree.proofs.Lessening.{write_none, enough_left, true_or_false}
 use Rattle.btree.proofs.shrink_page.write_back.Goals as goal
-use Rattle.btree.proofs.shrink_page.write_back.Goals.{In_ok-edit, else-count-eq1-via-then-count-eq1+else-eq, else-count-eq1-via-else-count-eq1}
+use Rattle.btree.proofs.shrink_page.write_back.Goals.{In_ok-edit}
 
 pub returns-then-count-eq0-clause-pages : goal.returns-then-count-eq0-clause-pages
 returns-then-count-eq0-clause-pages c = λ image old is_in keeps.
@@ -22,16 +22,21 @@ written : (c : In_ok-edit) (image : List Sector) (old : List (List ℕ)) → IsI
 written c image old is_in =
     let node = c.args.node in
     let pages = pages_of_map c.args.pages.now image in
-    let enough : fewest node.kind ≤ length node.rows =
-    elim c.else-count-eq1.branch [
-      | else-count-eq1-via-then-count-eq1+else-eq w ↦ enough_left node.kind (length node.rows) (λ none. omega arith) (λ one inner. search rules)
-      | else-count-eq1-via-else-count-eq1 w ↦ enough_left node.kind (length node.rows) (λ none. omega arith) (λ one inner. omega arith)
-    ] in
+    let enough : fewest node.kind ≤ length node.rows = enough_left node.form node.kind (length node.rows) (λ none. omega arith) (λ short. true_or_false (c.is_short.ensures.1 short) c.if-is_short.false) in
     write_one node.form node.kind pages (pages_of_map c.edit.new.self image) c.args.page c.bytes-spelled.result old node.rows (c.in_ok-edit.ensures.map image) (is_low pages c.args.page is_in)
     (spells_node node node c.bytes-spelled.result (record { form = refl; kind = refl }) c.bytes-spelled.ensures.reads c.count-count.ensures.node.lengths enough)
 
 pub returns-then-keeps_least-clause-pages : goal.returns-then-keeps_least-clause-pages
-returns-then-keeps_least-clause-pages c = λ image old is_in keeps. (written (goal.at.returns-then-keeps_least-clause-pages c).In_ok-edit image old is_in, keeps c.if-keeps_least.true)
+returns-then-keeps_least-clause-pages c = λ image old is_in keeps. (
+  written (goal.at.returns-then-keeps_least-clause-pages c).In_ok-edit image old is_in,
+  keeps c.if-keeps_least.true,
+  λ short. true_or_false (c.is_short.ensures.1 short) c.if-is_short.false,
+)
 
 pub returns-clause-pages : goal.returns-clause-pages
-returns-clause-pages c = λ image old is_in keeps. (written (goal.at.returns-clause-pages c).In_ok-edit image old is_in, refl, refl)
+returns-clause-pages c = λ image old is_in keeps. (
+  written (goal.at.returns-clause-pages c).In_ok-edit image old is_in,
+  refl,
+  refl,
+  λ short. true_or_false (c.is_short.ensures.1 short) c.if-is_short.false,
+)
