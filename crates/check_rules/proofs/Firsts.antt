@@ -1,10 +1,22 @@
 -- The first of rules that are looked for in order.
-use Rattle.std.proofs.Common.{◌≡◌, ℕ, ◌<◌, ◌+◌, List, [], ◌∷◌, ◌++◌, None, Some, length, drop, get_or, sym, ap, ◌∙◌, add-one, drop-cons}
+use Rattle.std.proofs.Common.{◌≡◌, ℕ, ◌<◌, ◌+◌, List, [], ◌∷◌, ◌++◌, None, Some, length, drop, get_or, sym, ap, ◌∙◌, subst, inl, inr, add-one, drop-cons}
 use Rattle.std.specs.Prelude.{Option}
 use Rattle.entry_rules.specs.Answer.{Fails}
 use Rattle.source_tree.specs.Broken.{Broken, each}
 use Rattle.source_tree.specs.LookUp.{first}
-use Rattle.entry_rules.specs.Checks.{first_or}
+use Rattle.source_tree.specs.declared.program.Program.{Program}
+use Rattle.source_tree.specs.EntryRules.{entry_rules}
+use Rattle.source_tree.specs.PerformRules.{procedure_name_rules}
+use Rattle.source_tree.specs.Rules.{sections_rules, procedure_rules, program_rules, all_permitted}
+use Rattle.source_tree.specs.declared.entry.Entry.{Entry}
+use Rattle.source_tree.specs.declared.program.Section.{Section}
+use Rattle.source_tree.specs.Places.{items_of}
+use Rattle.source_tree.specs.Procedures.{procedures_of}
+use Rattle.source_tree.specs.Setting.{Scope, scope}
+use Rattle.check_rules.specs.declared.declarations.Declarations.{Declarations}
+use Rattle.check_rules.specs.Named.{scope_in}
+use Rattle.entry_rules.specs.Checks.{IsFirst, first_or}
+use Rattle.check_rules.specs.Told.{IsTold, IsBack}
 
 pub first_front : (xs ys : List Broken) (one : Broken) → first xs ≡ Some one → first (xs ++ ys) ≡ Some one
 first_front [] ys one e = cc
@@ -20,12 +32,43 @@ pub each_found : {A : Type 0} (rules : A → List Broken) (xs : List A) (i : ℕ
 each_found rules xs i d all one h e found = ap first (e ∙ each_at rules xs i d h) ∙ first_front (rules (get_or xs i d)) (each rules (drop (i + 1) xs)) one found
 
 -- What the rules in front tell is told of all.
-pub fails_front : {A : Type 0} (value : A) (o : Option Broken) (xs ys : List Broken) → Fails o (first_or value xs) → Fails o (first_or value (xs ++ ys))
-fails_front value None xs ys h = tt
-fails_front value (Some one) [] ys h = cc
-fails_front value (Some one) (x ∷ xs) ys h = h
+pub is_first_front : (fault : Option Broken) (xs ys : List Broken) → IsFirst fault xs → IsFirst fault (xs ++ ys)
+is_first_front None xs ys h = tt
+is_first_front (Some one) xs ys h = first_front xs ys one h
 
 -- What is looked for behind rules that are kept is the first of all.
-pub fails_first : {A : Type 0} (value : A) (one : Broken) (xs ys : List Broken) → first xs ≡ Some one → Fails (Some one) (first_or value (xs ++ ys))
-fails_first value one [] ys e = cc
-fails_first value one (x ∷ xs) ys e = cc
+pub is_first_behind : (fault : Option Broken) (xs ys : List Broken) → xs ≡ [] → IsFirst fault ys → IsFirst fault (xs ++ ys)
+is_first_behind fault xs ys e h = subst (IsFirst fault) (sym (front_none xs ys e)) h
+
+-- what is told of the first of these
+pub fails_is_first : {A : Type 0} (value : A) (fault : Option Broken) (rules : List Broken) → Fails fault (first_or value rules) → IsFirst fault rules
+fails_is_first value None rules h = tt
+fails_is_first value (Some one) [] h = absurd cc
+fails_is_first value (Some one) (x ∷ more) h = cc
+
+-- ---- a program
+
+pub told_first : (program : Program) (fault : Option Broken) → IsFirst fault (program_rules program) → IsTold program fault
+told_first program None h = tt
+told_first program (Some one) h = inl h
+
+pub told_back : (program : Program) (fault : Option Broken) → program_rules program ≡ [] → IsBack program fault → IsTold program fault
+told_back program None kept h = tt
+told_back program (Some one) kept h = inr (record { kept = kept; rule = h.0; back = h.1 })
+
+pub both_none : {A : Type 0} (xs ys : List A) → xs ≡ [] → ys ≡ [] → xs ++ ys ≡ []
+both_none xs ys e f = ap (λ l. l ++ ys) e ∙ f
+
+pub all_none : {A : Type 0} (entries names statements : List A) → entries ≡ [] → names ≡ [] → statements ≡ [] → entries ++ names ++ statements ≡ []
+all_none entries names statements e f g = both_none (entries ++ names) statements (both_none entries names e f) g
+
+pub program_none : (program : Program) → entry_rules program.storage ≡ [] → procedure_name_rules program.sections ≡ [] → sections_rules (scope program) all_permitted program.sections ≡ []
+    → procedure_rules program ≡ [] → program_rules program ≡ []
+program_none program e f g h =
+    both_none (entry_rules program.storage ++ procedure_name_rules program.sections ++ sections_rules (scope program) all_permitted program.sections) (procedure_rules program)
+    (all_none (entry_rules program.storage) (procedure_name_rules program.sections) (sections_rules (scope program) all_permitted program.sections) e f g) h
+
+pub scope_same : (program : Program) (declared : Declarations) → declared.entries.now ≡ program.storage → declared.sections.now ≡ program.sections → scope program ≡ scope_in declared
+scope_same program declared e f =
+    let both : List Entry → List Section → Scope = λ storage sections. record { items = items_of storage; procedures = procedures_of sections } in
+    ap (λ (l : List Entry). both l program.sections) (sym e) ∙ ap (λ (l : List Section). both declared.entries.now l) (sym f)

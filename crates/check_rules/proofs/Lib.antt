@@ -1,7 +1,13 @@
 pub mod Firsts
 pub mod Parts
 pub mod Operations
+pub mod RuleLayers
+pub mod PerformLayers
+pub mod Permitted
 pub mod Layers
 pub mod ConditionLayers
 pub mod SideLayers
 pub mod ConditionItems
+pub mod Adding
+pub mod PerformedRanges
+pub mod Back

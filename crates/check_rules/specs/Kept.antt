@@ -1,11 +1,14 @@
 -- A program that keeps the rules, and what it declares.
 use Rattle.std.specs.Prelude.{◌≡◌, []}
 use Rattle.source_tree.specs.declared.program.Program.{Program}
+use Rattle.source_tree.specs.Recursion.{HasOrder}
 use Rattle.source_tree.specs.Rules.{program_rules}
 use Rattle.check_rules.specs.declared.declarations.Declarations.{Declarations}
 use Rattle.check_rules.specs.Named.{IsDeclared}
 
 pub record KeepsRules (program : Program) (declarations : Declarations) : Type 0 where
   pub rules : program_rules program ≡ []
+  pub order : HasOrder program
   pub declared : IsDeclared declarations
   pub entries : declarations.entries.now ≡ program.storage
+  pub sections : declarations.sections.now ≡ program.sections

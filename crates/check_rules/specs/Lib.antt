@@ -4,3 +4,5 @@ pub mod Asking
 pub mod Operations
 pub mod Comparing
 pub mod Kept
+pub mod Told
+pub mod Performs

@@ -8,10 +8,13 @@ use Rattle.source_tree.specs.declared.reference.Reference.{Reference}
 use Rattle.source_tree.specs.LookUp.{first, items_named}
 use Rattle.source_tree.specs.NameRules.{named, subscript_item}
 use Rattle.source_tree.specs.Places.{Placed, items_of}
+use Rattle.source_tree.specs.Procedures.{Procedure, procedures_of}
+use Rattle.source_tree.specs.Setting.{Scope}
 use Rattle.layout.specs.declared.placed.PlacedItem.{PlacedItem}
 use Rattle.layout.specs.Placing.{placed_item}
 use Rattle.names.specs.Items.{called_item}
 use Rattle.names.specs.Conditions.{AreConditions}
+use Rattle.names.specs.Procedures.{AreProcedures}
 use Rattle.names.specs.Table.{IsTable, calls_in}
 use Rattle.entry_rules.specs.declared.rule.BrokenRule.{BrokenRule}
 use Rattle.entry_rules.specs.Checks.{broken_of}
@@ -20,12 +23,20 @@ use Rattle.check_rules.specs.declared.declarations.Declarations.{Declarations}
 abbrev pub items_in : Declarations → List Placed
 items_in all = items_of all.entries.now
 
--- Names and places are those of the items.
+abbrev pub procedures_in : Declarations → List Procedure
+procedures_in all = procedures_of all.sections.now
+
+-- what names name
+abbrev pub scope_in : Declarations → Scope
+scope_in all = record { items = items_in all; procedures = procedures_in all }
+
+-- Names and places are those of the items, and the names of procedures those of the sections.
 pub record IsDeclared (all : Declarations) : Type 0 where
   pub table : IsTable all.names
   pub calls : calls_in all.names ≡ map called_item (items_in all)
   pub items : all.layout.items ≡ map placed_item (items_in all)
   pub conditions : AreConditions (items_in all) all.conditions
+  pub procedures : AreProcedures (procedures_in all) all.procedures
 
 abbrev pub told : Result (Bor PlacedItem) BrokenRule → Result PlacedItem BrokenRule
 told (Ok item) = Ok item.now

@@ -1,10 +1,11 @@
 //! Programs that keep the rules.
 
-ghost use Rattle.std.specs.Prelude.{◌≡◌, [], IfOk, OnOk};
-ghost use Rattle.entry_rules.specs.Answer.{Gives};
+ghost use Rattle.std.specs.Prelude.{◌≡◌, [], IfOk, IfErr, OnOk};
+ghost use Rattle.source_tree.specs.Recursion.{HasOrder};
 ghost use Rattle.source_tree.specs.Rules.{program_rules};
-ghost use Rattle.entry_rules.specs.Checks.{fault_of, first_or};
+ghost use Rattle.entry_rules.specs.Checks.{fault_of};
 ghost use Rattle.check_rules.specs.Named.{IsDeclared};
+ghost use Rattle.check_rules.specs.Told.{IsTold};
 
 use crate::declarations::Declarations;
 use crate::procedure::procedure_rules;
@@ -41,33 +42,39 @@ impl<'a> Checked<'a> {
     pub fn program(&self) -> &'a Program
         ensures same { result.now ≡ self.now }
         ensures kept { program_rules self.now ≡ [] }
+        ensures order { HasOrder self.now }
     {
         self.program
     }
 
-    /// What its working storage declares.
+    /// What its working storage and its sections declare.
     pub fn declarations(&self) -> &Declarations<'a>
         ensures declared { IsDeclared result.now }
         ensures entries { result.now.entries.now ≡ self.now.storage }
+        ensures sections { result.now.sections.now ≡ self.now.sections }
     {
         &self.declarations
     }
 }
 
-/// Whether a program keeps the rules: 17, 18, 40, 41, 43 to 52, 55, 56, 67 and 69. Otherwise the answer is the first that it
-/// breaks, in the order of the definition: those of its entries, those of its statements in the order of the text, and then 56.
+/// Whether a program keeps the rules: 17, 18, 40 to 52, 54 to 56, 67 and 69. Otherwise the answer is the first that it breaks, in
+/// the order of the definition: those of its entries, those of the names of its procedures, those of its statements in the order of
+/// the text, and then 56; and 54 only where it breaks no other.
 pub fn check(alloc: Global, program: &Program) -> Result<Checked<'_>, CheckError>
     ensures program { IfOk result (λ checked. checked ≡ program.now) }
-    // A program that is accepted breaks no rule.
+    // A program that is accepted breaks no rule, and none of its PERFORMs leads back.
     ensures kept { OnOk result (program_rules program.now ≡ []) }
-    // The answer is the definition's, unless memory runs out.
-    ensures exact { Gives (λ checked. tt {0}) fault_of result (first_or (tt {0}) (program_rules program.now)) }
+    ensures order { OnOk result (HasOrder program.now) }
+    // A refusal tells the first rule that is broken, or a PERFORM that leads back where none is, unless memory runs out.
+    ensures exact { IfErr result (λ e. IsTold program.now (fault_of e)) }
 {
     let storage = program.storage.as_slice();
+    let sections = program.sections.as_slice();
     check_entries(alloc, storage)?;
-    let declarations = Declarations::of(alloc, storage)?;
-    declarations.sections_rules(program.sections.as_slice())?;
+    let declarations = Declarations::of(alloc, storage, sections)?;
+    declarations.sections_rules(sections)?;
     procedure_rules(program)?;
+    declarations.recursion_rules(alloc, program)?;
     Ok(Checked {
         program,
         declarations,

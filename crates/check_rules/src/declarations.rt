@@ -1,42 +1,56 @@
 //! What is declared in a program.
 
 ghost use Rattle.std.specs.Prelude.{◌≡◌, [], IfOk};
+ghost use Rattle.entry_rules.specs.Checks.{Tells};
 ghost use Rattle.source_tree.specs.EntryRules.{entry_rules};
 ghost use Rattle.source_tree.specs.LookUp.{items_named};
+ghost use Rattle.source_tree.specs.PerformRules.{procedure_name_rules};
 ghost use Rattle.check_rules.specs.Named as spec;
 ghost use Rattle.check_rules.specs.Named.{IsDeclared, IsItemNamed, items_in};
 
-use entry_rules::{BrokenRule, Rule};
+use crate::procedures::named_procedures;
+use entry_rules::{BrokenRule, CheckError, Rule};
 use layout::{Layout, PlacedItem};
-use names::{ConditionNames, LookUp, NameTable, condition_names, item_names};
-use source_tree::{Entry, QualifiedName};
-use std::alloc::{AllocError, Global};
+use names::{ConditionNames, LookUp, NameTable, ProcedureNames, condition_names, item_names};
+use source_tree::{Entry, QualifiedName, Section};
+use std::alloc::Global;
 
 /// The entries of working storage, which keep their rules, with the names of their items and where those stand, and with their
-/// condition names.
+/// condition names; and the sections, with the names of their procedures.
 #[derive(Drop)]
 pub struct Declarations<'a> {
     pub entries: &'a [Entry],
+    pub sections: &'a [Section],
     pub names: NameTable<'a>,
     pub layout: Layout,
     pub conditions: ConditionNames<'a>,
+    pub procedures: ProcedureNames<'a>,
 }
 
 impl<'a> Declarations<'a> {
-    /// What is declared by entries that keep their rules.
-    pub fn of(alloc: Global, entries: &'a [Entry]) -> Result<Declarations<'a>, AllocError>
+    /// What is declared by entries that keep their rules, and by sections: rule 42 where a name is given to two procedures.
+    pub fn of(
+        alloc: Global,
+        entries: &'a [Entry],
+        sections: &'a [Section],
+    ) -> Result<Declarations<'a>, CheckError>
         requires { entry_rules entries.now ≡ [] }
         ensures declared { IfOk result IsDeclared }
         ensures entries { IfOk result (λ all. all.entries.now ≡ entries.now) }
+        ensures sections { IfOk result (λ all. all.sections.now ≡ sections.now) }
+        ensures names { Tells result (procedure_name_rules sections.now) }
     {
         let names = item_names(alloc, entries)?;
         let layout = Layout::of(alloc, entries)?;
         let conditions = condition_names(alloc, &names, entries)?;
+        let procedures = named_procedures(alloc, sections)?;
         Ok(Declarations {
             entries,
+            sections,
             names,
             layout,
             conditions,
+            procedures,
         })
     }
 

@@ -1,8 +1,7 @@
 //! Rule 56: sections without any paragraph or sentence are no procedure.
 
-ghost use Rattle.std.specs.Prelude.{◌≡◌, ◌==◌, length};
+ghost use Rattle.std.specs.Prelude.{◌≡◌};
 ghost use Rattle.entry_rules.specs.Checks.{Finds};
-ghost use Rattle.source_tree.specs.Meaning.{paragraphs_in};
 ghost use Rattle.source_tree.specs.Rules as spec;
 
 use entry_rules::{BrokenRule, Rule};
@@ -10,7 +9,7 @@ use source_tree::{Place, Program, Section};
 
 /// No section has a paragraph.
 fn are_empty(sections: &[Section]) -> bool
-    ensures { result ≡ (length (paragraphs_in sections.now) == 0) }
+    ensures { result ≡ spec.are_empty sections.now }
 {
     for one in sections {
         if !one.paragraphs.as_slice().is_empty() {

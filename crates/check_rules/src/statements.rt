@@ -4,7 +4,8 @@ ghost use Rattle.std.specs.Prelude.{◌≡◌};
 ghost use Rattle.entry_rules.specs.Checks.{Finds};
 ghost use Rattle.source_tree.specs.Broken.{each};
 ghost use Rattle.source_tree.specs.Rules as spec;
-ghost use Rattle.check_rules.specs.Named.{IsDeclared, items_in};
+ghost use Rattle.source_tree.specs.Rules.{all_permitted};
+ghost use Rattle.check_rules.specs.Named.{IsDeclared, items_in, scope_in};
 
 use crate::declarations::Declarations;
 use entry_rules::BrokenRule;
@@ -37,10 +38,10 @@ impl<'a> Declarations<'a> {
 
     /// A statement, with those in it.
     #[cycle(statement)]
-    #[tactic(auto, using(crate::proofs::Layers::statement_is))]
+    #[tactic(auto, using(crate::proofs::RuleLayers::statement_is))]
     pub fn statement_rules(&self, one: &Statement) -> Result<(), BrokenRule>
         requires { IsDeclared self.now }
-        ensures { Finds result (spec.statement_rules (items_in self.now) one.now) }
+        ensures { Finds result (spec.statement_rules (scope_in self.now) all_permitted one.now) }
     {
         match &one.verb {
             Verb::Moving(moving) => self.moving_rules(moving),
@@ -65,14 +66,12 @@ impl<'a> Declarations<'a> {
                 self.statements_rules(statements.as_slice())?;
                 self.phrase_rules(otherwise)
             }
-            Verb::Performing(
-                Performing {
-                    performed: Performed::Statements(inside),
-                    turns,
-                },
-            ) => {
+            Verb::Performing(Performing { performed, turns }) => {
                 self.turns_rules(turns)?;
-                self.statements_rules(inside.as_slice())
+                match performed {
+                    Performed::Procedures { first, last } => self.range_rules(first, last),
+                    Performed::Statements(inside) => self.statements_rules(inside.as_slice()),
+                }
             }
             Verb::Text(text) => self.text_rules(text),
             Verb::Ending(_) => Ok(()),
@@ -83,7 +82,7 @@ impl<'a> Declarations<'a> {
     #[cycle(statement)]
     fn statements_rules(&self, all: &[Statement]) -> Result<(), BrokenRule>
         requires { IsDeclared self.now }
-        ensures { Finds result (each (spec.statement_rules (items_in self.now)) all.now) }
+        ensures { Finds result (each (spec.statement_rules (scope_in self.now) all_permitted) all.now) }
     {
         for one in all {
             self.statement_rules(one)?;
@@ -95,7 +94,7 @@ impl<'a> Declarations<'a> {
     #[cycle(statement)]
     fn phrase_rules(&self, phrase: &Option<Items<Statement>>) -> Result<(), BrokenRule>
         requires { IsDeclared self.now }
-        ensures { Finds result (spec.phrase_rules (spec.statement_rules (items_in self.now)) phrase.now) }
+        ensures { Finds result (spec.phrase_rules (spec.statement_rules (scope_in self.now) all_permitted) phrase.now) }
     {
         match phrase {
             None => Ok(()),
@@ -105,14 +104,14 @@ impl<'a> Declarations<'a> {
 
     fn sentence_rules(&self, one: &Sentence) -> Result<(), BrokenRule>
         requires { IsDeclared self.now }
-        ensures { Finds result (spec.sentence_rules (items_in self.now) one.now) }
+        ensures { Finds result (spec.sentence_rules (scope_in self.now) all_permitted one.now) }
     {
         self.statements_rules(one.statements.as_slice())
     }
 
     fn sentences_rules(&self, all: &[Sentence]) -> Result<(), BrokenRule>
         requires { IsDeclared self.now }
-        ensures { Finds result (each (spec.sentence_rules (items_in self.now)) all.now) }
+        ensures { Finds result (each (spec.sentence_rules (scope_in self.now) all_permitted) all.now) }
     {
         for one in all {
             self.sentence_rules(one)?;
@@ -122,14 +121,14 @@ impl<'a> Declarations<'a> {
 
     fn paragraph_rules(&self, one: &Paragraph) -> Result<(), BrokenRule>
         requires { IsDeclared self.now }
-        ensures { Finds result (spec.paragraph_rules (items_in self.now) one.now) }
+        ensures { Finds result (spec.paragraph_rules (scope_in self.now) all_permitted one.now) }
     {
         self.sentences_rules(one.sentences.as_slice())
     }
 
     fn paragraphs_rules(&self, all: &[Paragraph]) -> Result<(), BrokenRule>
         requires { IsDeclared self.now }
-        ensures { Finds result (each (spec.paragraph_rules (items_in self.now)) all.now) }
+        ensures { Finds result (each (spec.paragraph_rules (scope_in self.now) all_permitted) all.now) }
     {
         for one in all {
             self.paragraph_rules(one)?;
@@ -139,7 +138,7 @@ impl<'a> Declarations<'a> {
 
     fn section_rules(&self, one: &Section) -> Result<(), BrokenRule>
         requires { IsDeclared self.now }
-        ensures { Finds result (spec.section_rules (items_in self.now) one.now) }
+        ensures { Finds result (spec.section_rules (scope_in self.now) all_permitted one.now) }
     {
         self.paragraphs_rules(one.paragraphs.as_slice())
     }
@@ -147,7 +146,7 @@ impl<'a> Declarations<'a> {
     /// The statements of sections, in order.
     pub fn sections_rules(&self, all: &[Section]) -> Result<(), BrokenRule>
         requires { IsDeclared self.now }
-        ensures { Finds result (spec.sections_rules (items_in self.now) all.now) }
+        ensures { Finds result (spec.sections_rules (scope_in self.now) all_permitted all.now) }
     {
         for one in all {
             self.section_rules(one)?;

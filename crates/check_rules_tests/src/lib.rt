@@ -15,6 +15,10 @@ mod condition_texts;
 #[cfg(test)]
 mod name_rows;
 #[cfg(test)]
+mod procedure_rows;
+#[cfg(test)]
+mod procedure_texts;
+#[cfg(test)]
 mod program_rows;
 #[cfg(test)]
 mod program_texts;

@@ -8,7 +8,7 @@ use source_tree::Program;
 use std::alloc::Global;
 use std::process::Abort;
 
-const ENTRIES: &[&str] = &[
+pub const ENTRIES: &[&str] = &[
     "01 G",
     "05 A PIC=XX",
     "88 BLANKS SPACE",
@@ -29,7 +29,7 @@ const ENTRIES: &[&str] = &[
 
 const WITHOUT_PICTURE: &[&str] = &["77 M PIC=9", "77 N"];
 
-type Expected = Option<(Rule, (u32, u8))>;
+pub type Expected = Option<(Rule, (u32, u8))>;
 
 /// The sentences of a program, and the first rule that it breaks, with its place.
 pub type Row = (&'static [&'static str], Expected);
@@ -87,7 +87,35 @@ const ROWS: &[Row] = &[
     ),
 ];
 
-fn told(rt: &impl Abort, alloc: Global, one: &Program) -> Expected {
+/// Each rule of references and of MOVE broken alone by one program, and nearly by the next.
+const REFERENCES: &[Row] = &[
+    (&["MOVE A/N B"], Some((Rule::UnknownName, (1, OPERAND)))),
+    (&["MOVE A/G B"], None),
+    (&["MOVE T,Z M"], Some((Rule::UnknownName, (1, SUBSCRIPT)))),
+    (&["MOVE T,M M"], None),
+    (&["MOVE A B"], Some((Rule::AmbiguousName, (1, OPERAND)))),
+    (&["MOVE A/H B"], None),
+    (&["MOVE M B"], Some((Rule::Move, (1, OPERAND)))),
+    (&["MOVE A/H B A/G"], None),
+    (&["MOVE N A/G"], Some((Rule::Move, (1, OPERAND)))),
+    (&["MOVE M A/G"], None),
+    (&["MOVE E M"], Some((Rule::Move, (1, OPERAND)))),
+    (&["MOVE E A/G"], None),
+    (&["MOVE =1.5 A/G"], Some((Rule::Move, (1, OPERAND)))),
+    (&["MOVE =15 A/G"], None),
+    (&["MOVE M,1 N"], Some((Rule::Subscripts, (1, OPERAND)))),
+    (&["MOVE M N"], None),
+    (&["MOVE T M"], Some((Rule::Subscripts, (1, OPERAND)))),
+    (&["MOVE T,1,1 M"], Some((Rule::Subscripts, (1, OPERAND)))),
+    (&["MOVE T,1 M"], None),
+    (&["MOVE T,T M"], Some((Rule::Subscripts, (1, SUBSCRIPT)))),
+    (&["MOVE T,N M"], Some((Rule::Number, (1, SUBSCRIPT)))),
+    (&["MOVE T,C M"], None),
+    (&["MOVE T,B+1 M"], Some((Rule::Number, (1, SUBSCRIPT)))),
+    (&["MOVE T,M+1 M"], None),
+];
+
+pub fn told(rt: &impl Abort, alloc: Global, one: &Program) -> Expected {
     match check(alloc, one) {
         Ok(checked) => {
             holds(rt, checked.program().sections.len() == one.sections.len());
@@ -147,6 +175,11 @@ fn procedures(rt: &impl Abort, alloc: Global) {
 #[test]
 fn programs(rt: HostRuntime) {
     as_expected(&rt, rt.alloc(), ROWS);
+}
+
+#[test]
+fn references_and_moves(rt: HostRuntime) {
+    as_expected(&rt, rt.alloc(), REFERENCES);
 }
 
 #[test]

@@ -1,10 +1,11 @@
 //! Programs from short texts: a sentence a line, its statements between `;`, each as `MOVE M N B`, `DISPLAY M =1`, `ACCEPT M FROM DATE` or
 //! `CONTINUE`. Behind `>` stands what is performed, with a `P` before it for each PERFORM around it, as `PP>MOVE M N;CONTINUE`. Behind
 //! an arithmetic statement stand, each behind a `|`, the statement of ON SIZE ERROR and that of NOT ON SIZE ERROR; nothing there
-//! is no phrase. IF stands as `IF SMALL THEN MOVE M N ELSE CONTINUE`, and UNTIL in front of `>`, as `UNTIL SMALL>CONTINUE`.
+//! is no phrase. IF stands as `IF SMALL THEN MOVE M N ELSE CONTINUE`, and UNTIL in front of `>`, as `UNTIL SMALL>CONTINUE`. PERFORM of
+//! procedures stands as `PERFORM A` or `PERFORM A THRU B`.
 use crate::arithmetic_texts::operation;
 use crate::condition_texts::{condition, until};
-use crate::reference_texts::{operand, push, reference};
+use crate::reference_texts::{OPERAND, operand, push, reference};
 use crate::texts::{entries, name};
 use source_tree::{
     Arithmetic, Branching, Ending, Moving, Paragraph, Performed, Performing, Phrases, Place,
@@ -20,7 +21,10 @@ pub const VERB: u8 = 8;
 /// Where a section's name stands in a line.
 pub const SECTION: u8 = 9;
 
-fn alone<T: Drop>(rt: &impl Abort, alloc: Global, one: T) -> Items<T> {
+/// Where the name behind THRU stands in a line.
+pub const LAST: u8 = 40;
+
+pub fn alone<T: Drop>(rt: &impl Abort, alloc: Global, one: T) -> Items<T> {
     let mut all = Vec::new(alloc);
     push(rt, &mut all, one);
     Items::from_vec(all)
@@ -63,6 +67,18 @@ fn accept(rt: &impl Abort, alloc: Global, line: u32, words: &str) -> Text {
     }
 }
 
+fn perform(rt: &impl Abort, alloc: Global, line: u32, words: &str) -> Performing<Statement> {
+    let (first, last) = match words.split_once(" THRU ") {
+        Some((first, last)) => (first, Some(name(rt, alloc, line, LAST, last))),
+        None => (words, None),
+    };
+    let first = name(rt, alloc, line, OPERAND, first);
+    Performing {
+        performed: Performed::Procedures { first, last },
+        turns: Turns::Once,
+    }
+}
+
 fn at(line: u32, verb: Verb<Statement>) -> Statement {
     let place = Place { line, column: VERB };
     Statement { place, verb }
@@ -76,6 +92,7 @@ fn plain(rt: &impl Abort, alloc: Global, line: u32, text: &str) -> Statement {
         "DISPLAY" => Verb::Text(display(rt, alloc, line, words)),
         "ACCEPT" => Verb::Text(accept(rt, alloc, line, words)),
         "CONTINUE" => Verb::Ending(Ending::Continue),
+        "PERFORM" => Verb::Performing(perform(rt, alloc, line, words)),
         _ => panic!(rt; "a statement: {text}"),
     };
     at(line, verb)
@@ -120,7 +137,7 @@ fn performing(line: u32, turns: Turns, inside: Items<Statement>) -> Statement {
     at(line, Verb::Performing(Performing { performed, turns }))
 }
 
-fn sentence(rt: &impl Abort, alloc: Global, line: u32, text: &str) -> Sentence {
+pub fn sentence(rt: &impl Abort, alloc: Global, line: u32, text: &str) -> Sentence {
     let (around, inside) = text.split_once('>').unwrap_or(("", text));
     let mut all = Vec::new(alloc);
     for word in inside.split(';') {

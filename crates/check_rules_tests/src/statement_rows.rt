@@ -100,7 +100,7 @@ fn operands(rt: &impl Abort, alloc: Global) {
     if check_entries(alloc, &all).is_err() {
         panic!(rt; "a rule is broken, or no memory");
     }
-    let Ok(declared) = Declarations::of(alloc, &all) else {
+    let Ok(declared) = Declarations::of(alloc, &all, &[]) else {
         panic!(rt; "no memory");
     };
     for (text, expected) in OPERANDS {
@@ -114,7 +114,7 @@ fn moves(rt: &impl Abort, alloc: Global) {
     if check_entries(alloc, &all).is_err() {
         panic!(rt; "a rule is broken, or no memory");
     }
-    let Ok(declared) = Declarations::of(alloc, &all) else {
+    let Ok(declared) = Declarations::of(alloc, &all, &[]) else {
         panic!(rt; "no memory");
     };
     for (from, to, expected) in MOVES {
@@ -135,7 +135,7 @@ fn texts(rt: &impl Abort, alloc: Global) {
     if check_entries(alloc, &all).is_err() {
         panic!(rt; "a rule is broken, or no memory");
     }
-    let Ok(declared) = Declarations::of(alloc, &all) else {
+    let Ok(declared) = Declarations::of(alloc, &all, &[]) else {
         panic!(rt; "no memory");
     };
     let shown = [

@@ -1,6 +1,6 @@
 -- A run ends in one way, and what was told stays told.
-use Rattle.std.proofs.Common.{◌≡◌, ℕ, zero, suc, ◌+◌, ◌≤◌, Bool, true, false, Option, Some, None, sym, ◌∙◌, ⊎_elim, arith}
-use Rattle.std.specs.Prelude.{slice_get, slice_index, slice_set}
+use Rattle.std.proofs.Common.{◌≡◌, ℕ, zero, suc, ◌+◌, ◌≤◌, Bool, true, false, List, [], ◌∷◌, Option, Some, None, sym, ◌∙◌, ⊎_elim, arith}
+use Rattle.std.specs.Prelude.{◌==◌, slice_get, slice_index, slice_set}
 use Rattle.std.proofs.lemmas.Bool.{cases_lt}
 use Rattle.source_tree.specs.State.{State}
 use Rattle.source_tree.specs.Given.{Given}
@@ -8,18 +8,19 @@ use Rattle.source_tree.specs.Meaning.{Run}
 use Rattle.source_tree.specs.Accepting.{next_line}
 use Rattle.code_image.specs.declared.code.Code.{Code}
 use Rattle.code_image.specs.declared.instruction.Instruction.{Instruction}
-use Rattle.code_image.specs.declared.instruction.Instruction.TheVariants.{Tick, Show, Stop, Count, Turn, Accept, Date, Branch, Jump, Join, Data}
+use Rattle.code_image.specs.declared.instruction.Instruction.TheVariants.{Tick, Show, Stop, Count, Turn, Accept, Date, Branch, Jump, Join, Perform, Back, Data}
 use Rattle.data_instructions.specs.Scratch.{Step, Went, Faulted, Stuck}
 use Rattle.data_instructions.specs.Table.{work, accepted, dated}
-use Rattle.code_image.specs.Points.{Point, scratch_of, first_point}
-use Rattle.code_image.specs.Table.{Next, onward, tick_from, shown_point, worked_point, data_from, turn_from, branch_from, line_taken, act, exec_code, Runs}
+use Rattle.code_image.specs.Points.{Return, Point, scratch_of, first_point}
+use Rattle.code_image.specs.Table.{Next, onward, tick_from, shown_point, worked_point, data_from, turn_from, branch_from, performing, perform_at, back_if, back_from, line_taken, act, exec_code, Runs}
 
 -- where f is over, g is over with the same run
 abbrev Extends : Next → Next → Type 0
 Extends f g = (p : Point) (run : Run) → f p ≡ Some run → g p ≡ Some run
 
 module _ (f g : Next) (h : Extends f g) where
-  tick_extends : (left line : ℕ) (p : Point) (s : State) (run : Run) → tick_from left line (onward f p) s ≡ Some run → tick_from left line (onward g p) s ≡ Some run
+  tick_extends : (left line : ℕ) (p : Point) (s : State) (run : Run) → tick_from left line (onward f p) s ≡ Some run
+      → tick_from left line (onward g p) s ≡ Some run
   tick_extends zero line p s run e = e
   tick_extends (suc n) line p s run e = h (record p { address = p.address + 1; state = record s { budget = n; line = line } }) run e
 
@@ -36,6 +37,21 @@ module _ (f g : Next) (h : Extends f g) where
   branch_extends true to p run e = h (record p { address = p.address + 1 }) run e
   branch_extends false to p run e = h (record p { address = to }) run e
 
+  perform_extends : (left line start last : ℕ) (p : Point) (s : State) (run : Run) → tick_from left line (perform_at f start last p) s ≡ Some run
+      → tick_from left line (perform_at g start last p) s ≡ Some run
+  perform_extends zero line start last p s run e = e
+  perform_extends (suc n) line start last p s run e = h (record { address = start; state = record s { budget = n; line = line }; own = performing last p }) run e
+
+  back_if_extends : (comes : Bool) (newest : Return) (older : List Return) (p : Point) (run : Run) → back_if comes f newest older p ≡ Some run
+      → back_if comes g newest older p ≡ Some run
+  back_if_extends true newest older p run e = h (record p { address = newest.next; own = record p.own { returns = older } }) run e
+  back_if_extends false newest older p run e = h (record p { address = p.address + 1 }) run e
+
+  back_extends : (returns : List Return) (paragraph : ℕ) (p : Point) (run : Run) → back_from returns paragraph f p ≡ Some run
+      → back_from returns paragraph g p ≡ Some run
+  back_extends [] paragraph p run e = h (record p { address = p.address + 1 }) run e
+  back_extends (newest ∷ older) paragraph p run e = back_if_extends (newest.last == paragraph) newest older p run e
+
   act_extends : (code : Code) (i : Option Instruction) (p : Point) (run : Run) → act code i f p ≡ Some run → act code i g p ≡ Some run
   act_extends code None p run e = e
   act_extends code (Some (Tick line)) p run e = tick_extends p.state.budget line p p.state run e
@@ -50,6 +66,9 @@ module _ (f g : Next) (h : Extends f g) where
   act_extends code (Some (Branch to)) p run e = branch_extends p.own.truth to p run e
   act_extends code (Some (Jump to)) p run e = h (record p { address = to }) run e
   act_extends code (Some Join) p run e = h (record p { address = p.address + 1 }) run e
+  act_extends code (Some (Perform line first last)) p run e =
+      perform_extends p.state.budget line (slice_index code.starts first.number) last.number p p.state run e
+  act_extends code (Some (Back paragraph)) p run e = back_extends p.own.returns paragraph.number p run e
 
 longer : (code : Code) (m n : ℕ) → m ≤ n → Extends (exec_code code m) (exec_code code n)
 longer code zero n le p run e = cc

@@ -1,7 +1,7 @@
--- Worked examples: the code of a program that shows HELLO and stops, two loops, code that works on data, ways on, a way back, console
--- lines, and images.
-use Rattle.std.proofs.Common.{◌≡◌, ℕ, true, false, List, [], ◌∷◌, ◌++◌, zero, suc, take, Option, Some, None, Ok, Err, map, refl, inl, inr, pos, arith}
-use Rattle.std.specs.Prelude.{◌<◌, All, codes, slice_get, slice_index_or}
+-- Worked examples: the code of a program that shows HELLO and stops, two loops, code that works on data, ways on, a way back, code
+-- paragraphs, console lines, and images.
+use Rattle.std.proofs.Common.{◌≡◌, ◌≤◌, ℕ, ◌+◌, true, false, List, [], ◌∷◌, ◌++◌, zero, suc, length, take, Option, Some, None, Ok, Err, map, refl, subst, inl, inr, pos, arith}
+use Rattle.std.specs.Prelude.{◌<◌, All, codes, slice_get, slice_index, slice_index_or}
 use Rattle.std.proofs.lemmas.List.Elements.{All-nil, All-cons}
 use Rattle.items.specs.declared.item.Kind.TheVariants as kind
 use Rattle.items.specs.declared.usage.OperationalSign.TheVariants as operational
@@ -25,14 +25,17 @@ use Rattle.image_tables.specs.Reading.{byte_at, count_at, short_at, entries_at, 
 use Rattle.image_tables.specs.Items.{kind_at, item_at, plain_kind_of}
 use Rattle.image_tables.specs.Tables.{data_item_at, tables_at}
 use Rattle.image_tables.specs.Instructions.{data_instruction_at, plain_instruction_of}
+use Rattle.perform_order.specs.declared.performed.PerformedRange.{PerformedRange}
+use Rattle.perform_order.specs.Order.{IsRange, Falls, heights}
 use Rattle.code_image.specs.declared.code.Code.{Code}
 use Rattle.code_image.specs.declared.counter.CounterIndex.{CounterIndex}
+use Rattle.code_image.specs.declared.paragraph.ParagraphIndex.{ParagraphIndex}
 use Rattle.code_image.specs.declared.instruction.Instruction.{Instruction}
-use Rattle.code_image.specs.declared.instruction.Instruction.TheVariants.{Tick, Show, Stop, Count, Turn, Accept, Date, Branch, Jump, Join, Data}
+use Rattle.code_image.specs.declared.instruction.Instruction.TheVariants.{Tick, Show, Stop, Count, Turn, Accept, Date, Branch, Jump, Join, Perform, Back, Data}
 use Rattle.code_image.specs.Spelling.{mark, instruction_bytes, spelling}
 use Rattle.code_image.specs.Reading.{after_mark, instruction_at, code_at}
 use Rattle.code_image.specs.Known.{known_along}
-use Rattle.code_image.specs.Demands.{NamesData, NamesCounter, Leads, IsVerified}
+use Rattle.code_image.specs.Demands.{NamesData, NamesCounter, NamesParagraph, Leads, AllLead, StartsAt, AllStart, HasOrder, IsVerified}
 use Rattle.code_image.specs.Points.{Point, first_point}
 use Rattle.code_image.specs.Table.{Next, act, exec_code}
 
@@ -49,6 +52,9 @@ append text = Data (i.AppendLiteral (record { number = text }))
 
 abbrev counter : ℕ → CounterIndex
 counter number = record { number = number }
+
+abbrev paragraph : ℕ → ParagraphIndex
+paragraph number = record { number = number }
 
 -- DISPLAY "HELLO" in line 5, STOP RUN in line 6, and the end of the last paragraph
 abbrev code : Code
@@ -203,7 +209,7 @@ leads_back : (address : ℕ) → Leads (until_true 1).instructions address (slic
 leads_back zero = tt
 leads_back (suc zero) = tt
 leads_back (suc (suc zero)) = tt
-leads_back (suc (suc (suc zero))) = inr (omega arith, tt)
+leads_back (suc (suc (suc zero))) = inr (record { before = omega arith; budget = tt; stays = refl })
 leads_back (suc (suc (suc (suc zero)))) = tt
 leads_back (suc (suc (suc (suc (suc more))))) = tt
 
@@ -216,6 +222,10 @@ all_of : (P : Instruction → Type 0) (is : List Instruction) → Each P is → 
 all_of P [] each = All-nil P
 all_of P (one ∷ more) each = All-cons P one more each.0 (all_of P more each.1)
 
+starts_first : (number : ℕ) → number < 1 → StartsAt (until_true 1).instructions number (slice_index ((until_true 1).starts) number)
+starts_first zero within = record { front = inl refl; in_it = refl }
+starts_first (suc more) within = absurd (omega arith)
+
 -- a branch back to a `tick` is verified
 verified_back : IsVerified (until_true 1)
 verified_back = record {
@@ -223,14 +233,157 @@ verified_back = record {
   within = record {
     entries = all_of (NamesData (with_texts [])) (until_true 1).instructions (tt, (tt, (tt, (tt, (tt, tt)))));
     counters = all_of (NamesCounter 5) (until_true 1).instructions (tt, (tt, (tt, (tt, (tt, tt)))));
+    paragraphs = all_of (NamesParagraph 1) (until_true 1).instructions (tt, (tt, (tt, (tt, (tt, tt)))));
     starts = All-cons (λ k. k < 5) 0 [] (omega arith) (All-nil (λ k. k < 5));
   };
-  shape = record { leads = λ address within. leads_back address; stops = refl; finds = record { last = empty; along = refl } };
+  shape = record {
+    leads = λ address within. leads_back address;
+    starts = starts_first;
+    order = record {
+      ranges = All-nil (IsRange 1);
+      heights = 0 ∷ [];
+      fall = record { one_each = refl; below = All-cons (λ k. k < 1) 0 [] (omega arith) (All-nil (λ k. k < 1)); fall = All-nil (Falls (heights (0 ∷ []))) };
+    };
+    stops = refl;
+    finds = record { last = empty; along = refl };
+  };
 }
 
 -- and one to what is no `tick` isn't
 no_way_back : IsVerified (until_true 2) → ⊥
-no_way_back verified = elim (verified.shape.leads 3 (omega arith)) [ inl on ↦ absurd (let later = on.0 in omega arith) | inr back ↦ back.1 ]
+no_way_back verified = elim (verified.shape.leads 3 (omega arith)) [ inl on ↦ absurd (let later = on.later in omega arith) | inr back ↦ back.budget ]
+
+-- ---- code paragraphs
+
+-- MAIN performs A thru B, shows "C" and stops. A shows "A", B shows "B". What MAIN performs last, and the address to which a jump in A leads,
+-- are given.
+abbrev performing : ℕ → ℕ → Code
+performing last to = record {
+  tables = with_texts (codes "A" ∷ codes "B" ∷ codes "C" ∷ []);
+  starts = 0 ∷ 6 ∷ 12 ∷ [];
+  instructions =
+      Perform 1 (paragraph 1) (paragraph last) ∷ Tick 2 ∷ append 2 ∷ Show ∷ Stop ∷ Back (paragraph 0)
+      ∷ Tick 3 ∷ append 0 ∷ Show ∷ Jump to ∷ Join ∷ Back (paragraph 1)
+      ∷ Tick 4 ∷ append 1 ∷ Show ∷ Back (paragraph 2) ∷ Stop ∷ [];
+}
+
+-- a `perform` uses one of the budget, and A falls into B, since only B is the last one
+performed_with_4 : exec_code (performing 2 11) 99 (with_budget (performing 2 11) 4) ≡ Some (record { events = map Shown (codes "ABC"); end = Stopped; lines = [] })
+performed_with_4 = refl
+
+performed_with_3 : exec_code (performing 2 11) 99 (with_budget (performing 2 11) 3) ≡ Some (record { events = map Shown (codes "AB"); end = Budget; lines = [] })
+performed_with_3 = refl
+
+-- the run comes back from A where that is the last one
+only_first : exec_code (performing 1 11) 99 (with_budget (performing 1 11) 4) ≡ Some (record { events = map Shown (codes "AC"); end = Stopped; lines = [] })
+only_first = refl
+
+-- a demand on one address after the other, from one on
+abbrev EachFrom : (ℕ → Option Instruction → Type 0) → ℕ → List Instruction → Type 0
+EachFrom P address [] = Unit {0}
+EachFrom P address (one ∷ more) = P address (Some one) × EachFrom P (address + 1) more
+
+each_from : (P : ℕ → Option Instruction → Type 0) (address : ℕ) (is : List Instruction) → EachFrom P address is → (k : ℕ) → k < length is
+    → P (address + k) (slice_get is k)
+each_from P address [] each k within = absurd (omega arith)
+each_from P address (one ∷ more) each zero within = subst (λ n. P n (Some one)) (plus_none address) each.0
+  where
+    plus_none : (n : ℕ) → n ≡ n + 0
+    plus_none n = omega arith
+each_from P address (one ∷ more) each (suc k) within =
+    let e : (address + 1) + k ≡ address + suc k = omega arith in
+    subst (λ n. P n (slice_get more k)) e (each_from P (address + 1) more each.1 k (omega arith))
+
+each_address : (P : ℕ → Option Instruction → Type 0) (is : List Instruction) → EachFrom P 0 is → (k : ℕ) → k < length is → P k (slice_get is k)
+each_address P is each k within = let e : 0 + k ≡ k = omega arith in subst (λ n. P n (slice_get is k)) e (each_from P 0 is each k within)
+
+-- numbers below a bound
+abbrev EachBelow : ℕ → List ℕ → Type 0
+EachBelow bound [] = Unit {0}
+EachBelow bound (one ∷ more) = (one < bound) × EachBelow bound more
+
+all_below : (bound : ℕ) (all : List ℕ) → EachBelow bound all → All (λ k. k < bound) all
+all_below bound [] each = All-nil (λ k. k < bound)
+all_below bound (one ∷ more) each = All-cons (λ k. k < bound) one more each.0 (all_below bound more each.1)
+
+-- both in one code paragraph, each `back` with its number
+ways_stay : AllLead (performing 2 11).instructions
+ways_stay =
+    each_address (Leads (performing 2 11).instructions) (performing 2 11).instructions
+    (tt, (tt, (tt, (tt, (tt, (refl, (tt, (tt, (tt, (inl (record { later = omega arith; join = tt; stays = refl }), (tt, (refl, (tt, (tt, (tt, (refl, (tt, tt)))))))))))))))))
+
+paragraphs_start : AllStart (performing 2 11)
+paragraphs_start zero within = record { front = inl refl; in_it = refl }
+paragraphs_start (suc zero) within = record { front = inr tt; in_it = refl }
+paragraphs_start (suc (suc zero)) within = record { front = inr tt; in_it = refl }
+paragraphs_start (suc (suc (suc more))) within = absurd (omega arith)
+
+-- MAIN is higher than A and B
+main_higher : (paragraph : ℕ) → 1 ≤ paragraph → heights (1 ∷ 0 ∷ 0 ∷ []) paragraph < 1
+main_higher zero within = absurd (omega arith)
+main_higher (suc zero) within = omega arith
+main_higher (suc (suc zero)) within = omega arith
+main_higher (suc (suc (suc more))) within = omega arith
+
+paragraphs_order : HasOrder (performing 2 11)
+paragraphs_order =
+    let one : PerformedRange = record { performer = 0; first = 1; last = 2 } in
+    record {
+      ranges = All-cons (IsRange 3) one [] (record { performer = omega arith; first = omega arith; last = omega arith }) (All-nil (IsRange 3));
+      heights = 1 ∷ 0 ∷ 0 ∷ [];
+      fall = record {
+        one_each = refl;
+        below = all_below 3 (1 ∷ 0 ∷ 0 ∷ []) (omega arith, (omega arith, (omega arith, tt)));
+        fall = All-cons (Falls (heights (1 ∷ 0 ∷ 0 ∷ []))) one [] (λ number in_it. main_higher number in_it.first) (All-nil (Falls (heights (1 ∷ 0 ∷ 0 ∷ []))));
+      };
+    }
+
+-- it is verified
+verified_paragraphs : IsVerified (performing 2 11)
+verified_paragraphs = record {
+  tables = record { areas = λ k one here. absurd cc; items = λ k one here. absurd cc; senders = λ k one here. absurd cc };
+  within = record {
+    entries = all_of (NamesData (performing 2 11).tables) (performing 2 11).instructions
+        (tt, (tt, (omega arith, (tt, (tt, (tt, (tt, (omega arith, (tt, (tt, (tt, (tt, (tt, (omega arith, (tt, (tt, (tt, tt)))))))))))))))));
+    counters = all_of (NamesCounter 17) (performing 2 11).instructions
+        (tt, (tt, (tt, (tt, (tt, (tt, (tt, (tt, (tt, (tt, (tt, (tt, (tt, (tt, (tt, (tt, (tt, tt)))))))))))))))));
+    paragraphs = all_of (NamesParagraph 3) (performing 2 11).instructions
+        ((omega arith, omega arith), (tt, (tt, (tt, (tt, (omega arith, (tt, (tt, (tt, (tt, (tt, (omega arith, (tt, (tt, (tt, (omega arith, (tt, tt)))))))))))))))));
+    starts = all_below 17 (0 ∷ 6 ∷ 12 ∷ []) (omega arith, (omega arith, (omega arith, tt)));
+  };
+  shape = record {
+    leads = ways_stay;
+    starts = paragraphs_start;
+    order = paragraphs_order;
+    stops = refl;
+    finds = record { last = empty; along = refl };
+  };
+}
+
+-- A jump from A back to a `tick` of MAIN isn't.
+no_way_out : IsVerified (performing 2 1) → ⊥
+no_way_out verified =
+    elim (verified.shape.leads 9 (omega arith)) [
+      | inl on ↦ absurd (let later = on.later in omega arith)
+      | inr back ↦ absurd (let stays = back.stays in omega arith)
+    ]
+
+-- MAIN performs itself, which isn't verified either.
+abbrev recursive : Code
+recursive = record { tables = with_texts []; starts = 0 ∷ []; instructions = Perform 1 (paragraph 0) (paragraph 0) ∷ Stop ∷ Back (paragraph 0) ∷ Stop ∷ [] }
+
+no_recursion : IsVerified recursive → ⊥
+no_recursion verified =
+    let one : PerformedRange = record { performer = 0; first = 0; last = 0 } in
+    let lower = verified.shape.order.fall.fall 0 one (omega arith) 0 (record { first = omega arith; last = omega arith }) in
+    absurd (omega (arith, lower))
+
+-- and a start inside of MAIN isn't
+abbrev starting_at : ℕ → Code
+starting_at start = record { tables = with_texts []; starts = start ∷ []; instructions = Tick 1 ∷ Stop ∷ Back (paragraph 0) ∷ Stop ∷ [] }
+
+no_start_inside : IsVerified (starting_at 1) → ⊥
+no_start_inside verified = elim (verified.shape.starts 0 (omega arith)).front [ inl first ↦ absurd (omega (arith, first)) | inr back ↦ back ]
 
 -- ---- ACCEPT
 
@@ -329,12 +482,20 @@ append_spelt : instruction_bytes (append 7) ≡ 24 ∷ 0 ∷ 0 ∷ 0 ∷ 7 ∷ [
 unfolding short_bytes
 append_spelt = refl
 
--- no instruction begins with 0 or 11
+perform_spelt : instruction_bytes (Perform 258 (paragraph 1) (paragraph 2)) ≡ 11 ∷ 0 ∷ 0 ∷ 1 ∷ 2 ∷ 0 ∷ 0 ∷ 0 ∷ 0 ∷ 0 ∷ 0 ∷ 0 ∷ 1 ∷ 0 ∷ 0 ∷ 0 ∷ 0 ∷ 0 ∷ 0 ∷ 0 ∷ 2 ∷ []
+unfolding count_bytes short_bytes
+perform_spelt = refl
+
+back_spelt : instruction_bytes (Back (paragraph 258)) ≡ 12 ∷ 0 ∷ 0 ∷ 0 ∷ 0 ∷ 0 ∷ 0 ∷ 1 ∷ 2 ∷ []
+unfolding count_bytes
+back_spelt = refl
+
+-- no instruction begins with 0 or 13
 no_instruction : instruction_at (0 ∷ []) ≡ Err faults.Value
 unfolding instruction_at data_instruction_at byte_at plain_instruction_of
 no_instruction = refl
 
-unknown : instruction_at (11 ∷ []) ≡ Err faults.Value
+unknown : instruction_at (13 ∷ []) ≡ Err faults.Value
 unfolding instruction_at data_instruction_at byte_at plain_instruction_of
 unknown = refl
 

@@ -9,16 +9,16 @@ use Rattle.data_instructions.specs.declared.test.Test.TheVariants as t
 use Rattle.data_instructions.specs.declared.instruction.DataInstruction.{DataInstruction}
 use Rattle.data_instructions.specs.declared.instruction.DataInstruction.TheVariants as i
 use Rattle.image_tables.specs.declared.fault.ImageFault.TheVariants as faults
-use Rattle.image_tables.specs.Spelling.{IsBytes, count_bytes}
+use Rattle.image_tables.specs.Spelling.{IsBytes, count_bytes, short_bytes}
 use Rattle.image_tables.specs.Reading.{Read, ◌>>=◌, count_at}
 use Rattle.image_tables.specs.Instructions.{data_instruction_bytes, HasShorts}
 use Rattle.image_tables.proofs.Forms.{IsBytes-drop, guard_passed, ok_is, failed, chosen, Takes, takes_then, takes_kind, IsForm, part, part_again, Took, form_of, byte_is, behind_took, alone_took}
 use Rattle.image_tables.proofs.Numbers.{count_form, short_form}
 use Rattle.image_tables.proofs.Instructions.{data_instruction_form}
 use Rattle.code_image.specs.declared.instruction.Instruction.{Instruction}
-use Rattle.code_image.specs.declared.instruction.Instruction.TheVariants.{Tick, Show, Stop, Count, Turn, Accept, Date, Branch, Jump, Join, Data}
+use Rattle.code_image.specs.declared.instruction.Instruction.TheVariants.{Tick, Show, Stop, Count, Turn, Accept, Date, Branch, Jump, Join, Perform, Back, Data}
 use Rattle.code_image.specs.Spelling.{mark, instruction_bytes, HasNumbers}
-use Rattle.code_image.specs.Reading.{after_mark, alone_at, count_instruction_at, turn_at, branch_at, jump_at, data_at, instruction_at}
+use Rattle.code_image.specs.Reading.{after_mark, alone_at, count_instruction_at, turn_at, branch_at, jump_at, perform_at, back_at, data_at, instruction_at}
 
 -- ---- the mark
 
@@ -64,11 +64,49 @@ turn_took rest x is e =
     let t = takes_kind 5 rest (count_bytes a.value ++ count_bytes b.value) b.rest both in
     subst (Reads 5 rest) (ok_is (Turn (record { number = a.value }) b.value, b.rest) x b.goes) (t, (a.sound, b.sound))
 
+abbrev last_from : ℕ → ℕ → ℕ × List ℕ → Read Instruction
+last_from line first last = Ok (Perform line (record { number = first }) (record { number = last.0 }), last.1)
+
+abbrev range_from : ℕ × List ℕ → Read Instruction
+range_from line = count_at line.1 >>= λ first. count_at first.1 >>= last_from line.0 first.0
+
+perform_took : (rest : List ℕ) (x : Instruction × List ℕ) → IsBytes rest → perform_at rest ≡ Ok x → Reads 11 rest x
+perform_took rest x is e =
+    let a = part short_form rest range_from x is e in
+    let b = part count_form a.rest (λ first. count_at first.1 >>= last_from a.value first.0) x a.takes.rest_fits a.goes in
+    let c = part count_form b.rest (last_from a.value b.value) x b.takes.rest_fits b.goes in
+    let two = takes_then rest (short_bytes a.value) a.rest (count_bytes b.value) b.rest a.takes b.takes in
+    let three = takes_then rest (short_bytes a.value ++ count_bytes b.value) b.rest (count_bytes c.value) c.rest two c.takes in
+    let t = takes_kind 11 rest (short_bytes a.value ++ count_bytes b.value ++ count_bytes c.value) c.rest three in
+    let one : Instruction = Perform a.value (record { number = b.value }) (record { number = c.value }) in
+    subst (Reads 11 rest) (ok_is (one, c.rest) x c.goes) (t, (a.sound, b.sound, c.sound))
+
 -- an instruction on data has its own first byte
 data_took : (bytes : List ℕ) (x : Instruction × List ℕ) → IsBytes bytes → data_at bytes ≡ Ok x → Took instruction_bytes HasNumbers bytes x
 data_took bytes x is e =
     let a = part data_instruction_form bytes (λ one. Ok (Data one.0, one.1)) x is e in
     subst (Took instruction_bytes HasNumbers bytes) (ok_is (Data a.value, a.rest) x a.goes) (a.takes, a.sound)
+
+back_took : (rest : List ℕ) (x : Instruction × List ℕ) → IsBytes rest → back_at rest ≡ Ok x → Reads 12 rest x
+back_took rest x is e = behind_took instruction_bytes HasNumbers count_form 12 (λ a. Back (record { number = a })) (λ a. refl) (λ a h. h) rest x is e
+
+-- what is read where the first byte is none of the first ten
+abbrev last_at : ℕ → List ℕ → Read Instruction
+last_at n rest =
+    if n == 11 then perform_at rest
+    else if n == 12 then back_at rest
+    else data_at (n ∷ rest)
+
+last_took : (n : ℕ) (rest : List ℕ) (x : Instruction × List ℕ) → IsBytes (n ∷ rest) → last_at n rest ≡ Ok x → Reads n rest x
+last_took n rest x all e =
+    let is : IsBytes rest = λ i. all (suc i) in
+    elim (chosen (eqb n 11) _ _ _ e) [
+      | inl p ↦ byte_is instruction_bytes HasNumbers 11 n rest x p.0 (perform_took rest x is p.1)
+      | inr q ↦ elim (chosen (eqb n 12) _ _ _ q.1) [
+        | inl p ↦ byte_is instruction_bytes HasNumbers 12 n rest x p.0 (back_took rest x is p.1)
+        | inr r ↦ data_took (n ∷ rest) x all r.1
+      ]
+    ]
 
 -- what is read where the first byte is none of the first five
 abbrev later_at : ℕ → List ℕ → Read Instruction
@@ -78,7 +116,7 @@ later_at n rest =
     else if n == 8 then branch_at rest
     else if n == 9 then jump_at rest
     else if n == 10 then alone_at Join rest
-    else data_at (n ∷ rest)
+    else last_at n rest
 
 later_took : (n : ℕ) (rest : List ℕ) (x : Instruction × List ℕ) → IsBytes (n ∷ rest) → later_at n rest ≡ Ok x → Reads n rest x
 later_took n rest x all e =
@@ -93,7 +131,7 @@ later_took n rest x all e =
             | inl p ↦ byte_is instruction_bytes HasNumbers 9 n rest x p.0 (behind_took instruction_bytes HasNumbers count_form 9 Jump (λ a. refl) (λ a h. h) rest x is p.1)
             | inr t ↦ elim (chosen (eqb n 10) _ _ _ t.1) [
               | inl p ↦ byte_is instruction_bytes HasNumbers 10 n rest x p.0 (alone_took instruction_bytes HasNumbers 10 Join rest x (refl, tt) is p.1)
-              | inr u ↦ data_took (n ∷ rest) x all u.1
+              | inr u ↦ last_took n rest x all u.1
             ]
           ]
         ]
@@ -181,6 +219,13 @@ instruction_again Date rest h = refl
 instruction_again (Branch to) rest h = part_again count_form to rest (λ to. Ok (Branch to.0, to.1)) h
 instruction_again (Jump to) rest h = part_again count_form to rest (λ to. Ok (Jump to.0, to.1)) h
 instruction_again Join rest h = refl
+instruction_again (Perform line first last) rest h =
+    ap perform_at (append_assoc (short_bytes line ++ count_bytes first.number) (count_bytes last.number) rest
+    ∙ append_assoc (short_bytes line) (count_bytes first.number) (count_bytes last.number ++ rest))
+    ∙ part_again short_form line (count_bytes first.number ++ (count_bytes last.number ++ rest)) range_from h.0
+    ∙ part_again count_form first.number (count_bytes last.number ++ rest) (λ first. count_at first.1 >>= last_from line first.0) h.1
+    ∙ part_again count_form last.number rest (last_from line first.number) h.2
+instruction_again (Back paragraph) rest h = part_again count_form paragraph.number rest (λ paragraph. Ok (Back (record { number = paragraph.0 }), paragraph.1)) h
 instruction_again (Data one) rest h = data_again one rest h
 
 pub instruction_form : IsForm instruction_at instruction_bytes HasNumbers

@@ -6,6 +6,8 @@ pub mod Completeness
 -- The machine's table: what stands where, what is known there, one end of a run, and that there is one
 pub mod WellFormed
 pub mod Standing
+pub mod Paragraphs
+pub mod Exclusion
 pub mod Determinism
 pub mod Termination
 -- Definitions on small cases

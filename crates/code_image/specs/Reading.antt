@@ -8,7 +8,7 @@ use Rattle.image_tables.specs.Tables.{tables_at}
 use Rattle.image_tables.specs.Instructions.{data_instruction_at}
 use Rattle.code_image.specs.declared.code.Code.{Code}
 use Rattle.code_image.specs.declared.instruction.Instruction.{Instruction}
-use Rattle.code_image.specs.declared.instruction.Instruction.TheVariants.{Tick, Show, Stop, Count, Turn, Accept, Date, Branch, Jump, Join, Data}
+use Rattle.code_image.specs.declared.instruction.Instruction.TheVariants.{Tick, Show, Stop, Count, Turn, Accept, Date, Branch, Jump, Join, Perform, Back, Data}
 use Rattle.code_image.specs.Spelling.{mark}
 
 -- the bytes after the mark
@@ -45,6 +45,18 @@ jump_at bytes = do
   to ← count_at bytes
   Ok (Jump to.0, to.1)
 
+abbrev pub perform_at : List ℕ → Read Instruction
+perform_at bytes = do
+  line ← short_at bytes
+  first ← count_at line.1
+  last ← count_at first.1
+  Ok (Perform line.0 (record { number = first.0 }) (record { number = last.0 }), last.1)
+
+abbrev pub back_at : List ℕ → Read Instruction
+back_at bytes = do
+  paragraph ← count_at bytes
+  Ok (Back (record { number = paragraph.0 }), paragraph.1)
+
 -- an instruction on data, with its first byte
 abbrev pub data_at : List ℕ → Read Instruction
 data_at bytes = do
@@ -64,6 +76,8 @@ instruction_at (byte ∷ bytes) =
     else if byte == 8 then branch_at bytes
     else if byte == 9 then jump_at bytes
     else if byte == 10 then alone_at Join bytes
+    else if byte == 11 then perform_at bytes
+    else if byte == 12 then back_at bytes
     else data_at (byte ∷ bytes)
 
 -- all of the bytes

@@ -9,7 +9,7 @@ use sqlite_items::Items;
 pub struct Code {
     /// What instructions on data name.
     pub tables: DataTables,
-    /// The address at which each code paragraph starts. An address is the index of an instruction, from 0.
+    /// The address at which each code paragraph starts, in order. An address is the index of an instruction, from 0.
     pub starts: Items<usize>,
     pub instructions: Items<Instruction>,
 }

@@ -4,11 +4,12 @@ ghost use Rattle.std.specs.Prelude.{◌≡◌, ◌↔◌, ◌++◌, ◌∷◌, I
 ghost use Rattle.answers.specs.Answer.{Gives};
 ghost use Rattle.image_tables.specs.Faults.{fault_of};
 ghost use Rattle.image_tables.specs.Spelling.{count_bytes, short_bytes, IsCount, IsShort};
-ghost use Rattle.code_image.specs.Demands.{NamesData, NamesCounter};
+ghost use Rattle.code_image.specs.Demands.{NamesData, NamesCounter, NamesParagraph};
 ghost use Rattle.code_image.specs.Spelling.{instruction_bytes, HasNumbers};
-ghost use Rattle.code_image.specs.Reading.{tick_at, count_instruction_at, turn_at, branch_at, jump_at, instruction_at};
+ghost use Rattle.code_image.specs.Reading.{tick_at, count_instruction_at, turn_at, branch_at, jump_at, perform_at, back_at, instruction_at};
 
 use crate::counter::CounterIndex;
+use crate::paragraph::ParagraphIndex;
 use data_instructions::{DataInstruction, DataTables};
 use image_tables::{
     ImageError, ImageFault, TableEntry, put_count, put_short, read_count, read_short,
@@ -20,25 +21,49 @@ use std::alloc::{AllocError, Global};
 pub enum Instruction {
     /// Uses one of the budget, or ends the run as Budget where none is left. The statement begins in this line of the
     /// source, counted from 1.
-    Tick { line: u32 },
+    Tick {
+        line: u32,
+    },
     /// Shows the line that was made up, which is empty then.
     Show,
     /// Ends the run as Stopped.
     Stop,
     /// Sets a counter to this.
-    Count { counter: CounterIndex, turns: u64 },
+    Count {
+        counter: CounterIndex,
+        turns: u64,
+    },
     /// Where a counter is above 0, lowers it by one and goes to the address; else goes on.
-    Turn { counter: CounterIndex, to: usize },
+    Turn {
+        counter: CounterIndex,
+        to: usize,
+    },
     /// Takes a place, and stores the console's next line there, cut or padded with spaces; past the end of input, spaces.
     Accept,
     /// Takes a place, and moves the day there.
     Date,
-    /// Where the truth is false, goes to the address behind a `join` that comes later, or back to a `tick`; else goes on.
-    Branch { to: usize },
-    /// Goes to the address behind a `join` that comes later, or back to a `tick`.
-    Jump { to: usize },
+    /// Where the truth is false, goes to the address behind a `join` that comes later, or back to a `tick` or `perform`; else goes on.
+    Branch {
+        to: usize,
+    },
+    /// Goes to the address behind a `join` that comes later, or back to a `tick` or `perform`.
+    Jump {
+        to: usize,
+    },
     /// Does nothing: ways meet behind it.
     Join,
+    /// Uses one of the budget, as `tick` does, and performs code paragraphs, from one to the `back` of another: the run comes back to
+    /// the next address.
+    Perform {
+        line: u32,
+        first: ParagraphIndex,
+        last: ParagraphIndex,
+    },
+    /// Ends a code paragraph: where the newest `perform` that has not come back performs up to this one, goes back behind it; else
+    /// goes on.
+    Back {
+        paragraph: ParagraphIndex,
+    },
     /// Works on data. A fault ends the run.
     Data(DataInstruction),
 }
@@ -59,7 +84,9 @@ impl Instruction {
             | Instruction::Date
             | Instruction::Branch { .. }
             | Instruction::Jump { .. }
-            | Instruction::Join => true,
+            | Instruction::Join
+            | Instruction::Perform { .. }
+            | Instruction::Back { .. } => true,
         }
     }
 
@@ -74,6 +101,29 @@ impl Instruction {
             Instruction::Tick { .. }
             | Instruction::Show
             | Instruction::Stop
+            | Instruction::Accept
+            | Instruction::Date
+            | Instruction::Branch { .. }
+            | Instruction::Jump { .. }
+            | Instruction::Join
+            | Instruction::Perform { .. }
+            | Instruction::Back { .. }
+            | Instruction::Data(_) => true,
+        }
+    }
+
+    /// A code paragraph that it names is one of so many.
+    pub(crate) fn names_paragraph(self, count: usize) -> bool
+        ensures { IsTrue result ↔ NamesParagraph count self }
+    {
+        match self {
+            Instruction::Perform { first, last, .. } => first.number < count && last.number < count,
+            Instruction::Back { paragraph } => paragraph.number < count,
+            Instruction::Tick { .. }
+            | Instruction::Show
+            | Instruction::Stop
+            | Instruction::Count { .. }
+            | Instruction::Turn { .. }
             | Instruction::Accept
             | Instruction::Date
             | Instruction::Branch { .. }
@@ -105,6 +155,10 @@ const JUMP: u8 = 9;
 
 const JOIN: u8 = 10;
 
+const PERFORM: u8 = 11;
+
+const BACK: u8 = 12;
+
 fn put_tick(out: &mut Vec<u8>, line: u32) -> Result<(), AllocError>
     ensures bytes { OnOk result (out.new.items ≡ out.old.items ++ (1 ∷ short_bytes line)) }
     ensures fits { IsShort line }
@@ -135,6 +189,21 @@ fn put_leading(out: &mut Vec<u8>, first: u8, to: usize) -> Result<(), AllocError
 {
     out.push(first)?;
     put_count(out, to)
+}
+
+fn put_perform(
+    out: &mut Vec<u8>,
+    line: u32,
+    first: ParagraphIndex,
+    last: ParagraphIndex,
+) -> Result<(), AllocError>
+    ensures bytes { OnOk result (out.new.items ≡ out.old.items ++ (11 ∷ (short_bytes line ++ count_bytes first.number ++ count_bytes last.number))) }
+    ensures fits { IsShort line × IsCount first.number × IsCount last.number }
+{
+    out.push(PERFORM)?;
+    put_short(out, line)?;
+    put_count(out, first.number)?;
+    put_count(out, last.number)
 }
 
 fn read_tick(bytes: &[u8]) -> Result<(Instruction, &[u8]), ImageError>
@@ -177,6 +246,25 @@ fn read_jump(bytes: &[u8]) -> Result<(Instruction, &[u8]), ImageError>
     Ok((Instruction::Jump { to }, rest))
 }
 
+fn read_perform(bytes: &[u8]) -> Result<(Instruction, &[u8]), ImageError>
+    ensures { Gives (λ x. (x.0, x.1.now)) fault_of result (perform_at bytes.now) }
+{
+    let (line, rest) = read_short(bytes)?;
+    let (first, rest) = read_count(rest)?;
+    let (last, rest) = read_count(rest)?;
+    let first = ParagraphIndex { number: first };
+    let last = ParagraphIndex { number: last };
+    Ok((Instruction::Perform { line, first, last }, rest))
+}
+
+fn read_back(bytes: &[u8]) -> Result<(Instruction, &[u8]), ImageError>
+    ensures { Gives (λ x. (x.0, x.1.now)) fault_of result (back_at bytes.now) }
+{
+    let (number, rest) = read_count(bytes)?;
+    let paragraph = ParagraphIndex { number };
+    Ok((Instruction::Back { paragraph }, rest))
+}
+
 impl TableEntry for Instruction {
     ghost spelled = { instruction_bytes };
 
@@ -198,6 +286,8 @@ impl TableEntry for Instruction {
             Instruction::Branch { to } => put_leading(out, BRANCH, to),
             Instruction::Jump { to } => put_leading(out, JUMP, to),
             Instruction::Join => Ok(out.push(JOIN)?),
+            Instruction::Perform { line, first, last } => put_perform(out, line, first, last),
+            Instruction::Back { paragraph } => put_leading(out, BACK, paragraph.number),
             Instruction::Data(one) => one.put(out),
         }
     }
@@ -216,6 +306,8 @@ impl TableEntry for Instruction {
             [BRANCH, rest @ ..] => read_branch(rest),
             [JUMP, rest @ ..] => read_jump(rest),
             [JOIN, rest @ ..] => Ok((Instruction::Join, rest)),
+            [PERFORM, rest @ ..] => read_perform(rest),
+            [BACK, rest @ ..] => read_back(rest),
             [_, ..] => {
                 let (one, rest) = DataInstruction::read(alloc, bytes)?;
                 Ok((Instruction::Data(one), rest))

@@ -32,6 +32,8 @@ impl Instruction {
     {
         match self {
             Instruction::Tick { .. }
+            | Instruction::Perform { .. }
+            | Instruction::Back { .. }
             | Instruction::Turn { .. }
             | Instruction::Branch { .. }
             | Instruction::Jump { .. }

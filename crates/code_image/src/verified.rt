@@ -1,13 +1,15 @@
 //! Code that a machine can run.
 
-ghost use Rattle.std.specs.Prelude.{◌≡◌, ◌-◌, ◌↔◌, IsTrue, All, length, slice_get, Some, IfOk, IfErr};
+ghost use Rattle.std.specs.Prelude.{◌≡◌, ◌-◌, ◌<◌, ◌↔◌, IsTrue, All, length, slice_get, Some, IfOk, IfErr};
 ghost use Rattle.code_image.specs.declared.instruction.Instruction.TheVariants.{Stop};
-ghost use Rattle.code_image.specs.Demands.{IsVerified, IsWithin, HasShape, Blames, NamesData, NamesCounter, IsAddress, IsTick, IsJoin, LeadsOn, LeadsBack, Leads, AllLead};
+ghost use Rattle.code_image.specs.Demands.{IsVerified, IsWithin, HasShape, Blames, NamesData, NamesCounter, NamesParagraph, IsAddress, UsesBudget, IsJoin, LeadsOn, LeadsBack, Leads, AllLead};
+ghost use Rattle.code_image.specs.Paragraphs.{ListsParagraphs};
 ghost use Rattle.image_tables.specs.Faults.{fault_of};
 
 use crate::code::Code;
 use crate::instruction::Instruction;
 use crate::known::find_operands;
+use crate::paragraph::{all_start, has_order, paragraphs_of};
 use data_instructions::DataTables;
 use image_tables::{ImageError, ImageFault};
 use std::alloc::{AllocError, Global};
@@ -61,6 +63,17 @@ fn name_counters(instructions: &[Instruction], count: usize) -> bool
     true
 }
 
+fn name_paragraphs(instructions: &[Instruction], count: usize) -> bool
+    ensures { IsTrue result ↔ All (NamesParagraph count) instructions.now }
+{
+    for instruction in instructions {
+        if !instruction.names_paragraph(count) {
+            return false;
+        }
+    }
+    true
+}
+
 fn are_addresses(starts: &[usize], count: usize) -> bool
     ensures { IsTrue result ↔ All (IsAddress count) starts.now }
 {
@@ -72,10 +85,13 @@ fn are_addresses(starts: &[usize], count: usize) -> bool
     true
 }
 
-fn is_tick(instructions: &[Instruction], address: usize) -> bool
-    ensures { IsTrue result ↔ IsTick (slice_get instructions.now address) }
+fn uses_budget(instructions: &[Instruction], address: usize) -> bool
+    ensures { IsTrue result ↔ UsesBudget (slice_get instructions.now address) }
 {
-    matches!(instructions.get(address), Some(Instruction::Tick { .. }))
+    matches!(
+        instructions.get(address),
+        Some(Instruction::Tick { .. } | Instruction::Perform { .. })
+    )
 }
 
 fn is_join(instructions: &[Instruction], address: usize) -> bool
@@ -84,38 +100,47 @@ fn is_join(instructions: &[Instruction], address: usize) -> bool
     matches!(instructions.get(address), Some(Instruction::Join))
 }
 
-/// A way on leads to the address behind a join that comes later.
-fn leads_on(instructions: &[Instruction], address: usize, to: usize) -> bool
+/// A way on leads to the address behind a `join` that comes later, in the same code paragraph.
+fn leads_on(instructions: &[Instruction], paragraphs: &[usize], address: usize, to: usize) -> bool
+    requires listed { ListsParagraphs instructions.now paragraphs.now }
+    requires within { address < length instructions.now }
     ensures { IsTrue result ↔ LeadsOn instructions.now address to }
 {
-    address < to && is_join(instructions, to - 1)
+    address < to && is_join(instructions, to - 1) && paragraphs[to] == paragraphs[address]
 }
 
-/// A way back leads to a tick that comes before.
-fn leads_back(instructions: &[Instruction], address: usize, to: usize) -> bool
+/// A way back leads to what uses one of the budget, before it in the same code paragraph.
+fn leads_back(instructions: &[Instruction], paragraphs: &[usize], address: usize, to: usize) -> bool
+    requires listed { ListsParagraphs instructions.now paragraphs.now }
+    requires within { address < length instructions.now }
     ensures { IsTrue result ↔ LeadsBack instructions.now address to }
 {
-    to < address && is_tick(instructions, to)
+    to < address && uses_budget(instructions, to) && paragraphs[to] == paragraphs[address]
 }
 
-/// What stands at an address leads where it may.
-fn leads(instructions: &[Instruction], address: usize) -> bool
+/// What stands at an address leads where it may, and a `back` has the number of the code paragraph that it ends.
+fn leads(instructions: &[Instruction], paragraphs: &[usize], address: usize) -> bool
+    requires listed { ListsParagraphs instructions.now paragraphs.now }
+    requires within { address < length instructions.now }
     ensures { IsTrue result ↔ Leads instructions.now address (slice_get instructions.now address) }
 {
     match instructions.get(address) {
-        Some(Instruction::Turn { to, .. }) => leads_back(instructions, address, *to),
+        Some(Instruction::Turn { to, .. }) => leads_back(instructions, paragraphs, address, *to),
         Some(Instruction::Branch { to } | Instruction::Jump { to }) => {
-            leads_on(instructions, address, *to) || leads_back(instructions, address, *to)
+            leads_on(instructions, paragraphs, address, *to)
+                || leads_back(instructions, paragraphs, address, *to)
         }
+        Some(Instruction::Back { paragraph }) => paragraph.number == paragraphs[address],
         _ => true,
     }
 }
 
-fn all_lead(instructions: &[Instruction]) -> bool
+fn all_lead(instructions: &[Instruction], paragraphs: &[usize]) -> bool
+    requires { ListsParagraphs instructions.now paragraphs.now }
     ensures { IsTrue result ↔ AllLead instructions.now }
 {
     for address in 0..instructions.len() {
-        if !leads(instructions, address) {
+        if !leads(instructions, paragraphs, address) {
             return false;
         }
     }
@@ -128,31 +153,41 @@ fn stops_last(instructions: &[Instruction]) -> bool
     matches!(instructions.last(), Some(Instruction::Stop))
 }
 
-/// Each entry that instructions name, each counter and each start of a paragraph is in its table.
+/// Each entry that instructions name, each counter, each code paragraph and each start of one is in its table.
 fn is_within(code: &Code) -> bool
     ensures { IsTrue result ↔ IsWithin code.now }
 {
     let instructions = code.instructions.as_slice();
     name_data(instructions, &code.tables)
         && name_counters(instructions, instructions.len())
+        && name_paragraphs(instructions, code.starts.as_slice().len())
         && are_addresses(code.starts.as_slice(), instructions.len())
 }
 
-/// Each way back leads to a `tick` before it, each way on to what comes behind a `join`, `stop` comes last, and each instruction
-/// finds what it needs.
+/// Each way leads where it may, each code paragraph starts where its start says, none performs itself, `stop` comes last, and each
+/// instruction finds what it needs.
 fn has_shape(alloc: Global, code: &Code) -> Result<bool, AllocError>
     ensures { IfOk result (λ has. IsTrue has ↔ HasShape code.now) }
 {
     let instructions = code.instructions.as_slice();
-    if !all_lead(instructions) || !stops_last(instructions) {
+    let paragraphs = paragraphs_of(alloc, instructions)?;
+    if !all_lead(instructions, &paragraphs)
+        || !all_start(code, &paragraphs)
+        || !stops_last(instructions)
+    {
+        return Ok(false);
+    }
+    if !has_order(alloc, code, &paragraphs)? {
         return Ok(false);
     }
     find_operands(alloc, code)
 }
 
-/// Tests that a machine can run the code: its tables are in order, else 72; each entry that it names, each counter and each
-/// start of a paragraph is an index in its table, else 73; each way back leads to a `tick` before it, each way on behind a
-/// `join` that comes later, `stop` comes last, and each instruction finds what it needs on the stacks, else 74.
+/// Tests that a machine can run the code: its tables are in order, else 72; each entry that it names, each counter, each code
+/// paragraph and each start of one is an index in its table, else 73; each way leads on behind a `join` that comes later or
+/// back to a `tick` or `perform` before it, in its code paragraph; each code paragraph ends with the `back` of its number and
+/// starts where its start says; none performs itself, by way of others neither; `stop` comes last, and each instruction finds
+/// what it needs on the stacks, else 74.
 pub fn verify(alloc: Global, code: Code) -> Result<Verified, ImageError>
     ensures value { IfOk result (λ verified. verified ≡ code) }
     ensures verified { IfOk result (λ _. IsVerified code) }

@@ -5,7 +5,7 @@ use Rattle.source_tree.specs.declared.branching.Branching.TheVariants.{If}
 use Rattle.source_tree.specs.declared.ending.Ending.{Ending}
 use Rattle.source_tree.specs.declared.ending.Ending.TheVariants as ending
 use Rattle.source_tree.specs.declared.performing.Performed.{Performed}
-use Rattle.source_tree.specs.declared.performing.Performed.TheVariants.{Statements}
+use Rattle.source_tree.specs.declared.performing.Performed.TheVariants.{Procedures, Statements}
 use Rattle.source_tree.specs.declared.performing.Turns.{Turns}
 use Rattle.source_tree.specs.declared.performing.Turns.TheVariants.{Once, Times, Until}
 use Rattle.source_tree.specs.declared.statement.Verb.{Verb}
@@ -16,14 +16,16 @@ use Rattle.source_tree.specs.declared.statement.Statement.TheFolds.{map-Statemen
 use Rattle.source_tree.specs.Arithmetic.{is_there}
 use Rattle.source_tree.specs.Performing.{turns_of}
 use Rattle.source_tree.specs.Places.{Placed}
+use Rattle.source_tree.specs.Procedures.{Range, range_of}
+use Rattle.source_tree.specs.Setting.{Scope}
 use Rattle.code_image.specs.declared.code.Code.{Code}
 use Rattle.code_image.specs.declared.instruction.Instruction.TheVariants.{Tick, Stop, Count}
 use Rattle.codegen.specs.Pieces.{Piece, nothing, joined, both, in_order, plain}
 use Rattle.codegen.specs.ArithmeticCode.{arithmetic_piece}
 use Rattle.codegen.specs.Meeting.{either_piece}
 use Rattle.codegen.specs.ConditionCode.{condition_piece}
-use Rattle.codegen.specs.UntilCode.{tick_piece}
-use Rattle.codegen.specs.Layout.{ending_piece, loop_begin, loop_end, times_piece, turns_piece, moving_piece, texts_piece, performed_piece, phrase_piece, phrases_from, branching_piece, verb_piece, statement_piece}
+use Rattle.codegen.specs.UntilCode.{tick_piece, until_piece}
+use Rattle.codegen.specs.Layout.{ending_piece, loop_begin, loop_end, times_piece, turns_piece, moving_piece, texts_piece, range_piece, turn_piece, phrase_piece, phrases_from, branching_piece, verb_piece, statement_piece}
 use Rattle.codegen.proofs.Blind.{alike_joined, Blind, blind_as, constant_blind, count_blind, both_blind, in_order_blind, moving_blind, texts_blind}
 use Rattle.codegen.proofs.BlindArithmetic.{arithmetic_blind}
 use Rattle.codegen.proofs.ConditionBlind.{condition_blind}
@@ -34,77 +36,98 @@ use Rattle.codegen.proofs.UntilBlind.{tick_blind, until_blind}
 ending_blind : (line : ℕ) (one : Ending) → Blind (ending_piece line one)
 ending_blind line ending.StopRun = constant_blind (plain (Tick line ∷ Stop ∷ []))
 ending_blind line ending.Continue = tick_blind line
+ending_blind line ending.Exit = tick_blind line
 
 -- ---- turns
 
-begin_blind : (line more : ℕ) → Blind (loop_begin line more)
-begin_blind line more = count_blind (λ (n : ℕ). plain (Count (record { number = n }) more ∷ Tick line ∷ []))
+begin_blind : (more : ℕ) → Blind (loop_begin more)
+begin_blind more = count_blind (λ (n : ℕ). plain (Count (record { number = n }) more ∷ []))
 
-times_blind : (line count : ℕ) (body : Piece) → Blind body → Blind (times_piece line count body)
-times_blind line zero body f = constant_blind nothing
-times_blind line (suc more) body f = record {
+times_blind : (count : ℕ) (turn : Piece) → Blind turn → Blind (times_piece count turn)
+times_blind zero turn f = constant_blind nothing
+times_blind (suc more) turn f = record {
   by = λ a b alike.
-      let begin = (begin_blind line more).by a b alike in
-      let inner = alike_joined a b (loop_begin line more a) (loop_begin line more b) alike begin in
-      ap (λ (c : Code). joined c (joined (body (joined a (loop_begin line more a))) (loop_end (length a.instructions)))) begin
-      ∙ ap (λ (c : Code). joined (loop_begin line more b) (joined c (loop_end (length a.instructions)))) (f.by (joined a (loop_begin line more a)) (joined b (loop_begin line more b)) inner)
-      ∙ ap (λ (n : ℕ). joined (loop_begin line more b) (joined (body (joined b (loop_begin line more b))) (loop_end n))) alike.count;
+      let begin = (begin_blind more).by a b alike in
+      let inner = alike_joined a b (loop_begin more a) (loop_begin more b) alike begin in
+      ap (λ (c : Code). joined c (joined (turn (joined a (loop_begin more a))) (loop_end (length a.instructions)))) begin
+      ∙ ap (λ (c : Code). joined (loop_begin more b) (joined c (loop_end (length a.instructions))))
+      (f.by (joined a (loop_begin more a)) (joined b (loop_begin more b)) inner)
+      ∙ ap (λ (n : ℕ). joined (loop_begin more b) (joined (turn (joined b (loop_begin more b))) (loop_end n))) alike.count;
 }
+
+-- the paragraphs of a range
+range_blind : (line : ℕ) (range : Option Range) → Blind (range_piece line range)
+range_blind line None = tick_blind line
+range_blind line (Some range) = constant_blind (range_piece line (Some range) nothing)
 
 -- ---- statements that hold statements
 
-module _ (items : List Placed) where
-  turns_blind : (line : ℕ) (often : Turns) (body : Piece) → Blind body → Blind (turns_piece items line often body)
-  turns_blind line Once body f = f
-  turns_blind line (Times count) body f = times_blind line (turns_of count) body f
-  turns_blind line (Until one) body f = until_blind items line one body f
+turns_blind : (items : List Placed) (line : ℕ) (often : Turns) (turn : Piece) → Blind turn → Blind (turns_piece items line often turn)
+turns_blind items line Once turn f = f
+turns_blind items line (Times count) turn f =
+    both_blind (tick_piece line) (times_piece (turns_of count) turn) (tick_blind line) (times_blind (turns_of count) turn f)
+turns_blind items line (Until one) turn f =
+    both_blind (tick_piece line) (until_piece items one turn) (tick_blind line) (until_blind items one turn f)
+
+module _ (scope : Scope) where
+  abbrev items : List Placed
+  items = scope.items
 
   module _ {S : Type 0} (inside : S → Piece) (each_one : (one : S) → Blind (inside one)) where
-    pub performed_blind : (one : Performed S) → Blind (performed_piece items inside one)
-    performed_blind (Statements statements) = in_order_blind inside each_one statements
+    pub turn_blind : (line : ℕ) (one : Performed S) → Blind (turn_piece scope inside line one)
+    turn_blind line (Procedures first last) = range_blind line (range_of scope.procedures first last)
+    turn_blind line (Statements statements) =
+        both_blind (tick_piece line) (in_order inside statements) (tick_blind line) (in_order_blind inside each_one statements)
 
-    pub phrase_blind : (phrase : Option (List S)) → Blind (phrase_piece items inside phrase)
+    pub phrase_blind : (phrase : Option (List S)) → Blind (phrase_piece scope inside phrase)
     phrase_blind None = constant_blind nothing
     phrase_blind (Some statements) = in_order_blind inside each_one statements
 
-    phrases_blind : (arose did_not : Option (List S)) → Blind (phrases_from items inside arose did_not)
+    phrases_blind : (arose did_not : Option (List S)) → Blind (phrases_from scope inside arose did_not)
     phrases_blind None None = constant_blind nothing
     phrases_blind (Some statements) other =
-        either_blind (phrase_piece items inside (Some statements)) (phrase_piece items inside other) (phrase_blind (Some statements)) (phrase_blind other)
+        either_blind (phrase_piece scope inside (Some statements)) (phrase_piece scope inside other) (phrase_blind (Some statements))
+        (phrase_blind other)
     phrases_blind None (Some statements) =
-        either_blind (phrase_piece items inside None) (phrase_piece items inside (Some statements)) (phrase_blind None) (phrase_blind (Some statements))
+        either_blind (phrase_piece scope inside None) (phrase_piece scope inside (Some statements)) (phrase_blind None)
+        (phrase_blind (Some statements))
 
-    branching_blind : (line : ℕ) (one : Branching S) → Blind (branching_piece items inside line one)
+    branching_blind : (line : ℕ) (one : Branching S) → Blind (branching_piece scope inside line one)
     branching_blind line (If condition statements otherwise) =
         let test = condition_piece items condition in
-        let ways = either_piece (in_order inside statements) (phrase_piece items inside otherwise) in
+        let ways = either_piece (in_order inside statements) (phrase_piece scope inside otherwise) in
         both_blind (tick_piece line) (both test ways) (tick_blind line)
         (both_blind test ways (condition_blind items condition)
-        (either_blind (in_order inside statements) (phrase_piece items inside otherwise) (in_order_blind inside each_one statements) (phrase_blind otherwise)))
+        (either_blind (in_order inside statements) (phrase_piece scope inside otherwise) (in_order_blind inside each_one statements)
+        (phrase_blind otherwise)))
 
-    verb_blind : (line : ℕ) (one : Verb S) → Blind (verb_piece items inside line one)
+    verb_blind : (line : ℕ) (one : Verb S) → Blind (verb_piece scope inside line one)
     verb_blind line (verb.Moving one) = both_blind (tick_piece line) (moving_piece items one) (tick_blind line) (moving_blind items one)
     verb_blind line (verb.Arithmetic one) =
         let part = arithmetic_piece items (is_there one.phrases.arose) one.operation in
-        let phrases = phrases_from items inside one.phrases.arose one.phrases.did_not in
+        let phrases = phrases_from scope inside one.phrases.arose one.phrases.did_not in
         both_blind (tick_piece line) (both part phrases) (tick_blind line)
-        (both_blind part phrases (arithmetic_blind items (is_there one.phrases.arose) one.operation) (phrases_blind one.phrases.arose one.phrases.did_not))
+        (both_blind part phrases (arithmetic_blind items (is_there one.phrases.arose) one.operation)
+        (phrases_blind one.phrases.arose one.phrases.did_not))
     verb_blind line (verb.Branching one) = branching_blind line one
     verb_blind line (verb.Performing one) =
-        both_blind (tick_piece line) (turns_piece items line one.turns (performed_piece items inside one.performed)) (tick_blind line)
-        (turns_blind line one.turns (performed_piece items inside one.performed) (performed_blind one.performed))
+        turns_blind items line one.turns (turn_piece scope inside line one.performed) (turn_blind line one.performed)
     verb_blind line (verb.Text one) = both_blind (tick_piece line) (texts_piece items one) (tick_blind line) (texts_blind items one)
     verb_blind line (verb.Ending one) = ending_blind line one
 
   -- a statement whose code is so
   abbrev Seen : Type 0
-  Seen = (one : Statement) × Blind (statement_piece items one)
+  Seen = (one : Statement) × Blind (statement_piece scope one)
 
-  rolled_blind : (l : Statement-F Seen) → Blind (statement_piece items (roll-Statement (map-Statement Seen Statement (λ m. m.0) l)))
+  rolled_blind : (l : Statement-F Seen) → Blind (statement_piece scope (roll-Statement (map-Statement Seen Statement (λ m. m.0) l)))
   rolled_blind l =
-      blind_as (statement_piece items (roll-Statement (map-Statement Seen Statement (λ m. m.0) l))) (verb_piece items (λ (m : Seen). statement_piece items m.0) l.place.line l.verb)
-      (λ before. rolled_is items (map-Statement Seen Statement (λ m. m.0) l) before ∙ verb_map items (λ m. m.0) (statement_piece items) l.place l.verb before)
-      (verb_blind (λ (m : Seen). statement_piece items m.0) (λ m. m.1) l.place.line l.verb)
+      blind_as (statement_piece scope (roll-Statement (map-Statement Seen Statement (λ m. m.0) l)))
+      (verb_piece scope (λ (m : Seen). statement_piece scope m.0) l.place.line l.verb)
+      (λ before. rolled_is scope (map-Statement Seen Statement (λ m. m.0) l) before
+      ∙ verb_map scope (λ m. m.0) (statement_piece scope) l.place l.verb before)
+      (verb_blind (λ (m : Seen). statement_piece scope m.0) (λ m. m.1) l.place.line l.verb)
 
-  pub statement_blind : (one : Statement) → Blind (statement_piece items one)
-  statement_blind = ind-Statement (λ one. Blind (statement_piece items one)) (λ one l is. subst (λ k. Blind (statement_piece items (roll-Statement k))) is (rolled_blind l))
+  pub statement_blind : (one : Statement) → Blind (statement_piece scope one)
+  statement_blind =
+      ind-Statement (λ one. Blind (statement_piece scope one))
+      (λ one l is. subst (λ k. Blind (statement_piece scope (roll-Statement k))) is (rolled_blind l))

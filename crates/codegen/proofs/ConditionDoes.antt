@@ -35,7 +35,7 @@ use Rattle.codegen.proofs.ConditionBlind.{nothing_blind, condition_blind}
 use Rattle.codegen.proofs.ConditionCodes.{Tested, relation_tested, sign_tested, class_tested, name_tested}
 use Rattle.codegen.proofs.ConditionForms.{mapped_piece, mapped_rules, mapped_truth}
 use Rattle.codegen.proofs.DataDoing.{behind_code}
-use Rattle.codegen.proofs.Doing.{end_of, keeps_all, keeps_then, keeps_more, Comes, steps_to}
+use Rattle.codegen.proofs.Doing.{end_of, any, keeps_all, keeps_then, keeps_more, Comes, steps_to}
 use Rattle.codegen.proofs.Evaluating.{Evaluates}
 use Rattle.codegen.proofs.Pieces.{joined_assoc, joined_nothing}
 use Rattle.codegen.proofs.Running.{at, one_step, WorksFrom, works_from}
@@ -65,7 +65,7 @@ module _ (whole : Code) where
   -- and a way on, of a part within low..high
   before_way : (low high from to address mid next : ℕ) (cs : Own) (s : State) (e : Evaluated Bool) → from ≤ low → high ≤ to → Evaluates whole low high address cs s mid e
       → ((ds : Own) → Comes whole mid ds s next ds s) → Evaluates whole from to address cs s next e
-  before_way low high from to address mid next cs s (Ok truth) begin end d way = (d.0, comes_then address mid next cs d.0 d.0 s d.1 (way d.0), keeps_more low high from to cs d.0 begin end d.2, d.3)
+  before_way low high from to address mid next cs s (Ok truth) begin end d way = (d.0, comes_then address mid next cs d.0 d.0 s d.1 (way d.0), keeps_more any low high from to cs d.0 begin end d.2, d.3)
   before_way low high from to address mid next cs s (Err fault) begin end d way = d
 
   then_evaluates : (low high from to address mid next : ℕ) (cs : Own) (s : State) (e : Evaluated Bool) (go : Bool → Evaluated Bool) → from ≤ low → high ≤ to
@@ -75,7 +75,7 @@ module _ (whole : Code) where
       goes_on (go truth) (h truth d.0 d.3)
     where
       goes_on : (e : Evaluated Bool) → Evaluates whole from to mid d.0 s next e → Evaluates whole from to address cs s next e
-      goes_on (Ok last) f = (f.0, comes_then address mid next cs d.0 f.0 s d.1 f.1, keeps_then from to cs d.0 f.0 (keeps_more low high from to cs d.0 begin end d.2) f.2, f.3)
+      goes_on (Ok last) f = (f.0, comes_then address mid next cs d.0 f.0 s d.1 f.1, keeps_then any from to cs d.0 f.0 (keeps_more any low high from to cs d.0 begin end d.2) f.2, f.3)
       goes_on (Err fault) f = let a = d.1.by f.0 in (a.0, a.1 ∙ f.1)
   then_evaluates low high from to address mid next cs s (Err fault) go begin end d h = d
 
@@ -97,7 +97,7 @@ module _ (whole : Code) where
   nothing_evaluates before cs s truth is = (
     cs,
     record { by = λ k. (k, ap (λ p. exec_code whole k (at p cs s)) (ap end_of (sym (joined_nothing before)))); falls = omega arith },
-    keeps_all (end_of before) (end_of (joined before nothing)) cs,
+    keeps_all any (end_of before) (end_of (joined before nothing)) cs,
     is,
   )
 
@@ -138,7 +138,7 @@ module _ (whole : Code) where
       let ds : Own = record cs { truth = truth; sender = sender } in (
         ds,
         record { by = λ k. (count + k, h k ∙ ap (λ n. exec_code whole k (at n ds s)) behind); falls = omega arith },
-        record { count = refl; by = λ k outside. refl; line = λ e. e },
+        record { count = refl; by = λ k is outside. refl; line = λ e. e; returns = refl },
         refl,
       )
   found_evaluates from to address next cs s count behind sender (Err fault) h = h
@@ -176,7 +176,7 @@ module _ (whole : Code) where
       let here : slice_get whole.instructions from ≡ Some (Data (i.Test t.Invert)) = first_stands whole before part (Data (i.Test t.Invert)) [] refl st in (
         ds,
         subst (λ p. Comes whole from cs s p ds s) (sym behind) (steps_to whole from (from + 1) cs ds s s (omega arith) (λ k. one_step whole from cs s (Data (i.Test t.Invert)) here k)),
-        record { count = refl; by = λ k outside. refl; line = λ e. e },
+        record { count = refl; by = λ k is outside. refl; line = λ e. e; returns = refl },
         ap not is,
       )
 

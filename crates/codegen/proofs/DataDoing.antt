@@ -32,28 +32,28 @@ module _ (whole : Code) where
   pub behind_code : (before part : Code) (code : List DataInstruction) → part.instructions ≡ map Data code → end_of before + length code ≡ end_of (joined before part)
   behind_code before part code is = omega (arith, ap length is, length-append before.instructions part.instructions, length-map code Data)
 
-  module _ (from to address next : ℕ) (cs : Own) (s : State) (count : ℕ) (behind_is : address + count ≡ next) where
+  module _ (kept : ℕ → Type 0) (from to address next : ℕ) (cs : Own) (s : State) (count : ℕ) (behind_is : address + count ≡ next) where
     -- a MOVE from what was taken
     pub stored_does : (sender : Sender) (e : Evaluated Storage)
         → WorksFrom whole address cs s count (step.step_with e (λ after. step.Went (record (scratch_of s cs) { storage = after; sender = Some sender })))
-        → Does whole from to address cs s next (with_value e s (λ after. Done (record s { storage = after })))
+        → Does whole kept from to address cs s next (with_value e s (λ after. Done (record s { storage = after })))
     stored_does sender (Ok after) h = (
       record cs { sender = Some sender },
       record { by = λ k. (count + k, h k ∙ ap (λ n. exec_code whole k (at n (record cs { sender = Some sender }) (record s { storage = after }))) behind_is); falls = omega arith },
-      record { count = refl; by = λ k outside. refl; line = λ e. e },
+      record { count = refl; by = λ k is outside. refl; line = λ e. e; returns = refl },
     )
     stored_does sender (Err fault) h = h
 
     pub moved_does : (found : Evaluated Sender) (each_one : Sender → Evaluated Storage)
         → WorksFrom whole address cs s count (step.step_with found (λ sender. step.step_with (each_one sender) (λ after. step.Went (record (scratch_of s cs) { storage = after; sender = Some sender }))))
-        → Does whole from to address cs s next (with_value (found >>= each_one) s (λ after. Done (record s { storage = after })))
+        → Does whole kept from to address cs s next (with_value (found >>= each_one) s (λ after. Done (record s { storage = after })))
     moved_does (Ok sender) each_one h = stored_does sender (each_one sender) h
     moved_does (Err fault) each_one h = h
 
     -- what a DISPLAY makes up is shown
     pub shown_does : (e : Evaluated (List ℕ)) → IsRoom whole cs → slice_get whole.instructions next ≡ Some Show
         → WorksFrom whole address cs s count (step.step_with e (λ bytes. step.Went (record (scratch_of s cs) { line = cs.line ++ bytes })))
-        → Does whole from to address cs s (next + 1) (with_value e s (λ bytes. Done (showing bytes s)))
+        → Does whole kept from to address cs s (next + 1) (with_value e s (λ bytes. Done (showing bytes s)))
     shown_does (Ok bytes) room here h =
         let ds = record cs { line = cs.line ++ bytes } in (
           record cs { line = [] },
@@ -65,19 +65,19 @@ module _ (whole : Code) where
             );
             falls = omega arith;
           },
-          record { count = refl; by = λ k outside. refl; line = λ e. refl },
+          record { count = refl; by = λ k is outside. refl; line = λ e. refl; returns = refl },
         )
     shown_does (Err fault) room here h = h
 
     -- an arithmetic statement, and what goes on from there by whether a size error arose
     pub calculated_does : (last : ℕ) (e : Evaluated Stored) (go : Bool → State → Outcome)
         → WorksFrom whole address cs s count (step.step_with e (λ after. step.Went (record (scratch_of s cs) { storage = after.storage; truth = after.size_error })))
-        → ((after : Stored) → Does whole from to next (record cs { truth = after.size_error }) (record s { storage = after.storage }) last (go after.size_error (record s { storage = after.storage })))
-        → Does whole from to address cs s last (with_value e s (λ after. go after.size_error (record s { storage = after.storage })))
+        → ((after : Stored) → Does whole kept from to next (record cs { truth = after.size_error }) (record s { storage = after.storage }) last (go after.size_error (record s { storage = after.storage })))
+        → Does whole kept from to address cs s last (with_value e s (λ after. go after.size_error (record s { storage = after.storage })))
     calculated_does last (Ok stored) go h goes_on =
         let ds = record cs { truth = stored.size_error } in
         let t : State = record s { storage = stored.storage } in
-        after whole from to address next last cs ds s t (go stored.size_error t) (record { count = refl; by = λ k outside. refl; line = λ e. e })
+        after whole kept from to address next last cs ds s t (go stored.size_error t) (record { count = refl; by = λ k is outside. refl; line = λ e. e; returns = refl })
         (record { by = λ k. (count + k, h k ∙ ap (λ n. exec_code whole k (at n ds t)) behind_is); falls = omega arith }) (goes_on stored)
     calculated_does last (Err fault) go h goes_on = h
 
@@ -87,7 +87,7 @@ module _ (whole : Code) where
         → go_on made taking ≡ step.step_with e (λ after. step.Went (record (scratch_of s cs) { storage = after }))
         → ((t : Scratch) (k : ℕ) → exec_code whole (suc k) (at next (own_with t cs) (state_with t s)) ≡ data_from (taking t) (exec_code whole k) (at next (own_with t cs) (record (state_with t s) { lines = lines })))
         → ((t : Scratch) (fault : Fault) → taking t ≡ step.Faulted fault → lines ≡ s.lines)
-        → Does whole from to address cs s (next + 1) (with_value e s (λ after. Done (record s { storage = after; lines = lines })))
+        → Does whole kept from to address cs s (next + 1) (with_value e s (λ after. Done (record s { storage = after; lines = lines })))
     taken_does lines taking (step.Went t) (Ok after) h is one_more none = (
       cs,
       record {
@@ -98,7 +98,7 @@ module _ (whole : Code) where
         );
         falls = omega arith;
       },
-      keeps_all from to cs,
+      keeps_all kept from to cs,
     )
     taken_does lines taking (step.Went t) (Err fault) h is one_more none = (
       count + 1,

@@ -1,12 +1,14 @@
--- A program's code is verified, where the rules are kept.
+-- The code of a program names what is there, and its ways lead where they may, where the rules are kept.
 use Rattle.std.proofs.Common.{◌≡◌, ℕ, zero, suc, ◌+◌, List, [], ◌∷◌, ◌++◌, length, Option, Some, None, refl, sym, ap, ◌∙◌, subst, inr, arith, append_assoc, length-append}
-use Rattle.std.specs.Prelude.{false, slice_get}
+use Rattle.std.specs.Prelude.{Bool, false, slice_get}
+use Rattle.std.specs.List.{AllByRecursion}
+use Rattle.lexical.specs.declared.place.Place.{Place}
 use Rattle.source_tree.specs.declared.branching.Branching.{Branching}
 use Rattle.source_tree.specs.declared.branching.Branching.TheVariants.{If}
 use Rattle.source_tree.specs.declared.ending.Ending.TheVariants as ending
 use Rattle.source_tree.specs.declared.moving.Moving.TheVariants.{Move}
 use Rattle.source_tree.specs.declared.performing.Performed.{Performed}
-use Rattle.source_tree.specs.declared.performing.Performed.TheVariants.{Statements}
+use Rattle.source_tree.specs.declared.performing.Performed.TheVariants.{Procedures, Statements}
 use Rattle.source_tree.specs.declared.performing.Turns.{Turns}
 use Rattle.source_tree.specs.declared.performing.Turns.TheVariants.{Once, Times, Until}
 use Rattle.source_tree.specs.declared.until.TestTime.{TestTime}
@@ -18,257 +20,421 @@ use Rattle.source_tree.specs.declared.statement.Verb.TheVariants as verb
 use Rattle.source_tree.specs.declared.statement.Statement.{Statement, roll-Statement}
 use Rattle.source_tree.specs.declared.statement.Statement.TheOpen.{Statement-F}
 use Rattle.source_tree.specs.declared.statement.Statement.TheFolds.{map-Statement, ind-Statement}
-use Rattle.source_tree.specs.declared.program.Section.{Section}
+use Rattle.source_tree.specs.declared.program.Sentence.{Sentence}
 use Rattle.source_tree.specs.Arithmetic.{is_there}
 use Rattle.source_tree.specs.ArithmeticRules.{number_rules, operation_rules}
 use Rattle.source_tree.specs.Broken.{Broken, each}
 use Rattle.source_tree.specs.ConditionRules.{condition_rules, varying_rules, until_rules}
 use Rattle.source_tree.specs.MoveRules.{move_rules}
 use Rattle.source_tree.specs.Performing.{turns_of}
+use Rattle.source_tree.specs.Procedures.{Range, range_of}
+use Rattle.source_tree.specs.Recursion.{Performance, each_performs, phrase_performs, range_performs, performed_performs, branching_performs, verb_performs, statement_performs, sentence_performs}
+use Rattle.source_tree.specs.Setting.{Scope}
 use Rattle.source_tree.specs.Places.{Placed}
 use Rattle.source_tree.specs.Until.{vary_operation}
-use Rattle.source_tree.specs.Rules.{phrase_rules, phrases_rules, performed_rules, turns_rules, branching_rules, verb_rules, statement_rules, sentence_rules, paragraph_rules, section_rules}
+use Rattle.source_tree.specs.Rules.{phrase_rules, phrases_rules, performed_rules, turns_rules, branching_rules, verb_rules, statement_rules, sentence_rules}
 use Rattle.data_instructions.specs.declared.instruction.DataInstruction.TheVariants as i
 use Rattle.code_image.specs.declared.code.Code.{Code}
 use Rattle.code_image.specs.declared.instruction.Instruction.{Instruction}
-use Rattle.code_image.specs.declared.instruction.Instruction.TheVariants.{Tick, Stop, Count, Turn, Branch}
-use Rattle.code_image.specs.Demands.{IsTick}
+use Rattle.code_image.specs.declared.instruction.Instruction.TheVariants.{Tick, Stop, Count, Turn, Branch, Perform}
+use Rattle.code_image.specs.Demands.{UsesBudget, ends_in}
+use Rattle.check_rules.proofs.RuleLayers.{mapped_rules}
+use Rattle.check_rules.proofs.PerformLayers.{mapped_performs}
 use Rattle.codegen.specs.Pieces.{Piece, joined, both, in_order}
 use Rattle.codegen.specs.Meeting.{branch_code, either_piece, nothing_piece}
 use Rattle.codegen.specs.DataCode.{work_piece}
 use Rattle.codegen.specs.ArithmeticCode.{arithmetic_piece}
 use Rattle.codegen.specs.ConditionCode.{condition_piece}
 use Rattle.codegen.specs.UntilCode.{tick_piece, turning_piece, until_before_piece, until_after_piece, until_from_piece, vary_begin_piece, vary_on_piece, until_piece}
-use Rattle.codegen.specs.Layout.{loop_begin, loop_end, times_piece, turns_piece, moving_piece, texts_piece, performed_piece, phrase_piece, phrases_from, phrases_piece, branching_piece, verb_piece, statement_piece, sentence_piece, start_piece, paragraph_piece, section_piece, end_piece}
+use Rattle.codegen.specs.Layout.{loop_begin, loop_end, times_piece, range_piece, turn_piece, turns_piece, moving_piece, texts_piece, phrase_piece, phrases_from, phrases_piece, branching_piece, stop_run_piece, verb_piece, statement_piece, sentence_piece}
 use Rattle.codegen.proofs.Codes.{left_none, right_none}
 use Rattle.codegen.proofs.Layers.{verb_map, rolled_is}
-use Rattle.codegen.proofs.RuleLayers.{mapped_rules}
 use Rattle.codegen.proofs.Standing.{at_seam}
 use Rattle.codegen.proofs.Blind.{Blind, in_order_blind}
 use Rattle.codegen.proofs.ConditionBlind.{nothing_blind, condition_blind}
 use Rattle.codegen.proofs.UntilBlind.{turn_before_blind, onward_blind, vary_on_blind}
-use Rattle.codegen.proofs.BlindStatements.{performed_blind, phrase_blind, statement_blind}
-use Rattle.codegen.proofs.Straight.{work_straight, moving_straight, texts_straight}
+use Rattle.codegen.proofs.BlindStatements.{turn_blind, phrase_blind, statement_blind}
+use Rattle.codegen.proofs.Straight.{AlwaysStraight, work_straight, moving_straight, texts_straight}
 use Rattle.codegen.proofs.ArithmeticStraight.{arithmetic_straight}
-use Rattle.codegen.proofs.Leading.{plain_names, Meets, both_meet, nothing_meets, straight_meets, AllMeet, in_order_meets, either_meets}
+use Rattle.codegen.proofs.Leading.{none_end, stays_within, plain_names, Meets, both_meet, nothing_meets, straight_meets, either_meets}
+use Rattle.codegen.proofs.Ranges.{IsWithin, EndsWithin, FoundWithin, range_within}
 use Rattle.codegen.proofs.ConditionValues.{AreFormed}
 use Rattle.codegen.proofs.ConditionMeets.{condition_meets}
 
+-- ---- what begins with what uses one of the budget
+
+pub record BeginsWith (part : Code) : Type 0 where
+  pub one : Instruction
+  pub more : List Instruction
+  pub is : part.instructions ≡ one ∷ more
+  pub budget : UsesBudget (Some one)
+
 -- a piece, behind whatever code
-abbrev AlwaysMeets : Piece → Type 0
-AlwaysMeets piece = (before : Code) → Meets before (piece before)
+abbrev pub Begins : Piece → Type 0
+Begins piece = (before : Code) → BeginsWith (piece before)
 
-pieces_meet : (first second : Piece) → AlwaysMeets first → AlwaysMeets second → AlwaysMeets (both first second)
-pieces_meet first second f s before = both_meet before (first before) (second (joined before (first before))) (f before) (s (joined before (first before)))
+tick_begins : (line : ℕ) → Begins (tick_piece line)
+tick_begins line before = record { one = Tick line; more = []; is = refl; budget = tt }
 
--- ---- turns
+range_begins : (line : ℕ) (range : Option Range) → Begins (range_piece line range)
+range_begins line None before = record { one = Tick line; more = []; is = refl; budget = tt }
+range_begins line (Some range) before =
+    record { one = Perform line (record { number = range.first }) (record { number = range.last }); more = []; is = refl; budget = tt }
 
-begin_meets : (line more : ℕ) (before : Code) → Meets before (loop_begin line more before)
-begin_meets line more before = record { names = plain_names before (loop_begin line more before).instructions (omega arith, (tt, tt)); leads = (tt, (tt, tt)) }
+turn_begins : (scope : Scope) {S : Type 0} (inside : S → Piece) (line : ℕ) (one : Performed S) → Begins (turn_piece scope inside line one)
+turn_begins scope inside line (Procedures first last) before = range_begins line (range_of scope.procedures first last) before
+turn_begins scope inside line (Statements statements) before =
+    record { one = Tick line; more = (in_order inside statements (joined before (tick_piece line before))).instructions; is = refl; budget = tt }
 
--- The end of a turn leads back to the tick at the second address of its loop, whatever stands between.
-end_meets : (line more : ℕ) (before body : Code) → Meets (joined (joined before (loop_begin line more before)) body) (loop_end (length before.instructions))
-end_meets line more before body =
-    let begin = length before.instructions in
-    let count = Count (record { number = begin }) more in
-    let all = joined (joined before (loop_begin line more before)) body in
-    let last : List Instruction = Turn (record { number = begin }) (begin + 1) ∷ [] in
-    let front = before.instructions ++ count ∷ [] in
-    let n = length-append (before.instructions ++ count ∷ Tick line ∷ []) body.instructions in
-    let m = length-append before.instructions (count ∷ Tick line ∷ []) in
-    let second : length front ≡ begin + 1 = length-append before.instructions (count ∷ []) in
-    let two : length (count ∷ Tick line ∷ []) ≡ 2 = refl in
-    let same : all.instructions ++ last ≡ front ++ Tick line ∷ (body.instructions ++ last) =
-    append_assoc (before.instructions ++ count ∷ Tick line ∷ []) body.instructions last
-    ∙ append_assoc before.instructions (count ∷ Tick line ∷ []) (body.instructions ++ last)
-    ∙ sym (append_assoc before.instructions (count ∷ []) (Tick line ∷ (body.instructions ++ last))) in
-    let here : slice_get (all.instructions ++ last) (begin + 1) ≡ Some (Tick line) =
-    ap (slice_get (all.instructions ++ last)) (sym second) ∙ ap (λ (l : List Instruction). slice_get l (length front)) same ∙ at_seam front (Tick line) (body.instructions ++ last) in
-    record {
-      names = plain_names all last (omega (arith, n, m, two), tt);
-      leads = ((omega (arith, n, m, two), subst IsTick (sym here) tt), tt);
-    }
+-- ---- lists of which each element is so
 
-times_meets : (line count : ℕ) (body : Piece) → AlwaysMeets body → AlwaysMeets (times_piece line count body)
-times_meets line zero body met before = nothing_meets before
-times_meets line (suc more) body met before =
-    let begin = loop_begin line more before in
-    let part = body (joined before begin) in
-    let last = loop_end (length before.instructions) in
-    both_meet before begin (joined part last) (begin_meets line more before) (both_meet (joined before begin) part last (met (joined before begin)) (end_meets line more before part))
+abbrev pub Asked : (Range → Type 0) → List Performance → Type 0
+Asked asked = AllByRecursion (λ (one : Performance). asked one.range)
 
-tick_meets : (line : ℕ) (before : Code) → Meets before (tick_piece line before)
-tick_meets line before = record { names = plain_names before (Tick line ∷ []) (tt, tt); leads = (tt, tt) }
+pub all_front : {X : Type 0} (P : X → Type 0) (xs ys : List X) → AllByRecursion P (xs ++ ys) → AllByRecursion P xs
+all_front P [] ys h = tt
+all_front P (x ∷ xs) ys h = (h.0, all_front P xs ys h.1)
 
--- ---- turns up to where a condition is true
+pub all_back : {X : Type 0} (P : X → Type 0) (xs ys : List X) → AllByRecursion P (xs ++ ys) → AllByRecursion P ys
+all_back P [] ys h = h
+all_back P (x ∷ xs) ys h = all_back P xs ys h.1
 
--- The branch at the end of a turn leads back to the tick that the turn begins with, whatever stands between.
-back_meets : (line : ℕ) (before turn : Code) → Meets (joined before (joined (tick_piece line before) turn)) (branch_code (length before.instructions))
-back_meets line before turn =
-    let begin = length before.instructions in
-    let all = joined before (joined (tick_piece line before) turn) in
-    let last : List Instruction = Branch begin ∷ [] in
-    let n = length-append before.instructions (Tick line ∷ turn.instructions) in
-    let one : length (Tick line ∷ turn.instructions) ≡ 1 + length turn.instructions = omega arith in
-    let same : all.instructions ++ last ≡ before.instructions ++ Tick line ∷ (turn.instructions ++ last) = append_assoc before.instructions (Tick line ∷ turn.instructions) last in
-    let here : slice_get (all.instructions ++ last) begin ≡ Some (Tick line) =
-    ap (λ (l : List Instruction). slice_get l begin) same ∙ at_seam before.instructions (Tick line) (turn.instructions ++ last) in
-    record {
-      names = plain_names all last (tt, tt);
-      leads = (inr (omega (arith, n, one), subst IsTick (sym here) tt), tt);
-    }
+-- A range that is performed lies in so many paragraphs, and is so.
+pub record IsPerformed (count : ℕ) (wanted : Range → Type 0) (range : Range) : Type 0 where
+  pub within : IsWithin count range
+  pub asked : wanted range
 
-turning_meets : (line : ℕ) (turn : Piece) → AlwaysMeets turn → AlwaysMeets (turning_piece line turn)
-turning_meets line turn met before =
-    let tick = tick_piece line before in
-    let part = turn (joined before tick) in
-    both_meet before (joined tick part) (branch_code (length before.instructions)) (both_meet before tick part (tick_meets line before) (met (joined before tick))) (back_meets line before part)
+module _ (Q : Range → Type 0) where
+  -- a piece, behind whatever code
+  abbrev AlwaysMeets : Piece → Type 0
+  AlwaysMeets piece = (before : Code) → Meets Q before (piece before)
 
-module _ (line : ℕ) (test onward body : Piece) (f : Blind test) (g : Blind onward) (h : Blind body) (tests : AlwaysMeets test) (goes : AlwaysMeets onward) (met : AlwaysMeets body) where
-  until_before_meets : AlwaysMeets (until_before_piece line test onward body)
-  until_before_meets =
-      let turn = both body (both onward test) in
-      pieces_meet test (either_piece nothing_piece (turning_piece line turn)) tests
-      (either_meets nothing_piece (turning_piece line turn) nothing_blind (turn_before_blind line test onward body f g h) nothing_meets
-      (turning_meets line turn (pieces_meet body (both onward test) met (pieces_meet onward test goes tests))))
+  pieces_meet : (first second : Piece) → AlwaysMeets first → AlwaysMeets second → AlwaysMeets (both first second)
+  pieces_meet first second f s before =
+      both_meet Q before (first before) (second (joined before (first before))) (f before) (s (joined before (first before)))
 
-  until_after_meets : AlwaysMeets (until_after_piece line test onward body)
-  until_after_meets =
-      let clear = work_piece i.ClearTruth in
-      let ways = either_piece nothing_piece (both onward clear) in
-      turning_meets line (both body (both test ways))
-      (pieces_meet body (both test ways) met
-      (pieces_meet test ways tests
-      (either_meets nothing_piece (both onward clear) nothing_blind (onward_blind line test onward body f g h) nothing_meets
-      (pieces_meet onward clear goes (λ before. straight_meets before (clear before) (work_straight i.ClearTruth before))))))
+  tick_meets : (line : ℕ) → AlwaysMeets (tick_piece line)
+  tick_meets line before =
+      record { names = plain_names before (Tick line ∷ []) (tt, tt); leads = (tt, tt); starts = refl; none = refl; performs = (tt, tt) }
 
-  until_from_meets : (when : TestTime) → AlwaysMeets (until_from_piece when line test onward body)
-  until_from_meets Before = until_before_meets
-  until_from_meets After = until_after_meets
+  stop_meets : (line : ℕ) → AlwaysMeets (stop_run_piece line)
+  stop_meets line before = record {
+    names = plain_names before (Tick line ∷ Stop ∷ []) (tt, (tt, tt));
+    leads = (tt, (tt, tt));
+    starts = refl;
+    none = refl;
+    performs = (tt, (tt, tt));
+  }
 
--- `formed`: the literals of condition names have their form.
-module _ (items : List Placed) (formed : AreFormed items) where
-  vary_begin_meets : (one : Option Varying) → varying_rules items one ≡ [] → AlwaysMeets (vary_begin_piece items one)
-  vary_begin_meets None e before = nothing_meets before
-  vary_begin_meets (Some one) e before =
-      let moves = move_rules items one.from (one.item ∷ []) in
-      let numbers = number_rules items one.from in
-      let moving = left_none moves numbers (left_none (moves ++ numbers) (operation_rules items (vary_operation one)) e) in
-      straight_meets before (vary_begin_piece items (Some one) before) (moving_straight items (Move one.from (one.item ∷ [])) moving before)
+  -- ---- turns
 
-  vary_on_meets : (one : Option Varying) → AlwaysMeets (vary_on_piece items one)
-  vary_on_meets None before = nothing_meets before
-  vary_on_meets (Some one) before = straight_meets before (vary_on_piece items (Some one) before) (arithmetic_straight items false (vary_operation one) before)
+  begin_meets : (more : ℕ) → AlwaysMeets (loop_begin more)
+  begin_meets more before = record {
+    names = plain_names before (loop_begin more before).instructions (omega arith, tt);
+    leads = (tt, tt);
+    starts = refl;
+    none = refl;
+    performs = (tt, tt);
+  }
 
-  until_meets : (line : ℕ) (one : until.Until) (body : Piece) → Blind body → until_rules items one ≡ [] → AlwaysMeets body → AlwaysMeets (until_piece items line one body)
-  until_meets line one body blind e met =
-      let test = condition_piece items one.condition in
-      let onward = vary_on_piece items one.varying in
-      let begins = left_none (varying_rules items one.varying) (condition_rules items one.condition) e in
-      let tests = right_none (varying_rules items one.varying) (condition_rules items one.condition) e in
-      pieces_meet (vary_begin_piece items one.varying) (until_from_piece one.test line test onward body) (vary_begin_meets one.varying begins)
-      (until_from_meets line test onward body (condition_blind items one.condition) (vary_on_blind items one.varying) blind (condition_meets items formed one.condition tests) (vary_on_meets one.varying) met one.test)
+  -- The end of a turn leads back to what the turn begins with, behind the begin of its loop.
+  end_meets : (before begin part : Code) (count : Instruction) → begin.instructions ≡ count ∷ [] → BeginsWith part → ends_in part.instructions ≡ 0
+      → Meets Q (joined (joined before begin) part) (loop_end (length before.instructions))
+  end_meets before begin part count begin_is b none =
+      let to : ℕ = length before.instructions + 1 in
+      let front = before.instructions ++ begin.instructions in
+      let turn = part.instructions in
+      let all = front ++ turn in
+      let last : List Instruction = Turn (record { number = length before.instructions }) to ∷ [] in
+      let n1 = length-append before.instructions begin.instructions in
+      let n2 : length begin.instructions ≡ 1 = ap length begin_is in
+      let second : length front ≡ to = omega (arith, n1, n2) in
+      let n3 = length-append front turn in
+      let n4 : length turn ≡ length (b.one ∷ b.more) = ap length b.is in
+      let n5 : length (b.one ∷ b.more) ≡ 1 + length b.more = omega arith in
+      let whole = all ++ last in
+      let same : whole ≡ front ++ b.one ∷ (b.more ++ last) = append_assoc front turn last
+      ∙ ap (λ (l : List Instruction). front ++ (l ++ last)) b.is in
+      let here : slice_get whole to ≡ Some b.one =
+      ap (slice_get whole) (sym second) ∙ ap (λ (l : List Instruction). slice_get l (length front)) same ∙ at_seam front b.one (b.more ++ last) in
+      record {
+        names = plain_names (joined (joined before begin) part) last (omega (arith, second, n3, n4, n5), tt);
+        leads = (
+          record {
+            before = omega (arith, second, n3, n4, n5);
+            budget = subst UsesBudget (sym here) b.budget;
+            stays = stays_within whole front (turn ++ last) (length all) to (append_assoc front turn last) (none_end turn last none refl)
+                (omega (arith, n3)) (omega (arith, second));
+          },
+          tt,
+        );
+        starts = refl;
+        none = refl;
+        performs = (tt, tt);
+      }
 
-  turns_meet : (line : ℕ) (often : Turns) (body : Piece) → Blind body → turns_rules items often ≡ [] → AlwaysMeets body → AlwaysMeets (turns_piece items line often body)
-  turns_meet line Once body blind e met = met
-  turns_meet line (Times count) body blind e met = times_meets line (turns_of count) body met
-  turns_meet line (Until one) body blind e met = until_meets line one body blind e met
+  times_meets : (count : ℕ) (turn : Piece) → Begins turn → AlwaysMeets turn → AlwaysMeets (times_piece count turn)
+  times_meets zero turn begins met before = nothing_meets Q before
+  times_meets (suc more) turn begins met before =
+      let begin = loop_begin more before in
+      let here = joined before begin in
+      let part = turn here in
+      let last = loop_end (length before.instructions) in
+      both_meet Q before begin (joined part last) (begin_meets more before)
+      (both_meet Q here part last (met here)
+      (end_meets before begin part (Count (record { number = length before.instructions }) more) refl (begins here) (met here).none))
 
-  -- ---- statements
+  -- ---- turns up to where a condition is true
 
-  module _ {S : Type 0} (rules : S → List Broken) (inside : S → Piece) (each_one : AllMeet rules inside) (blind : (one : S) → Blind (inside one)) where
-    performed_meets : (one : Performed S) → performed_rules rules one ≡ [] → AlwaysMeets (performed_piece items inside one)
-    performed_meets (Statements statements) e before = in_order_meets rules inside each_one statements before e
+  -- The branch at the end of a turn leads back to what the turn begins with.
+  back_meets : (before turn behind : Code) → BeginsWith turn → ends_in (turn.instructions ++ behind.instructions) ≡ 0
+      → Meets Q (joined before (joined turn behind)) (branch_code (length before.instructions))
+  back_meets before turn behind b none =
+      let begin = length before.instructions in
+      let part = turn.instructions ++ behind.instructions in
+      let all = before.instructions ++ part in
+      let last : List Instruction = Branch begin ∷ [] in
+      let whole = all ++ last in
+      let n1 = length-append before.instructions part in
+      let n2 = length-append turn.instructions behind.instructions in
+      let n3 : length turn.instructions ≡ length (b.one ∷ b.more) = ap length b.is in
+      let n4 : length (b.one ∷ b.more) ≡ 1 + length b.more = omega arith in
+      let is : whole ≡ before.instructions ++ (part ++ last) = append_assoc before.instructions part last in
+      let same : whole ≡ before.instructions ++ b.one ∷ ((b.more ++ behind.instructions) ++ last) =
+      is ∙ ap (λ (l : List Instruction). before.instructions ++ ((l ++ behind.instructions) ++ last)) b.is in
+      let here : slice_get whole begin ≡ Some b.one =
+      ap (λ (l : List Instruction). slice_get l begin) same ∙ at_seam before.instructions b.one ((b.more ++ behind.instructions) ++ last) in
+      record {
+        names = plain_names (joined before (joined turn behind)) last (tt, tt);
+        leads = (
+          inr (record {
+            before = omega (arith, n1, n2, n3, n4);
+            budget = subst UsesBudget (sym here) b.budget;
+            stays = stays_within whole before.instructions (part ++ last) (length all) begin is (none_end part last none refl) (omega (arith, n1))
+                (omega arith);
+          }),
+          tt,
+        );
+        starts = refl;
+        none = refl;
+        performs = (tt, tt);
+      }
 
-    phrase_meets : (phrase : Option (List S)) → phrase_rules rules phrase ≡ [] → AlwaysMeets (phrase_piece items inside phrase)
-    phrase_meets None e before = nothing_meets before
-    phrase_meets (Some statements) e before = in_order_meets rules inside each_one statements before e
+  turning_meets : (turn behind : Piece) → Begins turn → AlwaysMeets turn → AlwaysMeets behind → AlwaysMeets (turning_piece turn behind)
+  turning_meets turn behind begins met behind_met before =
+      let part = turn before in
+      let rest = behind (joined before part) in
+      let inner = both_meet Q before part rest (met before) (behind_met (joined before part)) in
+      both_meet Q before (joined part rest) (branch_code (length before.instructions)) inner (back_meets before part rest (begins before) inner.none)
 
-    phrases_meet : (arose did_not : Option (List S)) → phrase_rules rules arose ++ phrase_rules rules did_not ≡ [] → AlwaysMeets (phrases_from items inside arose did_not)
-    phrases_meet None None e before = nothing_meets before
-    phrases_meet (Some statements) other e before =
-        either_meets (phrase_piece items inside (Some statements)) (phrase_piece items inside other) (phrase_blind items inside blind (Some statements)) (phrase_blind items inside blind other)
-        (phrase_meets (Some statements) (left_none (each rules statements) (phrase_rules rules other) e)) (phrase_meets other (right_none (each rules statements) (phrase_rules rules other) e)) before
-    phrases_meet None (Some statements) e before =
-        either_meets (phrase_piece items inside None) (phrase_piece items inside (Some statements)) (phrase_blind items inside blind None) (phrase_blind items inside blind (Some statements))
-        (phrase_meets None refl) (phrase_meets (Some statements) e) before
+  module _ (test onward turn : Piece) (f : Blind test) (g : Blind onward) (h : Blind turn)
+      (tests : AlwaysMeets test) (goes : AlwaysMeets onward) (begins : Begins turn) (met : AlwaysMeets turn) where
+    until_before_meets : AlwaysMeets (until_before_piece test onward turn)
+    until_before_meets =
+        let behind = both onward test in
+        pieces_meet test (either_piece nothing_piece (turning_piece turn behind)) tests
+        (either_meets Q nothing_piece (turning_piece turn behind) nothing_blind (turn_before_blind test onward turn f g h) (nothing_meets Q)
+        (turning_meets turn behind begins met (pieces_meet onward test goes tests)))
 
-    branching_meets : (line : ℕ) (one : Branching S) → branching_rules items rules one ≡ [] → AlwaysMeets (branching_piece items inside line one)
-    branching_meets line (If condition statements otherwise) e =
+    until_after_meets : AlwaysMeets (until_after_piece test onward turn)
+    until_after_meets =
+        let clear = work_piece i.ClearTruth in
+        let ways = either_piece nothing_piece (both onward clear) in
+        turning_meets turn (both test ways) begins met
+        (pieces_meet test ways tests
+        (either_meets Q nothing_piece (both onward clear) nothing_blind (onward_blind test onward turn f g h) (nothing_meets Q)
+        (pieces_meet onward clear goes (λ before. straight_meets Q before (clear before) (work_straight i.ClearTruth before)))))
+
+    until_from_meets : (when : TestTime) → AlwaysMeets (until_from_piece when test onward turn)
+    until_from_meets Before = until_before_meets
+    until_from_meets After = until_after_meets
+
+  -- `formed`: the literals of condition names have their form.
+  module _ (items : List Placed) (formed : AreFormed items) where
+    vary_begin_meets : (one : Option Varying) → varying_rules items one ≡ [] → AlwaysMeets (vary_begin_piece items one)
+    vary_begin_meets None e before = nothing_meets Q before
+    vary_begin_meets (Some one) e before =
+        let moves = move_rules items one.from (one.item ∷ []) in
+        let numbers = number_rules items one.from in
+        let moving = left_none moves numbers (left_none (moves ++ numbers) (operation_rules items (vary_operation one)) e) in
+        straight_meets Q before (vary_begin_piece items (Some one) before) (moving_straight items (Move one.from (one.item ∷ [])) moving before)
+
+    vary_on_meets : (one : Option Varying) → AlwaysMeets (vary_on_piece items one)
+    vary_on_meets None before = nothing_meets Q before
+    vary_on_meets (Some one) before =
+        straight_meets Q before (vary_on_piece items (Some one) before) (arithmetic_straight items false (vary_operation one) before)
+
+    until_meets : (one : until.Until) (turn : Piece) → Blind turn → until_rules items one ≡ [] → Begins turn → AlwaysMeets turn
+        → AlwaysMeets (until_piece items one turn)
+    until_meets one turn blind e begins met =
+        let test = condition_piece items one.condition in
+        let onward = vary_on_piece items one.varying in
+        let varies = left_none (varying_rules items one.varying) (condition_rules items one.condition) e in
+        let tests = right_none (varying_rules items one.varying) (condition_rules items one.condition) e in
+        pieces_meet (vary_begin_piece items one.varying) (until_from_piece one.test test onward turn) (vary_begin_meets one.varying varies)
+        (until_from_meets test onward turn (condition_blind items one.condition) (vary_on_blind items one.varying) blind
+        (condition_meets Q items formed one.condition tests) (vary_on_meets one.varying) begins met one.test)
+
+    turns_meet : (line : ℕ) (often : Turns) (turn : Piece) → Blind turn → turns_rules items often ≡ [] → Begins turn → AlwaysMeets turn
+        → AlwaysMeets (turns_piece items line often turn)
+    turns_meet line Once turn blind e begins met = met
+    turns_meet line (Times count) turn blind e begins met =
+        pieces_meet (tick_piece line) (times_piece (turns_of count) turn) (tick_meets line) (times_meets (turns_of count) turn begins met)
+    turns_meet line (Until one) turn blind e begins met =
+        pieces_meet (tick_piece line) (until_piece items one turn) (tick_meets line) (until_meets one turn blind e begins met)
+
+-- ---- statements
+
+-- `permits` and `asked` are what is asked of a range that is performed; procedures lie in so many paragraphs.
+module _ (scope : Scope) (permits : Range → Bool) (formed : AreFormed scope.items) (count : ℕ)
+    (within : AllByRecursion (EndsWithin count) scope.procedures) (asked : Range → Type 0) where
+  abbrev items : List Placed
+  items = scope.items
+
+  abbrev Q : Range → Type 0
+  Q = IsPerformed count asked
+
+  -- parts that keep rules and perform such ranges
+  pub record AllMeet {A : Type 0} (rules : A → List Broken) (performs : A → List Performance) (piece : A → Piece) : Type 0 where
+    pub by : (one : A) (before : Code) → rules one ≡ [] → Asked asked (performs one) → Meets Q before (piece one before)
+
+  pub in_order_meets : {A : Type 0} (rules : A → List Broken) (performs : A → List Performance) (piece : A → Piece) → AllMeet rules performs piece
+      → (all : List A) → each rules all ≡ []
+      → Asked asked (each_performs performs all) → AlwaysMeets Q (in_order piece all)
+  in_order_meets rules performs piece f [] e q before = nothing_meets Q before
+  in_order_meets rules performs piece f (one ∷ more) e q before =
+      both_meet Q before (piece one before) (in_order piece more (joined before (piece one before)))
+      (f.by one before (left_none (rules one) (each rules more) e)
+      (all_front (λ (p : Performance). asked p.range) (performs one) (each_performs performs more) q))
+      (in_order_meets rules performs piece f more (right_none (rules one) (each rules more) e)
+      (all_back (λ (p : Performance). asked p.range) (performs one) (each_performs performs more) q)
+      (joined before (piece one before)))
+
+  range_meets : (line : ℕ) (place : Place) (range : Option Range) → FoundWithin count range → Asked asked (range_performs place range)
+      → AlwaysMeets Q (range_piece line range)
+  range_meets line place None within q before = tick_meets Q line before
+  range_meets line place (Some range) within q before = record {
+    names = plain_names before (range_piece line (Some range) before).instructions (tt, tt);
+    leads = (tt, tt);
+    starts = refl;
+    none = refl;
+    performs = (record { within = within; asked = q.0 }, tt);
+  }
+
+  module _ {S : Type 0} (rules : S → List Broken) (performs : S → List Performance) (inside : S → Piece)
+      (each_one : AllMeet rules performs inside) (blind : (one : S) → Blind (inside one)) where
+    turn_meets : (line : ℕ) (one : Performed S) → performed_rules scope.procedures permits rules one ≡ []
+        → Asked asked (performed_performs scope.procedures performs one) → AlwaysMeets Q (turn_piece scope inside line one)
+    turn_meets line (Procedures first last) e q =
+        range_meets line first.place (range_of scope.procedures first last) (range_within count scope.procedures within permits first last e) q
+    turn_meets line (Statements statements) e q =
+        pieces_meet Q (tick_piece line) (in_order inside statements) (tick_meets Q line)
+        (in_order_meets rules performs inside each_one statements e q)
+
+    phrase_meets : (phrase : Option (List S)) → phrase_rules rules phrase ≡ [] → Asked asked (phrase_performs performs phrase)
+        → AlwaysMeets Q (phrase_piece scope inside phrase)
+    phrase_meets None e q before = nothing_meets Q before
+    phrase_meets (Some statements) e q before = in_order_meets rules performs inside each_one statements e q before
+
+    -- either of two phrases
+    two_meet : (arose did_not : Option (List S)) → phrase_rules rules arose ++ phrase_rules rules did_not ≡ []
+        → Asked asked (phrase_performs performs arose ++ phrase_performs performs did_not)
+        → AlwaysMeets Q (either_piece (phrase_piece scope inside arose) (phrase_piece scope inside did_not))
+    two_meet arose did_not e q =
+        let P = λ (p : Performance). asked p.range in
+        either_meets Q (phrase_piece scope inside arose) (phrase_piece scope inside did_not) (phrase_blind scope inside blind arose)
+        (phrase_blind scope inside blind did_not)
+        (phrase_meets arose (left_none (phrase_rules rules arose) (phrase_rules rules did_not) e)
+        (all_front P (phrase_performs performs arose) (phrase_performs performs did_not) q))
+        (phrase_meets did_not (right_none (phrase_rules rules arose) (phrase_rules rules did_not) e)
+        (all_back P (phrase_performs performs arose) (phrase_performs performs did_not) q))
+
+    phrases_meet : (arose did_not : Option (List S)) → phrase_rules rules arose ++ phrase_rules rules did_not ≡ []
+        → Asked asked (phrase_performs performs arose ++ phrase_performs performs did_not)
+        → AlwaysMeets Q (phrases_from scope inside arose did_not)
+    phrases_meet None None e q before = nothing_meets Q before
+    phrases_meet (Some statements) other e q before = two_meet (Some statements) other e q before
+    phrases_meet None (Some statements) e q before = two_meet None (Some statements) e q before
+
+    branching_meets : (line : ℕ) (one : Branching S) → branching_rules items rules one ≡ [] → Asked asked (branching_performs performs one)
+        → AlwaysMeets Q (branching_piece scope inside line one)
+    branching_meets line (If condition statements otherwise) e q =
+        let P = λ (p : Performance). asked p.range in
         let test = condition_piece items condition in
         let first = in_order inside statements in
-        let second = phrase_piece items inside otherwise in
+        let second = phrase_piece scope inside otherwise in
         let asks = condition_rules items condition in
         let front = left_none (asks ++ each rules statements) (phrase_rules rules otherwise) e in
         let back = right_none (asks ++ each rules statements) (phrase_rules rules otherwise) e in
-        pieces_meet (tick_piece line) (both test (either_piece first second)) (tick_meets line)
-        (pieces_meet test (either_piece first second) (condition_meets items formed condition (left_none asks (each rules statements) front))
-        (either_meets first second (in_order_blind inside blind statements) (phrase_blind items inside blind otherwise)
-        (λ now. in_order_meets rules inside each_one statements now (right_none asks (each rules statements) front))
-        (phrase_meets otherwise back)))
+        pieces_meet Q (tick_piece line) (both test (either_piece first second)) (tick_meets Q line)
+        (pieces_meet Q test (either_piece first second) (condition_meets Q items formed condition (left_none asks (each rules statements) front))
+        (either_meets Q first second (in_order_blind inside blind statements) (phrase_blind scope inside blind otherwise)
+        (in_order_meets rules performs inside each_one statements (right_none asks (each rules statements) front)
+        (all_front P (each_performs performs statements) (phrase_performs performs otherwise) q))
+        (phrase_meets otherwise back (all_back P (each_performs performs statements) (phrase_performs performs otherwise) q))))
 
-    verb_meets : (line : ℕ) (one : Verb S) (before : Code) → verb_rules items rules one ≡ [] → Meets before (verb_piece items inside line one before)
-    verb_meets line (verb.Moving one) before e =
-        let tick = tick_piece line before in
-        both_meet before tick (moving_piece items one (joined before tick)) (tick_meets line before)
-        (straight_meets (joined before tick) (moving_piece items one (joined before tick)) (moving_straight items one e (joined before tick)))
-    verb_meets line (verb.Arithmetic one) before e =
-        let tick = tick_piece line before in
+    -- straight code behind what uses one of the budget
+    ticked : (line : ℕ) (piece : Piece) → AlwaysStraight piece → AlwaysMeets Q (both (tick_piece line) piece)
+    ticked line piece straight =
+        pieces_meet Q (tick_piece line) piece (tick_meets Q line) (λ before. straight_meets Q before (piece before) (straight before))
+
+    verb_meets : (line : ℕ) (one : Verb S) → verb_rules scope permits rules one ≡ [] → Asked asked (verb_performs scope.procedures performs one)
+        → AlwaysMeets Q (verb_piece scope inside line one)
+    verb_meets line (verb.Moving one) e q = ticked line (moving_piece items one) (moving_straight items one e)
+    verb_meets line (verb.Arithmetic one) e q =
         let keep = is_there one.phrases.arose in
-        let part = arithmetic_piece items keep one.operation (joined before tick) in
-        let phrases = phrases_piece items inside one.phrases (joined (joined before tick) part) in
-        both_meet before tick (joined part phrases) (tick_meets line before)
-        (both_meet (joined before tick) part phrases (straight_meets (joined before tick) part (arithmetic_straight items keep one.operation (joined before tick)))
-        (phrases_meet one.phrases.arose one.phrases.did_not (right_none (operation_rules items one.operation) (phrases_rules rules one.phrases) e) (joined (joined before tick) part)))
-    verb_meets line (verb.Branching one) before e = branching_meets line one e before
-    verb_meets line (verb.Performing one) before e =
-        let tick = tick_piece line before in
-        let body = performed_piece items inside one.performed in
-        let often = left_none (turns_rules items one.turns) (performed_rules rules one.performed) e in
-        let performed = right_none (turns_rules items one.turns) (performed_rules rules one.performed) e in
-        both_meet before tick (turns_piece items line one.turns body (joined before tick)) (tick_meets line before)
-        (turns_meet line one.turns body (performed_blind items inside blind one.performed) often (performed_meets one.performed performed) (joined before tick))
-    verb_meets line (verb.Text one) before e =
-        let tick = tick_piece line before in
-        both_meet before tick (texts_piece items one (joined before tick)) (tick_meets line before)
-        (straight_meets (joined before tick) (texts_piece items one (joined before tick)) (texts_straight items one (joined before tick)))
-    verb_meets line (verb.Ending ending.StopRun) before e = record { names = plain_names before (Tick line ∷ Stop ∷ []) (tt, (tt, tt)); leads = (tt, (tt, tt)) }
-    verb_meets line (verb.Ending ending.Continue) before e = tick_meets line before
+        let part = arithmetic_piece items keep one.operation in
+        let phrases = phrases_piece scope inside one.phrases in
+        pieces_meet Q (tick_piece line) (both part phrases) (tick_meets Q line)
+        (pieces_meet Q part phrases (λ before. straight_meets Q before (part before) (arithmetic_straight items keep one.operation before))
+        (phrases_meet one.phrases.arose one.phrases.did_not (right_none (operation_rules items one.operation) (phrases_rules rules one.phrases) e) q))
+    verb_meets line (verb.Branching one) e q = branching_meets line one e q
+    verb_meets line (verb.Performing one) e q =
+        let turn = turn_piece scope inside line one.performed in
+        let often = left_none (turns_rules items one.turns) (performed_rules scope.procedures permits rules one.performed) e in
+        let performed = right_none (turns_rules items one.turns) (performed_rules scope.procedures permits rules one.performed) e in
+        turns_meet Q items formed line one.turns turn (turn_blind scope inside blind line one.performed) often
+        (turn_begins scope inside line one.performed) (turn_meets line one.performed performed q)
+    verb_meets line (verb.Text one) e q = ticked line (texts_piece items one) (texts_straight items one)
+    verb_meets line (verb.Ending ending.StopRun) e q = stop_meets Q line
+    verb_meets line (verb.Ending ending.Continue) e q = tick_meets Q line
+    verb_meets line (verb.Ending ending.Exit) e q = tick_meets Q line
 
   -- what is known of a statement's code
   record IsMet (one : Statement) : Type 0 where
-    by : (before : Code) → statement_rules items one ≡ [] → Meets before (statement_piece items one before)
+    by : statement_rules scope permits one ≡ [] → Asked asked (statement_performs scope.procedures one) → AlwaysMeets Q (statement_piece scope one)
 
   abbrev Met : Type 0
   Met = (one : Statement) × IsMet one
 
   met_inside : (l : Statement-F Met) → IsMet (roll-Statement (map-Statement Met Statement (λ m. m.0) l))
   met_inside l = record {
-    by = λ before e.
-        let is = rolled_is items (map-Statement Met Statement (λ m. m.0) l) before ∙ verb_map items (λ m. m.0) (statement_piece items) l.place l.verb before in
-        subst (Meets before) (sym is)
-        (verb_meets (λ (m : Met). statement_rules items m.0) (λ (m : Met). statement_piece items m.0) (record { by = λ m now keep. m.1.by now keep }) (λ m. statement_blind items m.0) l.place.line l.verb before
-        (sym (mapped_rules items (λ (m : Met). m.0) l) ∙ e));
+    by = λ e q before.
+        let is = rolled_is scope (map-Statement Met Statement (λ m. m.0) l) before
+        ∙ verb_map scope (λ m. m.0) (statement_piece scope) l.place l.verb before in
+        subst (Meets Q before) (sym is)
+        (verb_meets (λ (m : Met). statement_rules scope permits m.0) (λ (m : Met). statement_performs scope.procedures m.0)
+        (λ (m : Met). statement_piece scope m.0) (record { by = λ m now keep given. m.1.by keep given now })
+        (λ m. statement_blind scope m.0) l.place.line l.verb
+        (sym (mapped_rules scope permits (λ (m : Met). m.0) l) ∙ e)
+        (subst (Asked asked) (mapped_performs scope.procedures (λ (m : Met). m.0) l) q) before);
   }
 
   statement_met : (one : Statement) → IsMet one
   statement_met = ind-Statement IsMet (λ one l is. subst (λ k. IsMet (roll-Statement k)) is (met_inside l))
 
-  sentences_meet : AllMeet (sentence_rules items) (sentence_piece items)
-  sentences_meet = record { by = λ one before e. in_order_meets (statement_rules items) (statement_piece items) (record { by = λ inner now keep. (statement_met inner).by now keep }) one.statements before e }
+  statements_meet : AllMeet (statement_rules scope permits) (statement_performs scope.procedures) (statement_piece scope)
+  statements_meet = record { by = λ one now keep given. (statement_met one).by keep given now }
 
-  paragraph_meets : AllMeet (paragraph_rules items) (paragraph_piece items)
-  paragraph_meets = record {
-    by = λ one before e.
-        both_meet before (start_piece before) (in_order (sentence_piece items) one.sentences (joined before (start_piece before)))
-        (record { names = record { counters = tt; starts = (omega arith, tt); areas = refl; items = refl; senders = tt }; leads = tt })
-        (in_order_meets (sentence_rules items) (sentence_piece items) sentences_meet one.sentences (joined before (start_piece before)) e);
+  sentences_meet : AllMeet (sentence_rules scope permits) (sentence_performs scope.procedures) (sentence_piece scope)
+  sentences_meet = record {
+    by = λ one before e q. in_order_meets (statement_rules scope permits) (statement_performs scope.procedures)
+        (statement_piece scope) statements_meet one.statements e q before;
   }
 
-  pub sections_meet : (sections : List Section) (before : Code) → each (section_rules items) sections ≡ [] → Meets before (in_order (section_piece items) sections before)
-  sections_meet sections before e =
-      in_order_meets (section_rules items) (section_piece items)
-      (record { by = λ one now keep. in_order_meets (paragraph_rules items) (paragraph_piece items) paragraph_meets one.paragraphs now keep }) sections before e
-
-pub end_meets_all : (before : Code) → Meets before end_piece
-end_meets_all before = record { names = plain_names before (Stop ∷ []) (tt, tt); leads = (tt, tt) }
+  -- the sentences of a paragraph
+  pub paragraph_meets : (sentences : List Sentence) → each (sentence_rules scope permits) sentences ≡ []
+      → Asked asked (each_performs (sentence_performs scope.procedures) sentences)
+      → AlwaysMeets Q (in_order (sentence_piece scope) sentences)
+  paragraph_meets sentences e q =
+      in_order_meets (sentence_rules scope permits) (sentence_performs scope.procedures) (sentence_piece scope) sentences_meet sentences e q

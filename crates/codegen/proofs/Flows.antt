@@ -12,7 +12,7 @@ use Rattle.source_tree.specs.declared.branching.Branching.TheVariants.{If}
 use Rattle.source_tree.specs.declared.condition.Condition.{Condition}
 use Rattle.source_tree.specs.declared.ending.Ending.TheVariants as ending
 use Rattle.source_tree.specs.declared.performing.Performed.{Performed}
-use Rattle.source_tree.specs.declared.performing.Performed.TheVariants.{Statements}
+use Rattle.source_tree.specs.declared.performing.Performed.TheVariants.{Procedures, Statements}
 use Rattle.source_tree.specs.declared.performing.Turns.{Turns}
 use Rattle.source_tree.specs.declared.performing.Turns.TheVariants.{Once, Times, Until}
 use Rattle.source_tree.specs.declared.until.TestTime.{TestTime}
@@ -24,7 +24,7 @@ use Rattle.source_tree.specs.declared.statement.Verb.TheVariants as verb
 use Rattle.source_tree.specs.declared.statement.Statement.{Statement, roll-Statement}
 use Rattle.source_tree.specs.declared.statement.Statement.TheOpen.{Statement-F}
 use Rattle.source_tree.specs.declared.statement.Statement.TheFolds.{map-Statement, ind-Statement}
-use Rattle.source_tree.specs.declared.program.Section.{Section}
+use Rattle.source_tree.specs.declared.program.Paragraph.{Paragraph}
 use Rattle.source_tree.specs.Accepting.{date_sender}
 use Rattle.source_tree.specs.Arithmetic.{is_there}
 use Rattle.source_tree.specs.ArithmeticRules.{number_rules, operation_rules}
@@ -34,8 +34,10 @@ use Rattle.source_tree.specs.MoveRules.{sent_by, receives, move_rules}
 use Rattle.source_tree.specs.NameRules.{item_rules, any_item, operand_rules}
 use Rattle.source_tree.specs.Performing.{turns_of}
 use Rattle.source_tree.specs.Places.{Placed}
+use Rattle.source_tree.specs.Procedures.{Range, range_of}
+use Rattle.source_tree.specs.Setting.{Scope}
 use Rattle.source_tree.specs.Until.{vary_operation}
-use Rattle.source_tree.specs.Rules.{moving_rules, text_rules, phrase_rules, phrases_rules, performed_rules, turns_rules, branching_rules, verb_rules, statement_rules, sentence_rules, paragraph_rules, section_rules}
+use Rattle.source_tree.specs.Rules.{moving_rules, text_rules, phrase_rules, phrases_rules, performed_rules, turns_rules, branching_rules, verb_rules, statement_rules, sentence_rules, paragraph_rules}
 use Rattle.data_instructions.specs.declared.tables.DataTables.{DataTables}
 use Rattle.data_instructions.specs.declared.instruction.DataInstruction.{DataInstruction}
 use Rattle.data_instructions.specs.declared.instruction.DataInstruction.TheVariants as i
@@ -49,25 +51,25 @@ use Rattle.code_image.specs.declared.code.Code.{Code}
 use Rattle.code_image.specs.declared.instruction.Instruction.{Instruction}
 use Rattle.code_image.specs.declared.instruction.Instruction.TheVariants as instruction
 use Rattle.code_image.specs.Known.{known_after, known_along}
+use Rattle.check_rules.proofs.RuleLayers.{mapped_rules}
 use Rattle.codegen.specs.Pieces.{Piece, joined, both, in_order, plain}
 use Rattle.codegen.specs.Meeting.{branch_code, either_piece, nothing_piece}
 use Rattle.codegen.specs.DataCode.{work_piece, reference_piece, operands_piece, line_end_piece, show_piece}
 use Rattle.codegen.specs.ArithmeticCode.{arithmetic_piece}
 use Rattle.codegen.specs.ConditionCode.{condition_piece}
 use Rattle.codegen.specs.UntilCode.{tick_piece, turning_piece, until_before_piece, until_after_piece, until_from_piece, vary_begin_piece, vary_on_piece, until_piece}
-use Rattle.codegen.specs.Layout.{loop_begin, loop_end, times_piece, turns_piece, moving_piece, texts_piece, performed_piece, phrase_piece, phrases_from, phrases_piece, branching_piece, verb_piece, statement_piece, sentence_piece, start_piece, paragraph_piece, section_piece}
+use Rattle.codegen.specs.Layout.{loop_begin, loop_end, times_piece, turns_piece, range_piece, turn_piece, moving_piece, texts_piece, phrase_piece, phrases_from, phrases_piece, branching_piece, verb_piece, statement_piece, sentence_piece, start_piece, back_piece, paragraph_piece}
 use Rattle.codegen.proofs.Codes.{left_none, right_none, move_coded, display_coded, accept_coded, date_coded}
 use Rattle.codegen.proofs.ArithmeticCodes.{arithmetic_coded}
 use Rattle.codegen.proofs.Lying.{lies_all, shows_all, sends, receives_one, receive_each, lies_operation}
 use Rattle.codegen.proofs.Layers.{verb_map, rolled_is}
-use Rattle.codegen.proofs.RuleLayers.{mapped_rules}
 use Rattle.codegen.proofs.Standing.{Stands, front, back}
 use Rattle.codegen.proofs.Blind.{Blind, in_order_blind}
 use Rattle.codegen.proofs.Flowing.{rest, along_append, along_data, only_one, Flows, both_flow, nothing_flows, branch_flows, AllFlow, in_order_flows, BodyFlows, either_flows}
 use Rattle.codegen.proofs.ConditionBlind.{nothing_blind, condition_blind}
 use Rattle.codegen.proofs.ConditionFlows.{condition_flows}
 use Rattle.codegen.proofs.UntilBlind.{turn_before_blind, onward_blind, vary_on_blind}
-use Rattle.codegen.proofs.BlindStatements.{performed_blind, phrase_blind, statement_blind}
+use Rattle.codegen.proofs.BlindStatements.{turn_blind, phrase_blind, statement_blind}
 
 module _ (tables : DataTables) where
   pub start_flows : (before : Code) → Flows tables (start_piece before)
@@ -76,19 +78,29 @@ module _ (tables : DataTables) where
   tick_flows : (line : ℕ) (before : Code) → Flows tables (tick_piece line before)
   tick_flows line before = record { by = λ sender. (None, refl) }
 
-  begin_flows : (line more : ℕ) (before : Code) → Flows tables (loop_begin line more before)
-  begin_flows line more before = record { by = λ sender. (None, refl) }
+  begin_flows : (more : ℕ) (before : Code) → Flows tables (loop_begin more before)
+  begin_flows more before = record { by = λ sender. (sender, refl) }
 
   end_flows : (begin : ℕ) → Flows tables (loop_end begin)
   end_flows begin = record { by = λ sender. (None, refl) }
 
-module _ (items : List Placed) (whole : Code) (entries : (n : ℕ) (one : Placed) → slice_get items n ≡ Some one → slice_get whole.tables.items n ≡ Some (data_item one))
+  range_flows : (line : ℕ) (range : Option Range) (before : Code) → Flows tables (range_piece line range before)
+  range_flows line None before = record { by = λ sender. (None, refl) }
+  range_flows line (Some range) before = record { by = λ sender. (None, refl) }
+
+  back_flows : (number : ℕ) (before : Code) → Flows tables (back_piece number before)
+  back_flows number before = record { by = λ sender. (None, refl) }
+
+module _ (items : List Placed) (whole : Code)
+    (entries : (n : ℕ) (one : Placed) → slice_get items n ≡ Some one → slice_get whole.tables.items n ≡ Some (data_item one))
     (order : IsTables whole.tables) (lie : (n : ℕ) (one : Placed) → slice_get items n ≡ Some one → LiesWhole whole.tables one) where
   -- ---- statements on data
 
-  moving_flows : (one : Moving) (before : Code) → moving_rules items one ≡ [] → Stands whole before (moving_piece items one before) → Flows whole.tables (moving_piece items one before)
+  moving_flows : (one : Moving) (before : Code) → moving_rules items one ≡ [] → Stands whole before (moving_piece items one before)
+      → Flows whole.tables (moving_piece items one before)
   moving_flows (Move sender receivers) before e st =
-      let s = sends items whole entries lie sender (left_none (operand_rules items sender) (each (item_rules items (receives (sent_by items sender))) receivers) e) in
+      let s = sends items whole entries lie sender
+      (left_none (operand_rules items sender) (each (item_rules items (receives (sent_by items sender))) receivers) e) in
       let asks = right_none (operand_rules items sender) (each (item_rules items (receives (sent_by items sender))) receivers) e in
       let may = receive_each items whole entries lie s.sent receivers (subst (λ o. each (item_rules items (receives o)) receivers ≡ []) s.is asks) in
       let coded = move_coded items whole entries sender receivers before e st in
@@ -96,24 +108,28 @@ module _ (items : List Placed) (whole : Code) (entries : (n : ℕ) (one : Placed
       record {
         by = λ before_it. (
           Some s.sent,
-          ap (λ l. known_along whole.tables l (rest before_it)) coded.is ∙ along_data whole.tables coded.code (rest before_it) ∙ known (rest before_it),
+          ap (λ l. known_along whole.tables l (rest before_it)) coded.is ∙ along_data whole.tables coded.code (rest before_it)
+              ∙ known (rest before_it),
         );
       }
 
   -- a reference's code, and an instruction behind it that takes its place
   placed_flows : (one : Instruction) (part : Code) (code : List DataInstruction) → part.instructions ≡ map instruction.Data code
-      → ((sender : Option Taken) → and_then (effects whole.tables code (rest sender)) (known_after whole.tables one) ≡ Some (rest sender)) → Flows whole.tables (joined part (plain (one ∷ [])))
+      → ((sender : Option Taken) → and_then (effects whole.tables code (rest sender)) (known_after whole.tables one) ≡ Some
+      (rest sender)) → Flows whole.tables (joined part (plain (one ∷ [])))
   placed_flows one part code is known = record {
     by = λ sender. (
       sender,
       along_append whole.tables part.instructions (one ∷ []) (rest sender)
-          ∙ ap (λ o. and_then o (known_along whole.tables (one ∷ []))) (ap (λ l. known_along whole.tables l (rest sender)) is ∙ along_data whole.tables code (rest sender))
+          ∙ ap (λ o. and_then o (known_along whole.tables (one ∷ [])))
+          (ap (λ l. known_along whole.tables l (rest sender)) is ∙ along_data whole.tables code (rest sender))
           ∙ only_one whole.tables one (effects whole.tables code (rest sender))
           ∙ known sender,
     );
   }
 
-  texts_flow : (one : Text) (before : Code) → text_rules items one ≡ [] → Stands whole before (texts_piece items one before) → Flows whole.tables (texts_piece items one before)
+  texts_flow : (one : Text) (before : Code) → text_rules items one ≡ [] → Stands whole before (texts_piece items one before)
+      → Flows whole.tables (texts_piece items one before)
   texts_flow (Display operands advancing) before e st =
       let part = both (operands_piece items operands) (line_end_piece advancing) before in
       let last = show_piece (joined before part) in
@@ -124,7 +140,8 @@ module _ (items : List Placed) (whole : Code) (entries : (n : ℕ) (one : Placed
           sender,
           along_append whole.tables part.instructions last.instructions (rest sender)
               ∙ ap (λ o. and_then o (known_along whole.tables (instruction.Show ∷ [])))
-              (ap (λ l. known_along whole.tables l (rest sender)) coded.is ∙ along_data whole.tables coded.code (rest sender) ∙ (known (rest sender)).1),
+              (ap (λ l. known_along whole.tables l (rest sender)) coded.is ∙ along_data whole.tables coded.code (rest sender)
+              ∙ (known (rest sender)).1),
         );
       }
   texts_flow (Accept receiver) before e st =
@@ -133,15 +150,20 @@ module _ (items : List Placed) (whole : Code) (entries : (n : ℕ) (one : Placed
       placed_flows instruction.Accept (reference_piece items receiver before) coded.code coded.is (λ sender. known (rest sender))
   texts_flow (AcceptDate receiver) before e st =
       let coded = date_coded items whole entries receiver before e st in
-      let known = date_known items whole.tables receiver coded.code coded.holds (receives_one items whole entries lie (date_sender []).taken receiver e) in
+      let known = date_known items whole.tables receiver coded.code coded.holds
+      (receives_one items whole entries lie (date_sender []).taken receiver e) in
       placed_flows instruction.Date (reference_piece items receiver before) coded.code coded.is (λ sender. known (rest sender))
 
-  arithmetic_flows : (keep : Bool) (one : Operation) (before : Code) → operation_rules items one ≡ [] → Stands whole before (arithmetic_piece items keep one before)
+  arithmetic_flows : (keep : Bool) (one : Operation) (before : Code) → operation_rules items one ≡ []
+      → Stands whole before (arithmetic_piece items keep one before)
       → Flows whole.tables (arithmetic_piece items keep one before)
   arithmetic_flows keep one before e st =
       let coded = arithmetic_coded items whole entries order lie keep one before e st in
       let known = arithmetic_known items whole.tables keep one coded.code coded.holds (lies_operation items whole entries lie one e) in
-      record { by = λ sender. (sender, ap (λ l. known_along whole.tables l (rest sender)) coded.is ∙ along_data whole.tables coded.code (rest sender) ∙ known (rest sender)) }
+      record {
+        by = λ sender.
+            (sender, ap (λ l. known_along whole.tables l (rest sender)) coded.is ∙ along_data whole.tables coded.code (rest sender) ∙ known (rest sender));
+      }
 
   -- ---- pieces
 
@@ -156,56 +178,63 @@ module _ (items : List Placed) (whole : Code) (entries : (n : ℕ) (one : Placed
   nothing_flows_always : BodyFlows whole nothing_piece
   nothing_flows_always = record { by = λ before st. nothing_flows whole.tables }
 
-  ways_flow : (first second : Piece) → Blind first → Blind second → BodyFlows whole first → BodyFlows whole second → BodyFlows whole (either_piece first second)
+  ways_flow : (first second : Piece) → Blind first → Blind second → BodyFlows whole first → BodyFlows whole second
+      → BodyFlows whole (either_piece first second)
   ways_flow first second f g one two = record { by = λ before st. either_flows whole first second f g one two before st }
+
+  ticks_flow : (line : ℕ) → BodyFlows whole (tick_piece line)
+  ticks_flow line = record { by = λ before st. tick_flows whole.tables line before }
 
   -- ---- turns
 
-  times_flow : (line count : ℕ) (piece : Piece) → BodyFlows whole piece → (before : Code) → Stands whole before (times_piece line count piece before) → Flows whole.tables (times_piece line count piece before)
-  times_flow line zero piece f before st = nothing_flows whole.tables
-  times_flow line (suc more) piece f before st =
-      let begin = loop_begin line more before in
-      let inner = piece (joined before begin) in
-      let last = loop_end (length before.instructions) in
-      both_flow whole.tables begin (joined inner last) (begin_flows whole.tables line more before)
-      (both_flow whole.tables inner last (f.by (joined before begin) (front whole (joined before begin) inner last (back whole before begin (joined inner last) st))) (end_flows whole.tables (length before.instructions)))
+  times_flow : (count : ℕ) (turn : Piece) → BodyFlows whole turn → BodyFlows whole (times_piece count turn)
+  times_flow zero turn f = nothing_flows_always
+  times_flow (suc more) turn f = record {
+    by = λ before st.
+        let begin = loop_begin more before in
+        let inner = turn (joined before begin) in
+        let last = loop_end (length before.instructions) in
+        both_flow whole.tables begin (joined inner last) (begin_flows whole.tables more before)
+        (both_flow whole.tables inner last
+        (f.by (joined before begin) (front whole (joined before begin) inner last (back whole before begin (joined inner last) st)))
+        (end_flows whole.tables (length before.instructions)));
+  }
 
   -- ---- turns up to where a condition is true
 
   clear_flows : BodyFlows whole (work_piece i.ClearTruth)
   clear_flows = record { by = λ before st. record { by = λ sender. (sender, refl) } }
 
-  turning_flows : (line : ℕ) (turn : Piece) → BodyFlows whole turn → BodyFlows whole (turning_piece line turn)
-  turning_flows line turn f = record {
+  turning_flows : (turn behind : Piece) → BodyFlows whole turn → BodyFlows whole behind → BodyFlows whole (turning_piece turn behind)
+  turning_flows turn behind f g = record {
     by = λ before st.
-        let tick = tick_piece line before in
-        let part = turn (joined before tick) in
         let last = branch_code (length before.instructions) in
-        let here = front whole before (joined tick part) last st in
-        both_flow whole.tables (joined tick part) last (both_flow whole.tables tick part (tick_flows whole.tables line before) (f.by (joined before tick) (back whole before tick part here)))
+        both_flow whole.tables (both turn behind before) last
+        ((both_flows turn behind f g).by before (front whole before (both turn behind before) last st))
         (branch_flows whole.tables (length before.instructions));
   }
 
-  module _ (line : ℕ) (test onward body : Piece) (blind_test : Blind test) (blind_onward : Blind onward) (blind_body : Blind body)
-      (tests : BodyFlows whole test) (goes : BodyFlows whole onward) (flows : BodyFlows whole body) where
-    until_before_flows : BodyFlows whole (until_before_piece line test onward body)
+  module _ (test onward turn : Piece) (blind_test : Blind test) (blind_onward : Blind onward) (blind_turn : Blind turn)
+      (tests : BodyFlows whole test) (goes : BodyFlows whole onward) (flows : BodyFlows whole turn) where
+    until_before_flows : BodyFlows whole (until_before_piece test onward turn)
     until_before_flows =
-        let turn = both body (both onward test) in
-        both_flows test (either_piece nothing_piece (turning_piece line turn)) tests
-        (ways_flow nothing_piece (turning_piece line turn) nothing_blind (turn_before_blind line test onward body blind_test blind_onward blind_body) nothing_flows_always
-        (turning_flows line turn (both_flows body (both onward test) flows (both_flows onward test goes tests))))
+        let behind = both onward test in
+        both_flows test (either_piece nothing_piece (turning_piece turn behind)) tests
+        (ways_flow nothing_piece (turning_piece turn behind) nothing_blind
+        (turn_before_blind test onward turn blind_test blind_onward blind_turn) nothing_flows_always
+        (turning_flows turn behind flows (both_flows onward test goes tests)))
 
-    until_after_flows : BodyFlows whole (until_after_piece line test onward body)
+    until_after_flows : BodyFlows whole (until_after_piece test onward turn)
     until_after_flows =
         let clear = work_piece i.ClearTruth in
         let ways = either_piece nothing_piece (both onward clear) in
-        turning_flows line (both body (both test ways))
-        (both_flows body (both test ways) flows
+        turning_flows turn (both test ways) flows
         (both_flows test ways tests
-        (ways_flow nothing_piece (both onward clear) nothing_blind (onward_blind line test onward body blind_test blind_onward blind_body) nothing_flows_always
-        (both_flows onward clear goes clear_flows))))
+        (ways_flow nothing_piece (both onward clear) nothing_blind
+        (onward_blind test onward turn blind_test blind_onward blind_turn) nothing_flows_always
+        (both_flows onward clear goes clear_flows)))
 
-    until_from_flows : (when : TestTime) → BodyFlows whole (until_from_piece when line test onward body)
+    until_from_flows : (when : TestTime) → BodyFlows whole (until_from_piece when test onward turn)
     until_from_flows Before = until_before_flows
     until_from_flows After = until_after_flows
 
@@ -223,95 +252,118 @@ module _ (items : List Placed) (whole : Code) (entries : (n : ℕ) (one : Placed
   vary_on_flows : (one : Option Varying) → varying_rules items one ≡ [] → BodyFlows whole (vary_on_piece items one)
   vary_on_flows None e = nothing_flows_always
   vary_on_flows (Some one) e =
-      let adding = right_none (move_rules items one.from (one.item ∷ []) ++ number_rules items one.from) (operation_rules items (vary_operation one)) e in
+      let adding = right_none (move_rules items one.from (one.item ∷ []) ++ number_rules items one.from)
+      (operation_rules items (vary_operation one)) e in
       record { by = λ before st. arithmetic_flows false (vary_operation one) before adding st }
 
-  until_flows : (line : ℕ) (one : until.Until) (body : Piece) → Blind body → until_rules items one ≡ [] → BodyFlows whole body → BodyFlows whole (until_piece items line one body)
-  until_flows line one body blind e f =
+  until_flows : (one : until.Until) (turn : Piece) → Blind turn → until_rules items one ≡ [] → BodyFlows whole turn
+      → BodyFlows whole (until_piece items one turn)
+  until_flows one turn blind e f =
       let test = condition_piece items one.condition in
       let onward = vary_on_piece items one.varying in
       let varies = left_none (varying_rules items one.varying) (condition_rules items one.condition) e in
       let tests = right_none (varying_rules items one.varying) (condition_rules items one.condition) e in
-      both_flows (vary_begin_piece items one.varying) (until_from_piece one.test line test onward body) (vary_begin_flows one.varying varies)
-      (until_from_flows line test onward body (condition_blind items one.condition) (vary_on_blind items one.varying) blind (tests_flow one.condition tests) (vary_on_flows one.varying varies) f one.test)
+      both_flows (vary_begin_piece items one.varying) (until_from_piece one.test test onward turn) (vary_begin_flows one.varying varies)
+      (until_from_flows test onward turn (condition_blind items one.condition) (vary_on_blind items one.varying) blind
+      (tests_flow one.condition tests) (vary_on_flows one.varying varies) f one.test)
 
-  turns_flow : (line : ℕ) (often : Turns) (piece : Piece) → Blind piece → turns_rules items often ≡ [] → BodyFlows whole piece → BodyFlows whole (turns_piece items line often piece)
-  turns_flow line Once piece blind e f = f
-  turns_flow line (Times count) piece blind e f = record { by = λ before st. times_flow line (turns_of count) piece f before st }
-  turns_flow line (Until one) piece blind e f = until_flows line one piece blind e f
+  turns_flow : (line : ℕ) (often : Turns) (turn : Piece) → Blind turn → turns_rules items often ≡ [] → BodyFlows whole turn
+      → BodyFlows whole (turns_piece items line often turn)
+  turns_flow line Once turn blind e f = f
+  turns_flow line (Times count) turn blind e f =
+      both_flows (tick_piece line) (times_piece (turns_of count) turn) (ticks_flow line) (times_flow (turns_of count) turn f)
+  turns_flow line (Until one) turn blind e f =
+      both_flows (tick_piece line) (until_piece items one turn) (ticks_flow line) (until_flows one turn blind e f)
 
-  -- ---- statements
+-- ---- statements
+
+module _ (scope : Scope) (permits : Range → Bool) (whole : Code)
+    (entries : (n : ℕ) (one : Placed) → slice_get scope.items n ≡ Some one → slice_get whole.tables.items n ≡ Some (data_item one))
+    (order : IsTables whole.tables) (lie : (n : ℕ) (one : Placed) → slice_get scope.items n ≡ Some one → LiesWhole whole.tables one) where
+  abbrev items : List Placed
+  items = scope.items
+
+  -- two pieces, one behind the other
+  pair_flows : (first second : Piece) → BodyFlows whole first → BodyFlows whole second → BodyFlows whole (both first second)
+  pair_flows first second f g = both_flows items whole entries order lie first second f g
+
+  behind_tick : (line : ℕ) (piece : Piece) → BodyFlows whole piece → BodyFlows whole (both (tick_piece line) piece)
+  behind_tick line piece f = pair_flows (tick_piece line) piece (ticks_flow items whole entries order lie line) f
 
   module _ {S : Type 0} (rules : S → List Broken) (inside : S → Piece) (f : AllFlow whole rules inside) (blind : (one : S) → Blind (inside one)) where
-    performed_flows : (one : Performed S) → performed_rules rules one ≡ [] → BodyFlows whole (performed_piece items inside one)
-    performed_flows (Statements statements) e = record { by = λ before st. in_order_flows whole rules inside f statements before e st }
+    each_flows : (statements : List S) → each rules statements ≡ [] → BodyFlows whole (in_order inside statements)
+    each_flows statements e = record { by = λ before st. in_order_flows whole rules inside f statements before e st }
 
-    phrase_flows : (phrase : Option (List S)) → phrase_rules rules phrase ≡ [] → BodyFlows whole (phrase_piece items inside phrase)
+    turn_flows : (line : ℕ) (one : Performed S) → performed_rules scope.procedures permits rules one ≡ []
+        → BodyFlows whole (turn_piece scope inside line one)
+    turn_flows line (Procedures first last) e =
+        record { by = λ before st. range_flows whole.tables line (range_of scope.procedures first last) before }
+    turn_flows line (Statements statements) e = behind_tick line (in_order inside statements) (each_flows statements e)
+
+    phrase_flows : (phrase : Option (List S)) → phrase_rules rules phrase ≡ [] → BodyFlows whole (phrase_piece scope inside phrase)
     phrase_flows None e = record { by = λ before st. nothing_flows whole.tables }
-    phrase_flows (Some statements) e = record { by = λ before st. in_order_flows whole rules inside f statements before e st }
+    phrase_flows (Some statements) e = each_flows statements e
 
-    phrases_flow : (arose did_not : Option (List S)) → phrase_rules rules arose ++ phrase_rules rules did_not ≡ [] → BodyFlows whole (phrases_from items inside arose did_not)
+    two_flow : (arose did_not : Option (List S)) → phrase_rules rules arose ++ phrase_rules rules did_not ≡ []
+        → BodyFlows whole (either_piece (phrase_piece scope inside arose) (phrase_piece scope inside did_not))
+    two_flow arose did_not e = record {
+      by = λ before st.
+          either_flows whole (phrase_piece scope inside arose) (phrase_piece scope inside did_not) (phrase_blind scope inside blind arose)
+          (phrase_blind scope inside blind did_not)
+          (phrase_flows arose (left_none (phrase_rules rules arose) (phrase_rules rules did_not) e))
+          (phrase_flows did_not (right_none (phrase_rules rules arose) (phrase_rules rules did_not) e)) before st;
+    }
+
+    phrases_flow : (arose did_not : Option (List S)) → phrase_rules rules arose ++ phrase_rules rules did_not ≡ []
+        → BodyFlows whole (phrases_from scope inside arose did_not)
     phrases_flow None None e = record { by = λ before st. nothing_flows whole.tables }
-    phrases_flow (Some statements) other e = record {
-      by = λ before st.
-          either_flows whole (phrase_piece items inside (Some statements)) (phrase_piece items inside other) (phrase_blind items inside blind (Some statements)) (phrase_blind items inside blind other)
-          (phrase_flows (Some statements) (left_none (each rules statements) (phrase_rules rules other) e)) (phrase_flows other (right_none (each rules statements) (phrase_rules rules other) e)) before st;
-    }
-    phrases_flow None (Some statements) e = record {
-      by = λ before st.
-          either_flows whole (phrase_piece items inside None) (phrase_piece items inside (Some statements)) (phrase_blind items inside blind None) (phrase_blind items inside blind (Some statements))
-          (phrase_flows None refl) (phrase_flows (Some statements) e) before st;
-    }
+    phrases_flow (Some statements) other e = record { by = λ before st. (two_flow (Some statements) other e).by before st }
+    phrases_flow None (Some statements) e = record { by = λ before st. (two_flow None (Some statements) e).by before st }
 
-    branching_flows : (line : ℕ) (one : Branching S) → branching_rules items rules one ≡ [] → BodyFlows whole (branching_piece items inside line one)
+    branching_flows : (line : ℕ) (one : Branching S) → branching_rules items rules one ≡ [] → BodyFlows whole (branching_piece scope inside line one)
     branching_flows line (If condition statements otherwise) e =
         let test = condition_piece items condition in
         let first = in_order inside statements in
-        let second = phrase_piece items inside otherwise in
+        let second = phrase_piece scope inside otherwise in
         let asks = condition_rules items condition in
         let kept = left_none (asks ++ each rules statements) (phrase_rules rules otherwise) e in
         let tests = left_none asks (each rules statements) kept in
         let firsts = right_none asks (each rules statements) kept in
         let others = right_none (asks ++ each rules statements) (phrase_rules rules otherwise) e in
-        both_flows (tick_piece line) (both test (either_piece first second)) (record { by = λ before st. tick_flows whole.tables line before })
-        (both_flows test (either_piece first second) (tests_flow condition tests)
-        (ways_flow first second (in_order_blind inside blind statements) (phrase_blind items inside blind otherwise)
-        (record { by = λ before st. in_order_flows whole rules inside f statements before firsts st }) (phrase_flows otherwise others)))
+        behind_tick line (both test (either_piece first second))
+        (pair_flows test (either_piece first second) (tests_flow items whole entries order lie condition tests)
+        (ways_flow items whole entries order lie first second (in_order_blind inside blind statements) (phrase_blind scope inside blind otherwise)
+        (each_flows statements firsts) (phrase_flows otherwise others)))
 
-    verb_flows : (line : ℕ) (one : Verb S) (before : Code) → verb_rules items rules one ≡ [] → Stands whole before (verb_piece items inside line one before) → Flows whole.tables (verb_piece items inside line one before)
-    verb_flows line (verb.Moving one) before e st =
-        let a = tick_piece line before in
-        let b = moving_piece items one (joined before a) in
-        both_flow whole.tables a b (tick_flows whole.tables line before) (moving_flows one (joined before a) e (back whole before a b st))
-    verb_flows line (verb.Arithmetic one) before e st =
-        let a = tick_piece line before in
+    verb_flows : (line : ℕ) (one : Verb S) → verb_rules scope permits rules one ≡ [] → BodyFlows whole (verb_piece scope inside line one)
+    verb_flows line (verb.Moving one) e =
+        behind_tick line (moving_piece items one) (record { by = λ before st. moving_flows items whole entries order lie one before e st })
+    verb_flows line (verb.Arithmetic one) e =
         let keep = is_there one.phrases.arose in
-        let b = arithmetic_piece items keep one.operation (joined before a) in
-        let c = phrases_piece items inside one.phrases (joined (joined before a) b) in
-        let here = back whole before a (joined b c) st in
+        let part = arithmetic_piece items keep one.operation in
+        let phrases = phrases_piece scope inside one.phrases in
         let operation_keeps = left_none (operation_rules items one.operation) (phrases_rules rules one.phrases) e in
         let phrases_keep = right_none (operation_rules items one.operation) (phrases_rules rules one.phrases) e in
-        both_flow whole.tables a (joined b c) (tick_flows whole.tables line before)
-        (both_flow whole.tables b c (arithmetic_flows keep one.operation (joined before a) operation_keeps (front whole (joined before a) b c here))
-        ((phrases_flow one.phrases.arose one.phrases.did_not phrases_keep).by (joined (joined before a) b) (back whole (joined before a) b c here)))
-    verb_flows line (verb.Branching one) before e st = (branching_flows line one e).by before st
-    verb_flows line (verb.Performing one) before e st =
-        let a = tick_piece line before in
-        let body = performed_piece items inside one.performed in
-        let b = turns_piece items line one.turns body (joined before a) in
-        let often = left_none (turns_rules items one.turns) (performed_rules rules one.performed) e in
-        let performed = right_none (turns_rules items one.turns) (performed_rules rules one.performed) e in
-        both_flow whole.tables a b (tick_flows whole.tables line before)
-        ((turns_flow line one.turns body (performed_blind items inside blind one.performed) often (performed_flows one.performed performed)).by (joined before a) (back whole before a b st))
-    verb_flows line (verb.Text one) before e st =
-        let a = tick_piece line before in
-        let b = texts_piece items one (joined before a) in
-        both_flow whole.tables a b (tick_flows whole.tables line before) (texts_flow one (joined before a) e (back whole before a b st))
-    verb_flows line (verb.Ending ending.StopRun) before e st = record { by = λ sender. (None, refl) }
-    verb_flows line (verb.Ending ending.Continue) before e st = record { by = λ sender. (None, refl) }
+        behind_tick line (both part phrases)
+        (pair_flows part phrases
+        (record { by = λ before st. arithmetic_flows items whole entries order lie keep one.operation before operation_keeps st })
+        (phrases_flow one.phrases.arose one.phrases.did_not phrases_keep))
+    verb_flows line (verb.Branching one) e = branching_flows line one e
+    verb_flows line (verb.Performing one) e =
+        let turn = turn_piece scope inside line one.performed in
+        let often = left_none (turns_rules items one.turns) (performed_rules scope.procedures permits rules one.performed) e in
+        let performed = right_none (turns_rules items one.turns) (performed_rules scope.procedures permits rules one.performed) e in
+        turns_flow items whole entries order lie line one.turns turn (turn_blind scope inside blind line one.performed) often
+        (turn_flows line one.performed performed)
+    verb_flows line (verb.Text one) e =
+        behind_tick line (texts_piece items one) (record { by = λ before st. texts_flow items whole entries order lie one before e st })
+    verb_flows line (verb.Ending ending.StopRun) e = record { by = λ before st. record { by = λ sender. (None, refl) } }
+    verb_flows line (verb.Ending ending.Continue) e = record { by = λ before st. record { by = λ sender. (None, refl) } }
+    verb_flows line (verb.Ending ending.Exit) e = record { by = λ before st. record { by = λ sender. (None, refl) } }
 
   record IsFlowing (one : Statement) : Type 0 where
-    by : (before : Code) → statement_rules items one ≡ [] → Stands whole before (statement_piece items one before) → Flows whole.tables (statement_piece items one before)
+    by : (before : Code) → statement_rules scope permits one ≡ [] → Stands whole before (statement_piece scope one before)
+        → Flows whole.tables (statement_piece scope one before)
 
   abbrev Flowing : Type 0
   Flowing = (one : Statement) × IsFlowing one
@@ -319,28 +371,39 @@ module _ (items : List Placed) (whole : Code) (entries : (n : ℕ) (one : Placed
   flowing_inside : (l : Statement-F Flowing) → IsFlowing (roll-Statement (map-Statement Flowing Statement (λ m. m.0) l))
   flowing_inside l = record {
     by = λ before e st.
-        let is = rolled_is items (map-Statement Flowing Statement (λ m. m.0) l) before ∙ verb_map items (λ m. m.0) (statement_piece items) l.place l.verb before in
+        let is = rolled_is scope (map-Statement Flowing Statement (λ m. m.0) l) before
+        ∙ verb_map scope (λ m. m.0) (statement_piece scope) l.place l.verb before in
         subst (Flows whole.tables) (sym is)
-        (verb_flows (λ (m : Flowing). statement_rules items m.0) (λ (m : Flowing). statement_piece items m.0) (record { by = λ m now keep here. m.1.by now keep here }) (λ m. statement_blind items m.0) l.place.line l.verb before
-        (sym (mapped_rules items (λ (m : Flowing). m.0) l) ∙ e) (subst (Stands whole before) is st));
+        ((verb_flows (λ (m : Flowing). statement_rules scope permits m.0) (λ (m : Flowing). statement_piece scope m.0)
+        (record { by = λ m now keep here. m.1.by now keep here }) (λ m. statement_blind scope m.0) l.place.line l.verb
+        (sym (mapped_rules scope permits (λ (m : Flowing). m.0) l) ∙ e)).by before (subst (Stands whole before) is st));
   }
 
   statement_flows : (one : Statement) → IsFlowing one
   statement_flows = ind-Statement IsFlowing (λ one l is. subst (λ k. IsFlowing (roll-Statement k)) is (flowing_inside l))
 
-  sentences_flow : AllFlow whole (sentence_rules items) (sentence_piece items)
-  sentences_flow = record { by = λ one before e st. in_order_flows whole (statement_rules items) (statement_piece items) (record { by = λ inner now keep here. (statement_flows inner).by now keep here }) one.statements before e st }
+  sentences_flow : AllFlow whole (sentence_rules scope permits) (sentence_piece scope)
+  sentences_flow = record {
+    by = λ one before e st. in_order_flows whole (statement_rules scope permits) (statement_piece scope)
+        (record { by = λ inner now keep here. (statement_flows inner).by now keep here }) one.statements before e st;
+  }
 
-  paragraphs_flow : AllFlow whole (paragraph_rules items) (paragraph_piece items)
+  paragraphs_flow : AllFlow whole (paragraph_rules scope permits) (paragraph_piece scope)
   paragraphs_flow = record {
     by = λ one before e st.
         let a = start_piece before in
-        let b = in_order (sentence_piece items) one.sentences (joined before a) in
-        both_flow whole.tables a b (start_flows whole.tables before) (in_order_flows whole (sentence_rules items) (sentence_piece items) sentences_flow one.sentences (joined before a) e (back whole before a b st));
+        let b = in_order (sentence_piece scope) one.sentences (joined before a) in
+        let c = back_piece (length before.starts) (joined (joined before a) b) in
+        let here = back whole before a (joined b c) st in
+        both_flow whole.tables a (joined b c) (start_flows whole.tables before)
+        (both_flow whole.tables b c
+        (in_order_flows whole (sentence_rules scope permits) (sentence_piece scope) sentences_flow one.sentences (joined before a) e
+        (front whole (joined before a) b c here))
+        (back_flows whole.tables (length before.starts) (joined (joined before a) b)));
   }
 
-  pub sections_flow : (sections : List Section) (before : Code) → each (section_rules items) sections ≡ [] → Stands whole before (in_order (section_piece items) sections before)
-      → Flows whole.tables (in_order (section_piece items) sections before)
-  sections_flow sections before e st =
-      in_order_flows whole (section_rules items) (section_piece items)
-      (record { by = λ one now keep here. in_order_flows whole (paragraph_rules items) (paragraph_piece items) paragraphs_flow one.paragraphs now keep here }) sections before e st
+  -- the paragraphs of a program
+  pub paragraphs_flows : (all : List Paragraph) (before : Code) → each (paragraph_rules scope permits) all ≡ []
+      → Stands whole before (in_order (paragraph_piece scope) all before)
+      → Flows whole.tables (in_order (paragraph_piece scope) all before)
+  paragraphs_flows all before e st = in_order_flows whole (paragraph_rules scope permits) (paragraph_piece scope) paragraphs_flow all before e st

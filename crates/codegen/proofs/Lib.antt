@@ -5,7 +5,6 @@ pub mod Blind
 pub mod BlindArithmetic
 pub mod Either
 pub mod Layers
-pub mod RuleLayers
 pub mod ConditionForms
 pub mod ConditionBlind
 pub mod UntilBlind
@@ -45,6 +44,8 @@ pub mod Turning
 pub mod Branching
 pub mod UntilTurns
 pub mod Simulation
+pub mod Procedures
+pub mod ProgramDoes
 -- A machine can run the code
 pub mod Straight
 pub mod ArithmeticStraight
@@ -54,5 +55,9 @@ pub mod ConditionFlows
 pub mod Flows
 pub mod Leading
 pub mod ConditionMeets
+pub mod Ranges
 pub mod Demands
+pub mod Paragraphs
 pub mod Verified
+-- The run is what the program means
+pub mod Meaning

@@ -3,7 +3,7 @@ use Rattle.std.proofs.Common.{◌≡◌, ℕ, ◌+◌, ◌-◌, ◌||◌, true, 
 use Rattle.std.specs.Prelude.{slice_set}
 use Rattle.std.proofs.lemmas.List.{append-nil}
 use Rattle.source_tree.specs.Arithmetic.{is_there}
-use Rattle.source_tree.specs.Places.{Placed}
+use Rattle.source_tree.specs.Setting.{Scope}
 use Rattle.data_instructions.specs.declared.tables.DataTables.{DataTables}
 use Rattle.code_image.specs.declared.code.Code.{Code}
 use Rattle.code_image.specs.declared.instruction.Instruction.{Instruction}
@@ -92,8 +92,8 @@ meeting first second before begun one middle two end branch other p q r s t u v 
     ∙ ways_meet first second before
 
 -- the phrases where one stands
-pub phrases_stand : (items : List Placed) {S : Type 0} (inside : S → Piece) (arose did_not : Option (List S)) (before : Code) → (is_there arose || is_there did_not) ≡ true
-    → either_piece (phrase_piece items inside arose) (phrase_piece items inside did_not) before ≡ phrases_from items inside arose did_not before
-phrases_stand items inside None None before e = cc
-phrases_stand items inside None (Some other) before e = refl
-phrases_stand items inside (Some one) other before e = refl
+pub phrases_stand : (scope : Scope) {S : Type 0} (inside : S → Piece) (arose did_not : Option (List S)) (before : Code) → (is_there arose || is_there did_not) ≡ true
+    → either_piece (phrase_piece scope inside arose) (phrase_piece scope inside did_not) before ≡ phrases_from scope inside arose did_not before
+phrases_stand scope inside None None before e = cc
+phrases_stand scope inside None (Some other) before e = refl
+phrases_stand scope inside (Some one) other before e = refl

@@ -3,8 +3,8 @@ use Rattle.std.proofs.Common.{◌≡◌, ℕ, ◌+◌, ◌<◌, ◌≤◌, List,
 use Rattle.std.proofs.lemmas.List.{append-nil, drop_more, drop_all}
 use Rattle.decimal18.specs.Fraction.{Fraction}
 use Rattle.source_tree.specs.declared.program.Section.{Section}
-use Rattle.source_tree.specs.Meaning.{paragraphs_in}
-use Rattle.source_tree.specs.Places.{Placed}
+use Rattle.source_tree.specs.Procedures.{paragraphs_or_one, paragraphs_in}
+use Rattle.source_tree.specs.Setting.{Scope}
 use Rattle.data_instructions.specs.declared.tables.DataItem.{DataItem}
 use Rattle.data_instructions.specs.declared.tables.LiteralSender.{LiteralSender}
 use Rattle.data_instructions.specs.declared.tables.DataTables.{DataTables}
@@ -64,8 +64,8 @@ pub both_joined : (first second : Piece) (before : Code) → joined before (both
 both_joined first second before = sym (joined_assoc before (first before) (second (joined before (first before))))
 
 -- sections one after the other are their paragraphs
-pub flat : (items : List Placed) (sections : List Section) (before : Code) → in_order (section_piece items) sections before ≡ in_order (paragraph_piece items) (paragraphs_in sections) before
-flat items [] before = refl
-flat items (one ∷ more) before =
-    let first = section_piece items one before in
-    ap (joined first) (flat items more (joined before first)) ∙ sym (in_order-append (paragraph_piece items) one.paragraphs (paragraphs_in more) before)
+pub flat : (scope : Scope) (sections : List Section) (before : Code) → in_order (section_piece scope) sections before ≡ in_order (paragraph_piece scope) (paragraphs_in sections) before
+flat scope [] before = refl
+flat scope (one ∷ more) before =
+    let first = section_piece scope one before in
+    ap (joined first) (flat scope more (joined before first)) ∙ sym (in_order-append (paragraph_piece scope) (paragraphs_or_one one.paragraphs) (paragraphs_in more) before)

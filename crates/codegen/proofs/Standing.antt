@@ -58,6 +58,9 @@ sender_stands whole before part x more is st = in_part whole.tables.senders befo
 pub text_stands : (whole before part : Code) (x : List ℕ) (more : List (List ℕ)) → part.tables.texts ≡ x ∷ more → Stands whole before part → slice_get whole.tables.texts (length before.tables.texts) ≡ Some x
 text_stands whole before part x more is st = in_part whole.tables.texts before.tables.texts part.tables.texts st.rest.tables.texts more x (ap (λ (c : Code). c.tables.texts) st.is) is
 
+pub start_stands : (whole before part : Code) (x : ℕ) (more : List ℕ) → part.starts ≡ x ∷ more → Stands whole before part → slice_get whole.starts (length before.starts) ≡ Some x
+start_stands whole before part x more is st = in_part whole.starts before.starts part.starts st.rest.starts more x (ap (λ (c : Code). c.starts) st.is) is
+
 -- Instructions on data stand at an address.
 pub record CodeStands (whole : Code) (address : ℕ) (code : List DataInstruction) : Type 0 where
   pub pre : List Instruction

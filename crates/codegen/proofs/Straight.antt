@@ -59,6 +59,8 @@ IsStraight (instruction.Turn counter to) = ⊥
 IsStraight (instruction.Branch to) = ⊥
 IsStraight (instruction.Jump to) = ⊥
 IsStraight instruction.Join = ⊥
+IsStraight (instruction.Perform line first last) = ⊥
+IsStraight (instruction.Back paragraph) = ⊥
 
 -- A part of such instructions, without areas, items and starts of its own. Its senders have their bytes.
 pub record Straight (part : Code) : Type 0 where

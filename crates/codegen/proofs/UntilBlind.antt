@@ -24,35 +24,35 @@ pub tick_blind : (line : ℕ) → Blind (tick_piece line)
 tick_blind line = constant_blind (plain (Tick line ∷ []))
 
 -- the branch back knows how many instructions stand before the turn
-pub turning_blind : (line : ℕ) (turn : Piece) → Blind turn → Blind (turning_piece line turn)
-turning_blind line turn f = record {
+pub turning_blind : (turn behind : Piece) → Blind turn → Blind behind → Blind (turning_piece turn behind)
+turning_blind turn behind f g = record {
   by = λ a b alike.
-      let same = (both_blind (tick_piece line) turn (tick_blind line) f).by a b alike in
+      let same = (both_blind turn behind f g).by a b alike in
       ap (λ (c : Code). joined c (branch_code (length a.instructions))) same
-      ∙ ap (λ (n : ℕ). joined (both (tick_piece line) turn b) (branch_code n)) alike.count;
+      ∙ ap (λ (n : ℕ). joined (both turn behind b) (branch_code n)) alike.count;
 }
 
-module _ (line : ℕ) (test onward body : Piece) (f : Blind test) (g : Blind onward) (h : Blind body) where
+module _ (test onward turn : Piece) (f : Blind test) (g : Blind onward) (h : Blind turn) where
   -- a turn with its test before the next one
-  pub turn_before_blind : Blind (turning_piece line (both body (both onward test)))
-  turn_before_blind = turning_blind line (both body (both onward test)) (both_blind body (both onward test) h (both_blind onward test g f))
+  pub turn_before_blind : Blind (turning_piece turn (both onward test))
+  turn_before_blind = turning_blind turn (both onward test) h (both_blind onward test g f)
 
-  until_before_blind : Blind (until_before_piece line test onward body)
+  until_before_blind : Blind (until_before_piece test onward turn)
   until_before_blind =
-      let turns = turning_piece line (both body (both onward test)) in
+      let turns = turning_piece turn (both onward test) in
       both_blind test (either_piece nothing_piece turns) f (either_blind nothing_piece turns nothing_blind turn_before_blind)
 
   -- what goes on where the test is false
   pub onward_blind : Blind (both onward (work_piece i.ClearTruth))
   onward_blind = both_blind onward (work_piece i.ClearTruth) g (work_blind i.ClearTruth)
 
-  until_after_blind : Blind (until_after_piece line test onward body)
+  until_after_blind : Blind (until_after_piece test onward turn)
   until_after_blind =
       let ways = either_piece nothing_piece (both onward (work_piece i.ClearTruth)) in
-      turning_blind line (both body (both test ways))
-      (both_blind body (both test ways) h (both_blind test ways f (either_blind nothing_piece (both onward (work_piece i.ClearTruth)) nothing_blind onward_blind)))
+      turning_blind turn (both test ways) h
+      (both_blind test ways f (either_blind nothing_piece (both onward (work_piece i.ClearTruth)) nothing_blind onward_blind))
 
-  until_from_blind : (tests : TestTime) → Blind (until_from_piece tests line test onward body)
+  until_from_blind : (tests : TestTime) → Blind (until_from_piece tests test onward turn)
   until_from_blind Before = until_before_blind
   until_from_blind After = until_after_blind
 
@@ -65,9 +65,9 @@ module _ (items : List Placed) where
   vary_on_blind None = nothing_blind
   vary_on_blind (Some one) = arithmetic_blind items false (vary_operation one)
 
-  pub until_blind : (line : ℕ) (one : Until) (body : Piece) → Blind body → Blind (until_piece items line one body)
-  until_blind line one body f =
+  pub until_blind : (one : Until) (turn : Piece) → Blind turn → Blind (until_piece items one turn)
+  until_blind one turn f =
       let test = condition_piece items one.condition in
       let onward = vary_on_piece items one.varying in
-      both_blind (vary_begin_piece items one.varying) (until_from_piece one.test line test onward body) (vary_begin_blind one.varying)
-      (until_from_blind line test onward body (condition_blind items one.condition) (vary_on_blind one.varying) f one.test)
+      both_blind (vary_begin_piece items one.varying) (until_from_piece one.test test onward turn) (vary_begin_blind one.varying)
+      (until_from_blind test onward turn (condition_blind items one.condition) (vary_on_blind one.varying) f one.test)

@@ -1,133 +1,145 @@
 -- The turns up to where a condition is true.
-use Rattle.std.proofs.Common.{◌≡◌, ℕ, zero, suc, ◌+◌, ◌≤◌, ◌<◌, Bool, true, false, [], ◌++◌, Some, refl, sym, ap, ◌∙◌, subst, arith, length-append}
+use Rattle.std.proofs.Common.{◌≡◌, ℕ, zero, suc, ◌+◌, ◌≤◌, ◌<◌, Bool, true, false, [], Some, refl, sym, ap, ◌∙◌, subst, arith, length-append}
 use Rattle.std.specs.Prelude.{slice_get}
 use Rattle.source_tree.specs.declared.until.TestTime.{TestTime}
 use Rattle.source_tree.specs.declared.until.TestTime.TheVariants.{Before, After}
 use Rattle.source_tree.specs.Conditions.{Truth}
-use Rattle.source_tree.specs.State.{State, Outcome, Done, then_do, spend}
+use Rattle.source_tree.specs.State.{State, Outcome, Done, then_do, spend_from, spend}
 use Rattle.source_tree.specs.Until.{done_if, unless_true, until_before, until_after, until_from}
+use Rattle.source_tree.proofs.Runs.{IsRun}
 use Rattle.data_instructions.specs.declared.instruction.DataInstruction.TheVariants as i
 use Rattle.code_image.specs.declared.code.Code.{Code}
-use Rattle.code_image.specs.declared.instruction.Instruction.TheVariants.{Tick, Branch, Data}
+use Rattle.code_image.specs.declared.instruction.Instruction.TheVariants.{Branch, Data}
 use Rattle.code_image.specs.Points.{Own}
 use Rattle.codegen.specs.Pieces.{Piece, nothing, joined, both}
 use Rattle.codegen.specs.Meeting.{branch_code, either_piece, nothing_piece}
 use Rattle.codegen.specs.DataCode.{work_piece}
-use Rattle.codegen.specs.UntilCode.{tick_piece, turning_piece, until_before_piece, until_after_piece, until_from_piece}
+use Rattle.codegen.specs.UntilCode.{turning_piece, until_before_piece, until_after_piece, until_from_piece}
 use Rattle.codegen.proofs.Pieces.{joined_assoc, joined_nothing}
 use Rattle.codegen.proofs.Standing.{Stands, front, back, first_stands}
 use Rattle.codegen.proofs.Blind.{Blind}
 use Rattle.codegen.proofs.UntilBlind.{turn_before_blind, onward_blind}
 use Rattle.codegen.proofs.Running.{one_step}
-use Rattle.codegen.proofs.Doing.{end_of, keeps_all, Comes, Does, PartDoes, IsRoom, still_room, after, then_does, moved_from, stays, steps_to, tick_does, branch_goes_on, branch_goes_to, behind, nothing_does, Repeats}
+use Rattle.codegen.proofs.Doing.{end_of, keeps_all, Comes, Does, PartDoes, Sits, within_sits, front_sits, back_sits, IsRoom, still_room, after, spend_does, then_does, moved_from, stays, steps_to, branch_goes_on, branch_goes_to, behind, nothing_does, Repeats}
 use Rattle.codegen.proofs.ConditionBlind.{nothing_blind}
 use Rattle.codegen.proofs.ConditionDoes.{PartEvaluates}
 use Rattle.codegen.proofs.Evaluating.{evaluated_does}
 use Rattle.codegen.proofs.Ways.{Ways, ways}
 use Rattle.codegen.proofs.Branching.{either_does}
 
-module _ (whole : Code) where
+module _ (whole : Code) (kept : ℕ → Type 0) where
   -- a test, wherever its code stands
   pub record Tests (test : Truth) (piece : Piece) : Type 0 where
-    pub by : (before : Code) (cs : Own) (s : State) → Stands whole before (piece before) → PartEvaluates whole before (piece before) cs s (test s.storage)
+    pub by : (before : Code) (cs : Own) (s : State) → Stands whole before (piece before)
+        → PartEvaluates whole before (piece before) cs s (test s.storage)
 
-  -- A turn behind its tick, wherever it stands: `turn go` is what it means where `go` comes after it. At its end the truth says whether
-  -- that is so, or all is done.
-  record TurnDoes (depth : ℕ) (turn : (State → Outcome) → State → Outcome) (piece : Piece) : Type 0 where
-    by : (before : Code) (from to next : ℕ) (cs : Own) (s : State) (go : State → Outcome) → from ≤ end_of before → end_of (joined before (piece before)) ≤ to → s.budget < depth → IsRoom whole cs
-        → Stands whole before (piece before)
-        → ((truth : Bool) (ds : Own) (t : State) → t.budget ≤ s.budget → IsRoom whole ds → ds.truth ≡ truth → Does whole from to (end_of (joined before (piece before))) ds t next (done_if go t truth))
-        → Does whole from to (end_of before) cs s next (turn go s)
+  -- A turn of a loop at this line, wherever it stands: `turn go` is what it means behind what uses one of the budget, where `go` comes
+  -- after it. At its end the truth says whether that is so, or all is done.
+  record TurnDoes (line depth : ℕ) (turn : (State → Outcome) → State → Outcome) (piece : Piece) : Type 0 where
+    by : (before : Code) (from to next : ℕ) (cs : Own) (s : State) (go : State → Outcome) → from ≤ end_of before
+        → end_of (joined before (piece before)) ≤ to → s.budget < depth → IsRoom whole cs
+        → Sits whole kept before (piece before)
+        → ((truth : Bool) (ds : Own) (t : State) → t.budget < s.budget → IsRoom whole ds → ds.truth ≡ truth
+        → Does whole kept from to (end_of (joined before (piece before))) ds t next (done_if go t truth))
+        → Does whole kept from to (end_of before) cs s next (spend line s (turn go))
 
-  -- ---- turns, each behind its tick
+  -- with nothing left it doesn't matter what would come
+  spent_same : (b line : ℕ) (s : State) (go other : State → Outcome) → b ≤ 0 → spend_from b line s go ≡ spend_from b line s other
+  spent_same zero line s go other none = refl
+  spent_same (suc n) line s go other none = absurd (omega arith)
 
-  -- `rest n` is what comes behind the tick of a turn, where n more may come after it.
-  module _ (line depth : ℕ) (turn : (State → Outcome) → State → Outcome) (piece : Piece) (once : TurnDoes depth turn piece) (rest : ℕ → State → Outcome)
-      (goes_on : (left : ℕ) (s : State) → rest (suc left) s ≡ turn (λ t. spend line t (rest left)) s) (before : Code) (st : Stands whole before (turning_piece line piece before)) where
+  -- ---- turns, and a branch back behind each
+
+  -- `rest n` is what comes behind what uses one of the budget, where n more turns may come after it.
+  module _ (line depth : ℕ) (turn : (State → Outcome) → State → Outcome) (piece : Piece) (once : TurnDoes line depth turn piece)
+      (rest : ℕ → State → Outcome)
+      (goes_on : (left : ℕ) → rest (suc left) ≡ turn (λ t. spend line t (rest left))) (before : Code)
+      (sits : Sits whole kept before (joined (piece before) (branch_code (end_of before)))) where
     abbrev begin : ℕ
     begin = end_of before
 
-    abbrev inner : Code
-    inner = joined before (tick_piece line before)
-
     abbrev part : Code
-    part = joined (tick_piece line before) (piece inner)
+    part = piece before
 
     abbrev next : ℕ
-    next = end_of (joined before (turning_piece line piece before))
+    next = end_of (joined before (joined part (branch_code begin)))
 
     abbrev end : ℕ
-    end = end_of (joined inner (piece inner))
-
-    same_end : end ≡ end_of (joined before part)
-    same_end = ap end_of (joined_assoc before (tick_piece line before) (piece inner))
+    end = end_of (joined before part)
 
     ends : end + 1 ≡ next
-    ends = omega (arith, same_end, ap end_of (joined_assoc before part (branch_code begin)), length-append (joined before part).instructions (branch_code begin).instructions)
-
-    starts : end_of inner ≡ begin + 1
-    starts = length-append before.instructions (tick_piece line before).instructions
-
-    ticks : slice_get whole.instructions begin ≡ Some (Tick line)
-    ticks = first_stands whole before (turning_piece line piece before) (Tick line) ((piece inner).instructions ++ (branch_code begin).instructions) refl st
+    ends =
+        let joined_length = length-append (joined before part).instructions (branch_code begin).instructions in
+        omega (arith, ap end_of (joined_assoc before part (branch_code begin)), joined_length)
 
     branches : slice_get whole.instructions end ≡ Some (Branch begin)
     branches =
-        ap (slice_get whole.instructions) same_end
-        ∙ first_stands whole (joined before part) (branch_code begin) (Branch begin) [] refl (back whole before part (branch_code begin) st)
+        first_stands whole (joined before part) (branch_code begin) (Branch begin) [] refl (back whole before part (branch_code begin) sits.stands)
 
     -- at the end of a turn
-    turn_ends : (go : State → Outcome) (truth : Bool) (cs : Own) (s : State) → cs.truth ≡ truth → Does whole begin next begin cs s next (go s) → Does whole begin next end cs s next (done_if go s truth)
+    turn_ends : (go : State → Outcome) (truth : Bool) (cs : Own) (s : State) → cs.truth ≡ truth → Does whole kept begin next begin cs s next (go s)
+        → Does whole kept begin next end cs s next (done_if go s truth)
     turn_ends go true cs s is again =
-        after whole begin next end (end + 1) next cs cs s s (Done s) (keeps_all begin next cs) (branch_goes_on whole end begin cs s branches is) (stays whole begin next (end + 1) next cs s ends)
-    turn_ends go false cs s is again = after whole begin next end begin next cs cs s s (go s) (keeps_all begin next cs) (branch_goes_to whole end begin cs s branches is) again
+        after whole kept begin next end (end + 1) next cs cs s s (Done s) (keeps_all kept begin next cs)
+        (branch_goes_on whole end begin cs s branches is) (stays whole kept begin next (end + 1) next cs s ends)
+    turn_ends go false cs s is again =
+        after whole kept begin next end begin next cs cs s s (go s) (keeps_all kept begin next cs)
+        (branch_goes_to whole end begin cs s branches is) again
 
-    turns_do : (left : ℕ) (cs : Own) (s : State) → s.budget ≤ left → s.budget < depth → IsRoom whole cs → Does whole begin next begin cs s next (spend line s (rest left))
-    turns_do zero cs s le below room = tick_does whole begin next line begin next cs s (rest zero) ticks (λ t lt. absurd (omega arith))
+    turns_do : (left : ℕ) (cs : Own) (s : State) → s.budget ≤ left → s.budget < depth → IsRoom whole cs
+        → Does whole kept begin next begin cs s next (spend line s (rest left))
+    turns_do zero cs s le below room =
+        subst (Does whole kept begin next begin cs s next) (spent_same s.budget line s (turn Done) (rest zero) le)
+        (once.by before begin next next cs s Done (omega arith) (omega (arith, ends)) below room
+        (front_sits whole kept before part (branch_code begin) sits)
+        (λ truth ds t falls still is. absurd (omega arith)))
     turns_do (suc left) cs s le below room =
         let go : State → Outcome = λ t. spend line t (rest left) in
-        tick_does whole begin next line begin next cs s (rest (suc left)) ticks (λ t lt.
-        subst (Does whole begin next (begin + 1) cs t next) (sym (goes_on left t))
-        (moved_from whole begin next (begin + 1) (end_of inner) next cs t (turn go t) starts
-        (once.by inner begin next next cs t go (omega (arith, starts)) (omega (arith, ends)) (omega arith) room
-        (back whole before (tick_piece line before) (piece inner) (front whole before part (branch_code begin) st))
-        (λ truth ds u falls still is. turn_ends go truth ds u is (turns_do left ds u (omega arith) (omega arith) still)))))
+        subst (Does whole kept begin next begin cs s next) (ap (spend line s) (sym (goes_on left)))
+        (once.by before begin next next cs s go (omega arith) (omega (arith, ends)) below room
+        (front_sits whole kept before part (branch_code begin) sits)
+        (λ truth ds t falls still is. turn_ends go truth ds t is (turns_do left ds t (omega arith) (omega arith) still)))
 
   -- ---- the test before each turn, and after it
 
-  module _ (line depth : ℕ) (test : Truth) (onward body : State → Outcome) (test_piece onward_piece body_piece : Piece)
-      (tests : Tests test test_piece) (goes : Repeats whole depth onward onward_piece) (performs : Repeats whole depth body body_piece) where
-    -- a turn, and what comes behind its tick where so many more may come after it
+  module _ (line depth : ℕ) (test : Truth) (onward body : State → Outcome) (runs : IsRun body) (test_piece onward_piece turn_piece : Piece)
+      (tests : Tests test test_piece) (goes : Repeats whole kept depth onward onward_piece)
+      (performs : Repeats whole kept depth (λ s. spend line s body) turn_piece) where
+    -- a turn, and what comes behind what uses one of the budget where so many more may come after it
     abbrev turn_before : (State → Outcome) → State → Outcome
     turn_before go s = then_do (body s) (λ t. then_do (onward t) (unless_true test go))
 
     abbrev rest_before : ℕ → State → Outcome
     rest_before left s = then_do (body s) (λ t. then_do (onward t) (until_before line left test onward body))
 
-    turn_before_does : TurnDoes depth turn_before (both body_piece (both onward_piece test_piece))
+    turn_before_does : TurnDoes line depth turn_before (both turn_piece (both onward_piece test_piece))
     turn_before_does = record {
-      by = λ before from to next cs s go low high below room st h.
-          let a = body_piece before in
+      by = λ before from to next cs s go low high below room sits h.
+          let a = turn_piece before in
           let second = joined before a in
           let b = onward_piece second in
           let third = joined second b in
           let c = test_piece third in
           let last = joined third c in
-          let rest = back whole before a (joined b c) st in
-          let same : end_of (joined before (joined a (joined b c))) ≡ end_of last = sym (ap end_of (joined_assoc before a (joined b c))) ∙ sym (ap end_of (joined_assoc second b c)) in
+          let rest = back_sits whole kept before a (joined b c) sits in
+          let same : end_of (joined before (joined a (joined b c))) ≡ end_of last = sym (ap end_of (joined_assoc before a (joined b c))) ∙ sym
+          (ap end_of (joined_assoc second b c)) in
           let l1 = length-append before.instructions a.instructions in
           let l2 = length-append second.instructions b.instructions in
           let l3 = length-append third.instructions c.instructions in
-          then_does whole (end_of before) (end_of second) from to (end_of before) (end_of second) next cs s (body s) (λ t. then_do (onward t) (unless_true test go)) low (omega (arith, l2, l3, same))
-          (performs.by before cs s below room (front whole before a (joined b c) st)) (λ t ds falls keeps.
-          let wide = still_room whole (end_of before) (end_of second) cs ds keeps room in
-          then_does whole (end_of second) (end_of third) from to (end_of second) (end_of third) next ds t (onward t) (unless_true test go) (omega (arith, l1)) (omega (arith, l3, same))
-          (goes.by second ds t (omega arith) wide (front whole second b c rest)) (λ u es drops holds.
-          let still = still_room whole (end_of second) (end_of third) ds es holds wide in
-          evaluated_does whole (end_of third) (end_of last) from to (end_of third) (end_of last) next es u (test u.storage) (done_if go u) (omega (arith, l1, l2)) (omega (arith, same))
-          (tests.by third es u (back whole second b c rest)) (λ truth gs stands is.
-          moved_from whole from to (end_of last) (end_of (joined before (joined a (joined b c)))) next gs u (done_if go u truth) same
-          (h truth gs u (omega arith) (still_room whole (end_of third) (end_of last) es gs stands still) is))));
+          spend_does whole kept (end_of before) (end_of second) from to line (end_of before) (end_of second) next cs s body
+          (λ t. then_do (onward t) (unless_true test go)) runs low (omega (arith, l2, l3, same))
+          (performs.by before cs s below room (front_sits whole kept before a (joined b c) sits)) (λ t ds falls keeps.
+          let wide = still_room whole kept (end_of before) (end_of second) cs ds keeps room in
+          then_does whole kept (end_of second) (end_of third) from to (end_of second) (end_of third) next ds t (onward t) (unless_true test go)
+          (omega (arith, l1)) (omega (arith, l3, same))
+          (goes.by second ds t (omega arith) wide (front_sits whole kept second b c rest)) (λ u es drops holds.
+          let still = still_room whole kept (end_of second) (end_of third) ds es holds wide in
+          evaluated_does whole kept (end_of third) (end_of last) from to (end_of third) (end_of last) next es u (test u.storage) (done_if go u)
+          (omega (arith, l1, l2)) (omega (arith, same))
+          (tests.by third es u (back whole second b c rest.stands)) (λ truth gs stands is.
+          moved_from whole kept from to (end_of last) (end_of (joined before (joined a (joined b c)))) next gs u (done_if go u truth) same
+          (h truth gs u (omega arith) (still_room whole kept (end_of third) (end_of last) es gs stands still) is))));
     }
 
     -- the same where the test comes behind each turn, and `onward` where it is false
@@ -143,7 +155,8 @@ module _ (whole : Code) where
     abbrev ways_piece : Piece
     ways_piece = either_piece nothing_piece (both onward_piece clear)
 
-    clears : (before : Code) (cs : Own) (s : State) → Stands whole before (clear before) → Comes whole (end_of before) cs s (end_of (joined before (clear before))) (record cs { truth = false }) s
+    clears : (before : Code) (cs : Own) (s : State) → Stands whole before (clear before)
+        → Comes whole (end_of before) cs s (end_of (joined before (clear before))) (record cs { truth = false }) s
     clears before cs s st =
         let next : end_of before + 1 ≡ end_of (joined before (clear before)) = sym (length-append before.instructions (clear before).instructions) in
         subst (λ (p : ℕ). Comes whole (end_of before) cs s p (record cs { truth = false }) s) next
@@ -151,18 +164,20 @@ module _ (whole : Code) where
         (λ k. one_step whole (end_of before) cs s (Data i.ClearTruth) (first_stands whole before (clear before) (Data i.ClearTruth) [] refl st) k))
 
     -- Behind the test: nothing where it was true, and else `onward`, behind which the truth is false.
-    ways_do : (before part : Code) (w : Ways whole nothing_piece (both onward_piece clear) before part) (from to next : ℕ) (cs : Own) (s : State) (go : State → Outcome) (truth : Bool)
+    ways_do : (before part : Code) (w : Ways whole nothing_piece (both onward_piece clear) before part) → Sits whole kept before part
+        → (from to next : ℕ) (cs : Own) (s : State) (go : State → Outcome) (truth : Bool)
         → from ≤ end_of before → end_of (joined before part) ≤ to → s.budget < depth → IsRoom whole cs → cs.truth ≡ truth
-        → ((now : Bool) (ds : Own) (t : State) → t.budget ≤ s.budget → IsRoom whole ds → ds.truth ≡ now → Does whole from to (end_of (joined before part)) ds t next (done_if go t now))
-        → Does whole from to (end_of before) cs s next (done_if (λ t. then_do (onward t) go) s truth)
-    ways_do before part w from to next cs s go true low high below room is h =
+        → ((now : Bool) (ds : Own) (t : State) → t.budget ≤ s.budget → IsRoom whole ds → ds.truth ≡ now → Does whole kept from to (end_of (joined before part)) ds t next (done_if go t now))
+        → Does whole kept from to (end_of before) cs s next (done_if (λ t. then_do (onward t) go) s truth)
+    ways_do before part w sits from to next cs s go true low high below room is h =
         let end = end_of (joined before part) in
         let begin = end_of w.inner in
         let same : end_of (joined w.inner nothing) ≡ begin = ap end_of (joined_nothing w.inner) in
-        after whole from to (end_of before) begin next cs cs s s (Done s) (keeps_all from to cs) (w.to_first cs s is)
-        (moved_from whole from to begin (end_of (joined w.inner nothing)) next cs s (Done s) same
-        (after whole from to (end_of (joined w.inner nothing)) end next cs cs s s (Done s) (keeps_all from to cs) (w.from_first cs s) (h true cs s (omega arith) room is)))
-    ways_do before part w from to next cs s go false low high below room is h =
+        after whole kept from to (end_of before) begin next cs cs s s (Done s) (keeps_all kept from to cs) (w.to_first cs s is)
+        (moved_from whole kept from to begin (end_of (joined w.inner nothing)) next cs s (Done s) same
+        (after whole kept from to (end_of (joined w.inner nothing)) end next cs cs s s (Done s) (keeps_all kept from to cs) (w.from_first cs s)
+        (h true cs s (omega arith) room is)))
+    ways_do before part w sits from to next cs s go false low high below room is h =
         let end = end_of (joined before part) in
         let begin = end_of w.outer in
         let a = onward_piece w.outer in
@@ -171,24 +186,29 @@ module _ (whole : Code) where
         let l1 = length-append w.outer.instructions a.instructions in
         let l2 = length-append second.instructions b.instructions in
         let same = ap end_of (joined_assoc w.outer a b) in
-        after whole from to (end_of before) begin next cs cs s s (then_do (onward s) go) (keeps_all from to cs) (w.to_second cs s is)
-        (then_does whole begin (end_of second) from to begin (end_of second) next cs s (onward s) go (omega (arith, w.second_begins)) (omega (arith, l2, same, w.second_ends))
-        (goes.by w.outer cs s below room (front whole w.outer a b w.second_stands)) (λ t ds falls keeps.
+        after whole kept from to (end_of before) begin next cs cs s s (then_do (onward s) go) (keeps_all kept from to cs) (w.to_second cs s is)
+        (then_does whole kept begin (end_of second) from to begin (end_of second) next cs s (onward s) go (omega (arith, w.second_begins))
+        (omega (arith, l2, same, w.second_ends))
+        (goes.by w.outer cs s below room
+        (front_sits whole kept w.outer a b
+        (within_sits whole kept before part w.outer (joined a b) sits w.second_stands w.second_begins w.second_ends))) (λ t ds falls keeps.
         let es = record ds { truth = false } in
-        let still = still_room whole begin (end_of second) cs ds keeps room in
-        after whole from to (end_of second) (end_of (joined second b)) next ds es t t (go t) (record { count = refl; by = λ k outside. refl; line = λ e. e })
+        let still = still_room whole kept begin (end_of second) cs ds keeps room in
+        after whole kept from to (end_of second) (end_of (joined second b)) next ds es t t (go t)
+        (record { count = refl; by = λ k is outside. refl; line = λ e. e; returns = refl })
         (clears second ds t (back whole w.outer a b w.second_stands))
-        (moved_from whole from to (end_of (joined second b)) (end_of (joined w.outer (joined a b))) next es t (go t) (sym same)
-        (after whole from to (end_of (joined w.outer (joined a b))) end next es es t t (go t) (keeps_all from to es) (w.from_second es t)
+        (moved_from whole kept from to (end_of (joined second b)) (end_of (joined w.outer (joined a b))) next es t (go t) (sym same)
+        (after whole kept from to (end_of (joined w.outer (joined a b))) end next es es t t (go t) (keeps_all kept from to es) (w.from_second es t)
         (h false es t (omega arith) (record { counters = still.counters; line = still.line }) refl)))))
 
-    module _ (blind_test : Blind test_piece) (blind_onward : Blind onward_piece) (blind_body : Blind body_piece) where
+    module _ (blind_test : Blind test_piece) (blind_onward : Blind onward_piece) (blind_body : Blind turn_piece) where
       -- with at most `depth` turns, where less than that is left of the budget
-      until_before_does : (most : ℕ) → depth ≡ most → Repeats whole depth (until_before line most test onward body) (until_before_piece line test_piece onward_piece body_piece)
-      until_before_does zero is = record { by = λ before cs s below room st. absurd (omega (arith, is)) }
+      until_before_does : (most : ℕ) → depth ≡ most
+          → Repeats whole kept depth (until_before line most test onward body) (until_before_piece test_piece onward_piece turn_piece)
+      until_before_does zero is = record { by = λ before cs s below room sits. absurd (omega (arith, is)) }
       until_before_does (suc left) is = record {
-        by = λ before cs s below room st.
-            let turns = turning_piece line (both body_piece (both onward_piece test_piece)) in
+        by = λ before cs s below room sits.
+            let turns = turning_piece turn_piece (both onward_piece test_piece) in
             let go : State → Outcome = λ t. spend line t (rest_before left) in
             let a = test_piece before in
             let second = joined before a in
@@ -197,51 +217,63 @@ module _ (whole : Code) where
             let l1 = length-append before.instructions a.instructions in
             let l2 = length-append second.instructions b.instructions in
             let same = ap end_of (joined_assoc before a b) in
-            let none : Repeats whole depth Done nothing_piece = record { by = λ now ds t less wide here. nothing_does whole now ds t } in
-            let some : Repeats whole depth go turns = record {
+            let none : Repeats whole kept depth Done nothing_piece = record { by = λ now ds t less wide here. nothing_does whole kept now ds t } in
+            let some : Repeats whole kept depth go turns = record {
               by = λ now ds t less wide here.
-                  turns_do line depth turn_before (both body_piece (both onward_piece test_piece)) turn_before_does rest_before (λ n u. refl) now here left ds t (omega (arith, is)) less wide;
+                  turns_do line depth turn_before (both turn_piece (both onward_piece test_piece)) turn_before_does rest_before
+                  (λ n. refl) now here left ds t (omega (arith, is)) less wide;
             } in
-            evaluated_does whole (end_of before) (end_of second) (end_of before) next (end_of before) (end_of second) next cs s (test s.storage) (done_if go s) (omega arith) (omega (arith, l2, same))
-            (tests.by before cs s (front whole before a b st)) (λ truth ds keeps held.
-            behind whole before a b ds s (done_if go s truth)
-            (subst (λ (now : Bool). PartDoes whole second b ds s (done_if go s now)) held
-            (either_does whole depth nothing_piece turns (λ now t. done_if go t now) none some nothing_blind (turn_before_blind line test_piece onward_piece body_piece blind_test blind_onward blind_body) second ds s below
-            (still_room whole (end_of before) (end_of second) cs ds keeps room) (back whole before a b st))));
+            evaluated_does whole kept (end_of before) (end_of second) (end_of before) next (end_of before) (end_of second) next cs s (test s.storage)
+            (done_if go s) (omega arith) (omega (arith, l2, same))
+            (tests.by before cs s (front whole before a b sits.stands)) (λ truth ds keeps held.
+            behind whole kept before a b ds s (done_if go s truth)
+            (subst (λ (now : Bool). PartDoes whole kept second b ds s (done_if go s now)) held
+            (either_does whole kept depth nothing_piece turns (λ now t. done_if go t now) none some nothing_blind
+            (turn_before_blind test_piece onward_piece turn_piece blind_test blind_onward blind_body) second ds s below
+            (still_room whole kept (end_of before) (end_of second) cs ds keeps room) (back_sits whole kept before a b sits))));
       }
 
-      turn_after_does : TurnDoes depth turn_after (both body_piece (both test_piece ways_piece))
+      turn_after_does : TurnDoes line depth turn_after (both turn_piece (both test_piece ways_piece))
       turn_after_does = record {
-        by = λ before from to next cs s go low high below room st h.
-            let a = body_piece before in
+        by = λ before from to next cs s go low high below room sits h.
+            let a = turn_piece before in
             let second = joined before a in
             let b = test_piece second in
             let third = joined second b in
             let c = ways_piece third in
             let last = joined third c in
-            let rest = back whole before a (joined b c) st in
-            let same : end_of (joined before (joined a (joined b c))) ≡ end_of last = sym (ap end_of (joined_assoc before a (joined b c))) ∙ sym (ap end_of (joined_assoc second b c)) in
+            let rest = back_sits whole kept before a (joined b c) sits in
+            let same : end_of (joined before (joined a (joined b c))) ≡ end_of last = sym (ap end_of (joined_assoc before a (joined b c))) ∙ sym
+            (ap end_of (joined_assoc second b c)) in
             let l1 = length-append before.instructions a.instructions in
             let l2 = length-append second.instructions b.instructions in
             let l3 = length-append third.instructions c.instructions in
             let more : State → Outcome = λ t. then_do (onward t) go in
-            then_does whole (end_of before) (end_of second) from to (end_of before) (end_of second) next cs s (body s) (unless_true test more) low (omega (arith, l2, l3, same))
-            (performs.by before cs s below room (front whole before a (joined b c) st)) (λ t ds falls keeps.
-            let wide = still_room whole (end_of before) (end_of second) cs ds keeps room in
-            evaluated_does whole (end_of second) (end_of third) from to (end_of second) (end_of third) next ds t (test t.storage) (done_if more t) (omega (arith, l1)) (omega (arith, l3, same))
-            (tests.by second ds t (front whole second b c rest)) (λ truth es holds is.
-            ways_do third c (ways whole nothing_piece (both onward_piece clear) nothing_blind (onward_blind line test_piece onward_piece body_piece blind_test blind_onward blind_body) third (back whole second b c rest))
-            from to next es t go truth (omega (arith, l1, l2)) (omega (arith, same)) (omega arith) (still_room whole (end_of second) (end_of third) ds es holds wide) is (λ now gs u drops still was.
-            moved_from whole from to (end_of last) (end_of (joined before (joined a (joined b c)))) next gs u (done_if go u now) same (h now gs u (omega arith) still was))));
+            spend_does whole kept (end_of before) (end_of second) from to line (end_of before) (end_of second) next cs s body
+            (unless_true test more) runs low (omega (arith, l2, l3, same))
+            (performs.by before cs s below room (front_sits whole kept before a (joined b c) sits)) (λ t ds falls keeps.
+            let wide = still_room whole kept (end_of before) (end_of second) cs ds keeps room in
+            evaluated_does whole kept (end_of second) (end_of third) from to (end_of second) (end_of third) next ds t (test t.storage)
+            (done_if more t) (omega (arith, l1)) (omega (arith, l3, same))
+            (tests.by second ds t (front whole second b c rest.stands)) (λ truth es holds is.
+            ways_do third c (ways whole nothing_piece (both onward_piece clear) nothing_blind
+            (onward_blind test_piece onward_piece turn_piece blind_test blind_onward blind_body) third (back whole second b c rest.stands))
+            (back_sits whole kept second b c rest) from to next es t go truth (omega (arith, l1, l2)) (omega (arith, same)) (omega arith)
+            (still_room whole kept (end_of second) (end_of third) ds es holds wide) is (λ now gs u drops still was.
+            moved_from whole kept from to (end_of last) (end_of (joined before (joined a (joined b c)))) next gs u (done_if go u now) same
+            (h now gs u (omega arith) still was))));
       }
 
-      until_after_does : (most : ℕ) → depth ≡ most → Repeats whole depth (until_after line most test onward body) (until_after_piece line test_piece onward_piece body_piece)
-      until_after_does zero is = record { by = λ before cs s below room st. absurd (omega (arith, is)) }
+      until_after_does : (most : ℕ) → depth ≡ most
+          → Repeats whole kept depth (until_after line most test onward body) (until_after_piece test_piece onward_piece turn_piece)
+      until_after_does zero is = record { by = λ before cs s below room sits. absurd (omega (arith, is)) }
       until_after_does (suc left) is = record {
-        by = λ before cs s below room st.
-            turns_do line depth turn_after (both body_piece (both test_piece ways_piece)) turn_after_does rest_after (λ n u. refl) before st left cs s (omega (arith, is)) below room;
+        by = λ before cs s below room sits.
+            turns_do line depth turn_after (both turn_piece (both test_piece ways_piece)) turn_after_does rest_after (λ n. refl) before sits left cs s
+            (omega (arith, is)) below room;
       }
 
-      pub until_from_does : (when : TestTime) → Repeats whole depth (until_from when line depth test onward body) (until_from_piece when line test_piece onward_piece body_piece)
+      pub until_from_does : (when : TestTime)
+          → Repeats whole kept depth (until_from when line depth test onward body) (until_from_piece when test_piece onward_piece turn_piece)
       until_from_does Before = until_before_does depth refl
       until_from_does After = until_after_does depth refl

@@ -1,25 +1,27 @@
--- A machine can run the code of a program that keeps the rules, and its run is what the program means.
-use Rattle.std.proofs.Common.{◌≡◌, ℕ, zero, suc, ◌+◌, ◌-◌, ◌*◌, ◌≤◌, List, [], ◌∷◌, ◌++◌, length, map, Option, Some, None, refl, sym, ap, ◌∙◌, subst, arith, length-append, All}
-use Rattle.std.specs.Prelude.{slice_get}
+-- A machine can run the code of a program that keeps the rules.
+use Rattle.std.proofs.Common.{◌≡◌, ℕ, zero, suc, ◌+◌, ◌-◌, ◌*◌, ◌≤◌, List, [], ◌∷◌, ◌++◌, length, map, Option, Some, None, refl, sym, ap, ◌∙◌, subst, inl, arith, length-append, All}
 use Rattle.std.specs.List.{AllByRecursion}
-use Rattle.std.proofs.lemmas.List.{append-nil, length-replicate}
-use Rattle.std.proofs.lemmas.List.Elements.{All-from_recursion}
+use Rattle.std.specs.Prelude.{Bool, slice_get, slice_index}
 use Rattle.std.proofs.lemmas.Option.{slice_get_within, get_or_from_slice_get, same_Some}
+use Rattle.std.proofs.lemmas.List.{append-nil}
+use Rattle.std.proofs.lemmas.List.Elements.{All-from_recursion, recursion_from_All}
 use Rattle.picture.specs.declared.picture.Picture.{Picture}
 use Rattle.items.specs.declared.item.Item.{Item}
+use Rattle.perform_order.specs.declared.performed.PerformedRange.{PerformedRange}
+use Rattle.perform_order.specs.Order.{IsRange, Falls, heights, AreHeights}
 use Rattle.source_tree.specs.declared.table.Dimension.{Dimension}
 use Rattle.source_tree.specs.declared.program.Program.{Program}
 use Rattle.source_tree.specs.declared.program.Section.{Section}
+use Rattle.source_tree.specs.declared.program.Paragraph.{Paragraph}
 use Rattle.source_tree.specs.Broken.{Broken, each}
 use Rattle.source_tree.specs.EntryRules.{entry_rules}
-use Rattle.source_tree.specs.Given.{Given}
-use Rattle.source_tree.specs.Places.{Placed, items_of}
-use Rattle.source_tree.specs.Rules.{paragraph_rules, section_rules, sections_rules, procedure_rules, program_rules}
-use Rattle.source_tree.specs.Setting.{setting}
-use Rattle.source_tree.specs.State.{State}
-use Rattle.source_tree.specs.Storage.{Storage}
+use Rattle.source_tree.specs.Places.{Placed}
 use Rattle.source_tree.specs.Starts.{areas_at_start}
-use Rattle.source_tree.specs.Meaning.{start, paragraphs_in, paragraphs, meaning}
+use Rattle.source_tree.specs.PerformRules.{procedure_name_rules}
+use Rattle.source_tree.specs.Procedures.{Range, paragraphs_or_one, paragraphs_in}
+use Rattle.source_tree.specs.Recursion.{performed, HasOrder}
+use Rattle.source_tree.specs.Rules.{paragraph_rules, section_rules, sections_rules, procedure_rules, all_permitted, program_rules}
+use Rattle.source_tree.specs.Setting.{Scope, paragraphs, scope}
 use Rattle.initial_storage.specs.Formed as formed
 use Rattle.initial_storage.specs.Reach.{last_offset}
 use Rattle.initial_storage.specs.Reach as reach
@@ -38,24 +40,22 @@ use Rattle.data_instructions.specs.Shapes.{empty, and_then, effect}
 use Rattle.data_instructions.proofs.Known.{and_then_some, parts}
 use Rattle.code_image.specs.declared.code.Code.{Code}
 use Rattle.code_image.specs.declared.instruction.Instruction.{Instruction}
-use Rattle.code_image.specs.declared.instruction.Instruction.TheVariants.{Tick, Show, Stop, Count, Turn, Accept, Date, Branch, Jump, Join, Data}
+use Rattle.code_image.specs.declared.instruction.Instruction.TheVariants.{Tick, Show, Stop, Count, Turn, Accept, Date, Branch, Jump, Join, Perform, Back, Data}
 use Rattle.code_image.specs.Known.{known_after, known_along}
-use Rattle.code_image.specs.Demands.{NamesData, NamesCounter, IsAddress, IsVerified}
-use Rattle.code_image.specs.Points.{nothing_own, start_state}
-use Rattle.code_image.specs.Table.{exec_code, Runs}
-use Rattle.codegen.specs.Pieces.{nothing, joined, in_order}
+use Rattle.code_image.specs.Demands.{NamesData, NamesCounter, NamesParagraph, IsAddress, StartsAt, AllStart, performed_from, performed as performed_instructions, HasOrder as HasOrderCode, IsVerified}
+use Rattle.codegen.specs.Pieces.{in_order}
 use Rattle.codegen.specs.Layout.{paragraph_piece, section_piece, end_piece, storage_code, code_of}
-use Rattle.codegen.proofs.Pieces.{joined_assoc, joined_nothing, flat}
 use Rattle.codegen.proofs.Standing.{Stands, at_seam}
-use Rattle.codegen.proofs.Codes.{left_none, right_none}
-use Rattle.codegen.proofs.Running.{at}
-use Rattle.codegen.proofs.Simulation.{range_ends}
 use Rattle.codegen.proofs.Flowing.{along_append}
-use Rattle.codegen.proofs.Flows.{sections_flow}
-use Rattle.codegen.proofs.Straight.{all_both, IsSent}
-use Rattle.codegen.proofs.Leading.{all_weaker, all_lead, more_counters, Meets, both_meet}
 use Rattle.codegen.proofs.ConditionValues.{conditions_formed}
-use Rattle.codegen.proofs.Demands.{sections_meet, end_meets_all}
+use Rattle.codegen.proofs.Codes.{left_none, right_none}
+use Rattle.codegen.proofs.Pieces.{flat}
+use Rattle.codegen.proofs.Straight.{all_both, IsSent}
+use Rattle.codegen.proofs.Leading.{all_weaker, more_counters, all_lead, both_lead, all_stay, Names}
+use Rattle.codegen.proofs.Ranges.{EndsWithin, procedures_end}
+use Rattle.codegen.proofs.Paragraphs.{performed_append, starts_stay, start_at, starts_within, AreParagraphs, paragraphs_lie}
+use Rattle.codegen.proofs.Flowing.{Flows}
+use Rattle.codegen.proofs.Flows.{paragraphs_flows}
 
 all_at : {A : Type 0} (P : A → Type 0) (xs : List A) → All P xs → (k : ℕ) (x : A) → slice_get xs k ≡ Some x → P x
 all_at P xs all k x here = subst P (get_or_from_slice_get xs k x x here) (all k x (slice_get_within xs k x here))
@@ -71,7 +71,8 @@ map_at f (y ∷ ys) zero x here = ap (λ z. Some (f z)) (same_Some y x here)
 map_at f (y ∷ ys) (suc k) x here = map_at f ys k x here
 
 -- what an entry of a mapped list comes from
-mapped_from : {A B : Type 0} (f : A → B) (xs : List A) (k : ℕ) (y : B) → slice_get (map f xs) k ≡ Some y → (x : A) × (slice_get xs k ≡ Some x) × (f x ≡ y)
+mapped_from : {A B : Type 0} (f : A → B) (xs : List A) (k : ℕ) (y : B) → slice_get (map f xs) k ≡ Some y
+    → (x : A) × (slice_get xs k ≡ Some x) × (f x ≡ y)
 mapped_from f [] k y here = absurd cc
 mapped_from f (x ∷ xs) zero y here = (x, refl, same_Some (f x) y here)
 mapped_from f (x ∷ xs) (suc k) y here = mapped_from f xs k y here
@@ -97,7 +98,8 @@ named_by tables (i.Calculate one) s after e = tt
 named_by tables (i.Store rounded keep) s after e = tt
 named_by tables i.ClearTruth s after e = tt
 named_by tables (i.Test (t.CompareLiteral one literal)) s after e =
-    let found = and_then_some (slice_get tables.senders literal.number) _ after.sender (parts tables (i.Test (t.CompareLiteral one literal)) s after e).2 in
+    let found = and_then_some (slice_get tables.senders literal.number) _ after.sender
+    (parts tables (i.Test (t.CompareLiteral one literal)) s after e).2 in
     slice_get_within tables.senders literal.number found.0 found.1
 named_by tables (i.Test (t.OrEqual literal)) s after e =
     let found = and_then_some (slice_get tables.senders literal.number) _ after.sender (parts tables (i.Test (t.OrEqual literal)) s after e).2 in
@@ -127,8 +129,11 @@ named_after tables Date s after e = tt
 named_after tables (Branch to) s after e = tt
 named_after tables (Jump to) s after e = tt
 named_after tables Join s after e = tt
+named_after tables (Perform line first last) s after e = tt
+named_after tables (Back paragraph) s after e = tt
 
-named_along : (tables : DataTables) (all : List Instruction) (s last : Shape) → known_along tables all s ≡ Some last → AllByRecursion (NamesData tables) all
+named_along : (tables : DataTables) (all : List Instruction) (s last : Shape) → known_along tables all s ≡ Some last
+    → AllByRecursion (NamesData tables) all
 named_along tables [] s last e = tt
 named_along tables (one ∷ more) s last e =
     let found = and_then_some (known_after tables one s) (known_along tables more) last e in
@@ -165,119 +170,196 @@ each_append rules [] ys a b = b
 each_append rules (x ∷ xs) ys a b =
     ap (λ l. l ++ each rules (xs ++ ys)) (left_none (rules x) (each rules xs) a) ∙ each_append rules xs ys (right_none (rules x) (each rules xs) a) b
 
-paragraphs_keep : (items : List Placed) (sections : List Section) → each (section_rules items) sections ≡ [] → each (paragraph_rules items) (paragraphs_in sections) ≡ []
-paragraphs_keep items [] e = refl
-paragraphs_keep items (one ∷ more) e =
-    each_append (paragraph_rules items) one.paragraphs (paragraphs_in more) (left_none (section_rules items one) (each (section_rules items) more) e)
-    (paragraphs_keep items more (right_none (section_rules items one) (each (section_rules items) more) e))
+-- a section without paragraphs has one without sentences
+section_keeps : (scope : Scope) (permits : Range → Bool) (all : List Paragraph) → each (paragraph_rules scope permits) all ≡ []
+    → each (paragraph_rules scope permits) (paragraphs_or_one all) ≡ []
+section_keeps scope permits [] e = refl
+section_keeps scope permits (one ∷ more) e = e
+
+pub paragraphs_keep : (scope : Scope) (permits : Range → Bool) (sections : List Section) → each (section_rules scope permits) sections ≡ []
+    → each (paragraph_rules scope permits) (paragraphs_in sections) ≡ []
+paragraphs_keep scope permits [] e = refl
+paragraphs_keep scope permits (one ∷ more) e =
+    each_append (paragraph_rules scope permits) (paragraphs_or_one one.paragraphs) (paragraphs_in more)
+    (section_keeps scope permits one.paragraphs (left_none (section_rules scope permits one) (each (section_rules scope permits) more) e))
+    (paragraphs_keep scope permits more (right_none (section_rules scope permits one) (each (section_rules scope permits) more) e))
 
 -- the entries and the sections of a program that keeps the rules
 pub entries_kept : (program : Program) → program_rules program ≡ [] → entry_rules program.storage ≡ []
 entries_kept program keep =
     let entries = entry_rules program.storage in
-    let sections = sections_rules (items_of program.storage) program.sections in
-    left_none entries sections (left_none (entries ++ sections) (procedure_rules program) keep)
+    let names = procedure_name_rules program.sections in
+    let sections = sections_rules (scope program) all_permitted program.sections in
+    left_none entries names (left_none (entries ++ names) sections (left_none (entries ++ names ++ sections) (procedure_rules program) keep))
 
-pub sections_kept : (program : Program) → program_rules program ≡ [] → sections_rules (items_of program.storage) program.sections ≡ []
+pub sections_kept : (program : Program) → program_rules program ≡ [] → sections_rules (scope program) all_permitted program.sections ≡ []
 sections_kept program keep =
     let entries = entry_rules program.storage in
-    let sections = sections_rules (items_of program.storage) program.sections in
-    right_none entries sections (left_none (entries ++ sections) (procedure_rules program) keep)
+    let names = procedure_name_rules program.sections in
+    let sections = sections_rules (scope program) all_permitted program.sections in
+    right_none (entries ++ names) sections (left_none (entries ++ names ++ sections) (procedure_rules program) keep)
+
+all_so : (all : List PerformedRange) → AllByRecursion (λ (one : PerformedRange). Unit {0}) all
+all_so [] = tt
+all_so (one ∷ more) = (tt, all_so more)
 
 module _ (program : Program) (keep : program_rules program ≡ []) where
+  abbrev found : Scope
+  found = scope program
+
   abbrev items : List Placed
-  items = items_of program.storage
+  items = found.items
 
   abbrev code : Code
   code = code_of program
 
+  abbrev storage : Code
+  storage = storage_code program.storage
+
   abbrev body : Code
-  body = in_order (section_piece items) program.sections (storage_code program.storage)
+  body = in_order (section_piece found) program.sections storage
+
+  -- the same, by paragraphs
+  abbrev paragraphs_code : Code
+  paragraphs_code = in_order (paragraph_piece found) (paragraphs program) storage
+
+  abbrev count : ℕ
+  count = length (paragraphs program)
 
   entries_keep : entry_rules program.storage ≡ []
   entries_keep = entries_kept program keep
 
-  sections_keep : each (section_rules items) program.sections ≡ []
-  sections_keep = sections_kept program keep
+  -- its paragraphs keep the rules
+  pub all_keep : each (paragraph_rules found all_permitted) (paragraphs program) ≡ []
+  all_keep = paragraphs_keep found all_permitted program.sections (sections_kept program keep)
 
-  met : Meets (storage_code program.storage) body
-  met = sections_meet items (conditions_formed program.storage entries_keep) program.sections (storage_code program.storage) sections_keep
+  -- procedures lie among its paragraphs
+  pub within : AllByRecursion (EndsWithin count) found.procedures
+  within = procedures_end count 0 program.sections (omega arith)
 
-  whole_met : Meets (storage_code program.storage) (joined body end_piece)
-  whole_met = both_meet (storage_code program.storage) body end_piece met (end_meets_all (joined (storage_code program.storage) body))
+  pub is_flat : body ≡ paragraphs_code
+  is_flat = flat found program.sections storage
 
-  areas_are : code.tables.areas ≡ areas_at_start program.storage
-  areas_are = append-nil (areas_at_start program.storage ++ body.tables.areas) ∙ ap (λ l. areas_at_start program.storage ++ l) met.names.areas ∙ append-nil (areas_at_start program.storage)
+  met : (P : PerformedRange → Type 0) → AllByRecursion P (performed program) → AreParagraphs count P count storage body
+  met P q =
+      subst (AreParagraphs count P count storage) (sym is_flat)
+      (paragraphs_lie count P found all_permitted (conditions_formed program.storage entries_keep) within (paragraphs program) storage
+      (record { ends = refl; front = inl refl }) (omega arith) all_keep q)
+
+  -- the names of its parts
+  names : Names storage body
+  names = (met (λ one. Unit {0}) (all_so (performed program))).names
+
+  pub areas_are : code.tables.areas ≡ areas_at_start program.storage
+  areas_are =
+      append-nil (areas_at_start program.storage ++ body.tables.areas) ∙ ap (λ l. areas_at_start program.storage ++ l) names.areas
+      ∙ append-nil (areas_at_start program.storage)
 
   items_are : code.tables.items ≡ map data_item items
-  items_are = append-nil (map data_item items ++ body.tables.items) ∙ ap (λ l. map data_item items ++ l) met.names.items ∙ append-nil (map data_item items)
+  items_are =
+      append-nil (map data_item items ++ body.tables.items) ∙ ap (λ l. map data_item items ++ l) names.items ∙ append-nil (map data_item items)
 
   senders_are : code.tables.senders ≡ body.tables.senders
   senders_are = append-nil body.tables.senders
 
-  item_entries : (n : ℕ) (one : Placed) → slice_get items n ≡ Some one → slice_get code.tables.items n ≡ Some (data_item one)
+  pub item_entries : (n : ℕ) (one : Placed) → slice_get items n ≡ Some one → slice_get code.tables.items n ≡ Some (data_item one)
   item_entries n one here = ap (λ l. slice_get l n) items_are ∙ map_at data_item items n one here
 
   item_lies : (n : ℕ) (one : Placed) → slice_get items n ≡ Some one → reach.Lies code.tables.areas one
-  item_lies n one here = subst (λ areas. reach.Lies areas one) (sym areas_are) (all_at (reach.Lies (areas_at_start program.storage)) items (items_lie program.storage entries_keep) n one here)
+  item_lies n one here =
+      subst (λ areas. reach.Lies areas one) (sym areas_are)
+      (all_at (reach.Lies (areas_at_start program.storage)) items (items_lie program.storage entries_keep) n one here)
 
-  order : IsTables code.tables
+  pub order : IsTables code.tables
   order = record {
     areas = λ k area here. small_areas program.storage entries_keep k area (sym (ap (λ l. slice_get l k) areas_are) ∙ here);
     items = λ k one here.
         let from = mapped_from data_item items k one (sym (ap (λ l. slice_get l k) items_are) ∙ here) in
         subst (IsDataItem code.tables.areas) from.2
-        (is_data_item code.tables.areas from.0 (all_at formed.IsFormed items (all_formed program.storage entries_keep) k from.0 from.1) (item_lies k from.0 from.1));
-    senders = λ k one here. each_at IsSent body.tables.senders met.names.senders k one (sym (ap (λ l. slice_get l k) senders_are) ∙ here);
+        (is_data_item code.tables.areas from.0 (all_at formed.IsFormed items (all_formed program.storage entries_keep) k from.0 from.1)
+        (item_lies k from.0 from.1));
+    senders = λ k one here. each_at IsSent body.tables.senders names.senders k one (sym (ap (λ l. slice_get l k) senders_are) ∙ here);
   }
 
-  lies : (n : ℕ) (one : Placed) → slice_get items n ≡ Some one → LiesWhole code.tables one
+  pub lies : (n : ℕ) (one : Placed) → slice_get items n ≡ Some one → LiesWhole code.tables one
   lies n one here = lies_whole code.tables one (item_lies n one here)
 
-  stands : Stands code (storage_code program.storage) body
-  stands = record { rest = end_piece; is = refl }
+  stands : Stands code storage paragraphs_code
+  stands = subst (Stands code storage) is_flat (record { rest = end_piece; is = refl })
 
   finds : known_along code.tables code.instructions empty ≡ Some empty
   finds =
-      let flow = (sections_flow items code item_entries order lies program.sections (storage_code program.storage) sections_keep stands).by None in
+      let flows = paragraphs_flows found all_permitted code item_entries order lies (paragraphs program) storage all_keep stands in
+      let flow = (subst (Flows code.tables) (sym is_flat) flows).by None in
       along_append code.tables body.instructions (Stop ∷ []) empty ∙ ap (λ o. and_then o (known_along code.tables (Stop ∷ []))) flow.1
 
-  pub verified : IsVerified code
-  verified =
-      let n = length-append body.instructions (Stop ∷ []) in
-      let one : length (Stop ∷ []) ≡ 1 = refl in
-      let count : length code.instructions - 1 ≡ length body.instructions = omega (arith, n, one) in
-      record {
-        tables = order;
-        within = record {
-          entries = All-from_recursion (NamesData code.tables) code.instructions (named_along code.tables code.instructions empty empty finds);
-          counters = All-from_recursion (NamesCounter (length code.instructions)) code.instructions
-              (all_weaker (NamesCounter (0 + length code.instructions)) (NamesCounter (length code.instructions)) (λ one h. more_counters _ _ one (omega arith) h) code.instructions whole_met.names.counters);
-          starts = All-from_recursion (IsAddress (length code.instructions)) code.starts
-              (all_both (IsAddress (length code.instructions)) body.starts []
-              (all_weaker (λ start. start ≤ 0 + length body.instructions) (IsAddress (length code.instructions)) (λ start h. omega (arith, n, one)) body.starts met.names.starts) tt);
-        };
-        shape = record {
-          leads = all_lead code.instructions whole_met.leads;
-          stops = ap (slice_get code.instructions) count ∙ at_seam body.instructions Stop [];
-          finds = record { last = empty; along = finds };
-        };
-      }
+  starts_are : code.starts ≡ body.starts
+  starts_are = append-nil body.starts
 
-  laid : Stands code (storage_code program.storage) (joined (in_order (paragraph_piece items) (paragraphs program) (storage_code program.storage)) end_piece)
-  laid = record {
-    rest = nothing;
-    is = joined_assoc (storage_code program.storage) body end_piece
-        ∙ ap (λ (c : Code). joined (storage_code program.storage) (joined c end_piece)) (flat items program.sections (storage_code program.storage))
-        ∙ sym (joined_nothing (joined (storage_code program.storage) (joined (in_order (paragraph_piece items) (paragraphs program) (storage_code program.storage)) end_piece)));
-  }
+  module _ (ordered : HasOrder program) where
+    abbrev all_heights : List ℕ
+    all_heights = ordered.0
 
-  -- the code begins with what the program does
-  begins : (given : Given) → start_state code given ≡ start program given
-  begins given = ap (λ (storage : Storage). record { budget = given.budget; line = 0; day = given.day; lines = given.lines; storage = storage; events = [] }) areas_are
+    lying : AreParagraphs count (Falls (heights all_heights)) count storage body
+    lying = met (Falls (heights all_heights)) (recursion_from_All (Falls (heights all_heights)) (performed program) ordered.1.fall)
 
-  pub runs : (given : Given) → Runs code given (meaning program given)
-  runs given =
-      let ends = range_ends code (setting program) item_entries order lies (suc given.budget) (paragraphs program) (storage_code program.storage) (nothing_own code) (start program given)
-      (paragraphs_keep items program.sections sections_keep) (omega arith) (record { counters = length-replicate (length code.instructions) 0; line = refl }) laid in
-      (ends.0, ap (λ (s : State). exec_code code ends.0 (at 0 (nothing_own code) s)) (begins given) ∙ ends.1)
+    so_many : length code.starts ≡ count
+    so_many = ap length starts_are ∙ lying.many_are
+
+    performs_are : performed_instructions code.instructions ≡ performed_from 0 body.instructions
+    performs_are = performed_append 0 body.instructions (Stop ∷ []) ∙ append-nil (performed_from 0 body.instructions)
+
+    in_order_all : HasOrderCode code
+    in_order_all = record {
+      ranges = All-from_recursion (IsRange (length code.starts)) (performed_instructions code.instructions)
+          (subst (λ n. AllByRecursion (IsRange n) (performed_instructions code.instructions)) (sym so_many)
+          (subst (AllByRecursion (IsRange count)) (sym performs_are) lying.ranges));
+      heights = all_heights;
+      fall = subst (λ n. AreHeights n (performed_instructions code.instructions) all_heights) (sym so_many) (record {
+        one_each = ordered.1.one_each;
+        below = ordered.1.below;
+        fall = All-from_recursion (Falls (heights all_heights)) (performed_instructions code.instructions)
+            (subst (AllByRecursion (Falls (heights all_heights))) (sym performs_are) lying.performed);
+      });
+    }
+
+    starts_lie : AllStart code
+    starts_lie = λ number lt.
+        let same = ap length starts_are in
+        let lying_there = start_at code.instructions 0 body.starts (starts_stay body.instructions (Stop ∷ []) 0 body.starts lying.starts) number
+        (omega (arith, lt, same)) in
+        let e : 0 + number ≡ number = omega arith in
+        subst (StartsAt code.instructions number) (ap (λ l. slice_index l number) (sym starts_are))
+        (subst (λ n. StartsAt code.instructions n (slice_index body.starts number)) e lying_there)
+
+    pub verified : IsVerified code
+    verified =
+        let n = length-append body.instructions (Stop ∷ []) in
+        let one : length (Stop ∷ []) ≡ 1 = refl in
+        let at_end : length code.instructions - 1 ≡ length body.instructions = omega (arith, n, one) in
+        record {
+          tables = order;
+          within = record {
+            entries = All-from_recursion (NamesData code.tables) code.instructions (named_along code.tables code.instructions empty empty finds);
+            counters = All-from_recursion (NamesCounter (length code.instructions)) code.instructions
+                (all_both (NamesCounter (length code.instructions)) body.instructions (Stop ∷ [])
+                (all_weaker (NamesCounter (0 + length body.instructions)) (NamesCounter (length code.instructions))
+                (λ one h. more_counters _ _ one (omega (arith, n)) h) body.instructions names.counters) (tt, tt));
+            paragraphs = All-from_recursion (NamesParagraph (length code.starts)) code.instructions
+                (subst (λ k. AllByRecursion (NamesParagraph k) code.instructions) (sym so_many)
+                (all_both (NamesParagraph count) body.instructions (Stop ∷ []) lying.paragraphs (tt, tt)));
+            starts = All-from_recursion (IsAddress (length code.instructions)) code.starts
+                (subst (AllByRecursion (IsAddress (length code.instructions))) (sym starts_are)
+                (all_weaker (λ start. start ≤ length body.instructions) (IsAddress (length code.instructions))
+                (λ start h. omega (arith, n, one, h)) body.starts (starts_within body.instructions 0 body.starts lying.starts)));
+          };
+          shape = record {
+            leads = all_lead code.instructions
+                (both_lead code.instructions 0 body.instructions (Stop ∷ [])
+                (all_stay body.instructions (Stop ∷ []) 0 body.instructions (omega arith) lying.leads) (tt, tt));
+            starts = starts_lie;
+            order = in_order_all;
+            stops = ap (slice_get code.instructions) at_end ∙ at_seam body.instructions Stop [];
+            finds = record { last = empty; along = finds };
+          };
+        }

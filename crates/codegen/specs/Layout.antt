@@ -12,7 +12,7 @@ use Rattle.source_tree.specs.declared.branching.Branching.TheVariants.{If}
 use Rattle.source_tree.specs.declared.ending.Ending.{Ending}
 use Rattle.source_tree.specs.declared.ending.Ending.TheVariants as ending
 use Rattle.source_tree.specs.declared.performing.Performed.{Performed}
-use Rattle.source_tree.specs.declared.performing.Performed.TheVariants.{Statements}
+use Rattle.source_tree.specs.declared.performing.Performed.TheVariants.{Procedures, Statements}
 use Rattle.source_tree.specs.declared.performing.Turns.{Turns}
 use Rattle.source_tree.specs.declared.performing.Turns.TheVariants.{Once, Times, Until}
 use Rattle.source_tree.specs.declared.performing.Performing.{Performing}
@@ -27,11 +27,13 @@ use Rattle.source_tree.specs.declared.program.Section.{Section}
 use Rattle.source_tree.specs.declared.program.Program.{Program}
 use Rattle.source_tree.specs.Performing.{turns_of}
 use Rattle.source_tree.specs.Places.{Placed, items_of}
+use Rattle.source_tree.specs.Procedures.{Range, paragraphs_or_one, range_of}
+use Rattle.source_tree.specs.Setting.{Scope, scope}
 use Rattle.source_tree.specs.Starts.{areas_at_start}
 use Rattle.data_instructions.specs.declared.tables.DataTables.{DataTables}
 use Rattle.data_instructions.specs.Codes.{data_item}
 use Rattle.code_image.specs.declared.code.Code.{Code}
-use Rattle.code_image.specs.declared.instruction.Instruction.TheVariants.{Tick, Stop, Count, Turn}
+use Rattle.code_image.specs.declared.instruction.Instruction.TheVariants.{Tick, Stop, Count, Turn, Perform, Back}
 use Rattle.codegen.specs.Pieces.{Piece, no_tables, nothing, joined, both, in_order, plain}
 use Rattle.codegen.specs.Meeting.{either_piece}
 use Rattle.source_tree.specs.Arithmetic.{is_there}
@@ -46,26 +48,33 @@ stop_run_piece line before = plain (Tick line ∷ Stop ∷ [])
 abbrev pub ending_piece : ℕ → Ending → Piece
 ending_piece line ending.StopRun = stop_run_piece line
 ending_piece line ending.Continue = tick_piece line
+ending_piece line ending.Exit = tick_piece line
 
--- A loop begins: it counts, at its own address, the turns after the first, and each turn uses one of the budget.
-abbrev pub loop_begin : ℕ → ℕ → Piece
-loop_begin line more before = plain (Count (record { number = length before.instructions }) more ∷ Tick line ∷ [])
+-- A loop begins: it counts, at its own address, the turns after the first.
+abbrev pub loop_begin : ℕ → Piece
+loop_begin more before = plain (Count (record { number = length before.instructions }) more ∷ [])
 
 -- the end of a turn of the loop that begins at this address
 abbrev pub loop_end : ℕ → Code
 loop_end begin = plain (Turn (record { number = begin }) (begin + 1) ∷ [])
 
--- so many turns
-abbrev pub times_piece : ℕ → ℕ → Piece → Piece
-times_piece line zero body before = nothing
-times_piece line (suc more) body before =
-    let begin = loop_begin line more before in joined begin (joined (body (joined before begin)) (loop_end (length before.instructions)))
+-- So many turns. A turn begins with what uses one of the budget.
+abbrev pub times_piece : ℕ → Piece → Piece
+times_piece zero turn before = nothing
+times_piece (suc more) turn before =
+    let begin = loop_begin more before in joined begin (joined (turn (joined before begin)) (loop_end (length before.instructions)))
 
--- how often, as the phrase of a PERFORM at this line says
+-- How often, as the phrase of a PERFORM at this line says. The PERFORM uses one of the budget, and so does each turn; without a phrase
+-- they are the same.
 abbrev pub turns_piece : List Placed → ℕ → Turns → Piece → Piece
-turns_piece items line Once body = body
-turns_piece items line (Times count) body = times_piece line (turns_of count) body
-turns_piece items line (Until one) body = until_piece items line one body
+turns_piece items line Once turn = turn
+turns_piece items line (Times count) turn = both (tick_piece line) (times_piece (turns_of count) turn)
+turns_piece items line (Until one) turn = both (tick_piece line) (until_piece items one turn)
+
+-- The paragraphs of a range are performed, at this line; where names name none, nothing is.
+abbrev pub range_piece : ℕ → Option Range → Piece
+range_piece line None before = plain (Tick line ∷ [])
+range_piece line (Some range) before = plain (Perform line (record { number = range.first }) (record { number = range.last }) ∷ [])
 
 abbrev pub moving_piece : List Placed → Moving → Piece
 moving_piece items (Move sender receivers) = move_piece items sender receivers
@@ -76,13 +85,14 @@ texts_piece items (Accept receiver) = accept_piece items receiver
 texts_piece items (AcceptDate receiver) = date_piece items receiver
 
 -- Statements that hold statements; `inside` is the code of those.
-module _ (items : List Placed) {S : Type 0} (inside : S → Piece) where
-  abbrev pub performed_piece : Performed S → Piece
-  performed_piece (Statements statements) = in_order inside statements
+module _ (scope : Scope) {S : Type 0} (inside : S → Piece) where
+  -- one turn of a PERFORM at this line, which uses one of the budget
+  abbrev pub turn_piece : ℕ → Performed S → Piece
+  turn_piece line (Procedures first last) = range_piece line (range_of scope.procedures first last)
+  turn_piece line (Statements statements) = both (tick_piece line) (in_order inside statements)
 
   abbrev pub performing_piece : ℕ → Performing S → Piece
-  performing_piece line one before =
-      joined (tick_piece line before) (turns_piece items line one.turns (performed_piece one.performed) (joined before (tick_piece line before)))
+  performing_piece line one = turns_piece scope.items line one.turns (turn_piece line one.performed)
 
   abbrev pub phrase_piece : Option (List S) → Piece
   phrase_piece None before = nothing
@@ -99,25 +109,25 @@ module _ (items : List Placed) {S : Type 0} (inside : S → Piece) where
 
   abbrev pub calculating_piece : ℕ → Arithmetic S → Piece
   calculating_piece line one =
-      both (tick_piece line) (both (arithmetic_piece items (is_there one.phrases.arose) one.operation) (phrases_piece one.phrases))
+      both (tick_piece line) (both (arithmetic_piece scope.items (is_there one.phrases.arose) one.operation) (phrases_piece one.phrases))
 
   abbrev pub branching_piece : ℕ → Branching S → Piece
   branching_piece line (If condition statements otherwise) =
-      both (tick_piece line) (both (condition_piece items condition) (either_piece (in_order inside statements) (phrase_piece otherwise)))
+      both (tick_piece line) (both (condition_piece scope.items condition) (either_piece (in_order inside statements) (phrase_piece otherwise)))
 
   -- a statement at this line, by its family
   abbrev pub verb_piece : ℕ → Verb S → Piece
-  verb_piece line (verb.Moving one) = both (tick_piece line) (moving_piece items one)
+  verb_piece line (verb.Moving one) = both (tick_piece line) (moving_piece scope.items one)
   verb_piece line (verb.Arithmetic one) = calculating_piece line one
   verb_piece line (verb.Branching one) = branching_piece line one
   verb_piece line (verb.Performing one) = performing_piece line one
-  verb_piece line (verb.Text one) = both (tick_piece line) (texts_piece items one)
+  verb_piece line (verb.Text one) = both (tick_piece line) (texts_piece scope.items one)
   verb_piece line (verb.Ending one) = ending_piece line one
 
-module _ (items : List Placed) where
+module _ (scope : Scope) where
   -- a statement, by the code of those that stand in it
   abbrev pub statement_layer : Statement-F Piece → Piece
-  statement_layer one = verb_piece items (λ piece. piece) one.place.line one.verb
+  statement_layer one = verb_piece scope (λ piece. piece) one.place.line one.verb
 
   unfoldable pub statement_piece : Statement → Piece
   statement_piece = fold-Statement Piece statement_layer
@@ -129,12 +139,18 @@ module _ (items : List Placed) where
 abbrev pub start_piece : Piece
 start_piece before = record { tables = no_tables; starts = length before.instructions ∷ []; instructions = [] }
 
-module _ (items : List Placed) where
+-- the end of the code paragraph of this number
+abbrev pub back_piece : ℕ → Piece
+back_piece number before = plain (Back (record { number = number }) ∷ [])
+
+module _ (scope : Scope) where
+  -- a paragraph, numbered by how many start before it
   abbrev pub paragraph_piece : Paragraph → Piece
-  paragraph_piece paragraph = both start_piece (in_order (sentence_piece items) paragraph.sentences)
+  paragraph_piece paragraph before =
+      both start_piece (both (in_order (sentence_piece scope) paragraph.sentences) (back_piece (length before.starts))) before
 
   abbrev pub section_piece : Section → Piece
-  section_piece section = in_order paragraph_piece section.paragraphs
+  section_piece section = in_order paragraph_piece (paragraphs_or_one section.paragraphs)
 
 -- the end of the last paragraph
 abbrev pub end_piece : Code
@@ -150,4 +166,4 @@ storage_code entries = record nothing { tables = storage_tables entries }
 abbrev pub code_of : Program → Code
 code_of program =
     let storage = storage_code program.storage in
-    joined (joined storage (in_order (section_piece (items_of program.storage)) program.sections storage)) end_piece
+    joined (joined storage (in_order (section_piece (scope program)) program.sections storage)) end_piece

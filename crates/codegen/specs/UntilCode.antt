@@ -18,21 +18,20 @@ use Rattle.codegen.specs.ConditionCode.{condition_piece}
 abbrev pub tick_piece : ℕ → Piece
 tick_piece line before = plain (Tick line ∷ [])
 
--- A turn uses one of the budget; where the truth is false behind it, the next one begins.
-abbrev pub turning_piece : ℕ → Piece → Piece
-turning_piece line turn before = both (both (tick_piece line) turn) (λ _. branch_code (length before.instructions)) before
+-- A turn, which begins with what uses one of the budget, and what comes behind it; where the truth is false then, the next turn begins.
+abbrev pub turning_piece : Piece → Piece → Piece
+turning_piece turn behind before = both (both turn behind) (λ _. branch_code (length before.instructions)) before
 
 -- The test stands before the first turn, and at the end of each.
-abbrev pub until_before_piece : ℕ → Piece → Piece → Piece → Piece
-until_before_piece line test onward body =
-    both test (either_piece nothing_piece (turning_piece line (both body (both onward test))))
+abbrev pub until_before_piece : Piece → Piece → Piece → Piece
+until_before_piece test onward turn = both test (either_piece nothing_piece (turning_piece turn (both onward test)))
 
 -- The test stands behind what is performed, and `onward` comes only where it is false, which it is said again then.
-abbrev pub until_after_piece : ℕ → Piece → Piece → Piece → Piece
-until_after_piece line test onward body =
-    turning_piece line (both body (both test (either_piece nothing_piece (both onward (work_piece i.ClearTruth)))))
+abbrev pub until_after_piece : Piece → Piece → Piece → Piece
+until_after_piece test onward turn =
+    turning_piece turn (both test (either_piece nothing_piece (both onward (work_piece i.ClearTruth))))
 
-abbrev pub until_from_piece : TestTime → ℕ → Piece → Piece → Piece → Piece
+abbrev pub until_from_piece : TestTime → Piece → Piece → Piece → Piece
 until_from_piece Before = until_before_piece
 until_from_piece After = until_after_piece
 
@@ -48,6 +47,6 @@ module _ (items : List Placed) where
   vary_on_piece None = nothing_piece
   vary_on_piece (Some one) = arithmetic_piece items false (vary_operation one)
 
-  abbrev pub until_piece : ℕ → Until → Piece → Piece
-  until_piece line one body =
-      both (vary_begin_piece one.varying) (until_from_piece one.test line (condition_piece items one.condition) (vary_on_piece one.varying) body)
+  abbrev pub until_piece : Until → Piece → Piece
+  until_piece one turn =
+      both (vary_begin_piece one.varying) (until_from_piece one.test (condition_piece items one.condition) (vary_on_piece one.varying) turn)

@@ -5,19 +5,21 @@ ghost use Rattle.source_tree.specs.declared.branching.Branching.TheVariants.{If}
 ghost use Rattle.source_tree.specs.Broken.{each};
 ghost use Rattle.source_tree.specs.ArithmeticRules.{operation_rules};
 ghost use Rattle.source_tree.specs.EntryRules.{entry_rules};
+ghost use Rattle.source_tree.specs.Procedures.{range_of};
 ghost use Rattle.source_tree.specs.Rules as rules;
+ghost use Rattle.source_tree.specs.Rules.{all_permitted};
 ghost use Rattle.source_tree.specs.Performing.{turns_of};
-ghost use Rattle.check_rules.specs.Named.{IsDeclared, items_in};
+ghost use Rattle.check_rules.specs.Named.{IsDeclared, items_in, scope_in};
 ghost use Rattle.codegen.specs.Pieces.{joined, both, in_order};
 ghost use Rattle.codegen.specs.UntilCode.{tick_piece};
-ghost use Rattle.codegen.specs.Layout.{moving_piece, texts_piece, stop_run_piece, branching_piece, ending_piece, loop_begin, loop_end, times_piece, turns_piece, performing_piece, phrase_piece, phrases_piece, calculating_piece, statement_piece, sentence_piece, start_piece, paragraph_piece, section_piece, end_piece};
+ghost use Rattle.codegen.specs.Layout.{moving_piece, texts_piece, stop_run_piece, branching_piece, ending_piece, loop_begin, loop_end, times_piece, range_piece, turn_piece, performing_piece, phrase_piece, phrases_piece, calculating_piece, statement_piece, sentence_piece, start_piece, back_piece, paragraph_piece, section_piece, end_piece};
 
 use crate::emitter::Emitter;
 use crate::phrases::{emit_branch, emit_jump, emit_meeting, has_phrase};
-use code_image::{Code, CounterIndex, Instruction};
+use code_image::{Code, CounterIndex, Instruction, ParagraphIndex};
 use source_tree::{
-    Arithmetic, Branching, Condition, Ending, Integer, Moving, Paragraph, Performed, Performing,
-    Phrases, Section, Sentence, Statement, Text, Turns, Verb,
+    Arithmetic, Branching, Condition, Ending, Integer, Moving, Name, Paragraph, Performed,
+    Performing, Phrases, Section, Sentence, Statement, Text, Turns, Verb,
 };
 use sqlite_items::Items;
 use std::alloc::AllocError;
@@ -51,8 +53,8 @@ fn count_of(integer: &Integer) -> u64
 }
 
 /// Answers the address at which each turn begins.
-fn emit_loop_begin(code: &mut Code, line: u32, more: u64) -> Result<usize, AllocError>
-    ensures code { OnOk result (code.new ≡ joined code.old (loop_begin line more code.old)) }
+fn emit_loop_begin(code: &mut Code, more: u64) -> Result<usize, AllocError>
+    ensures code { OnOk result (code.new ≡ joined code.old (loop_begin more code.old)) }
     ensures turn { IfOk result (λ turn. turn ≡ length code.old.instructions + 1) }
 {
     let number = code.instructions.len();
@@ -60,9 +62,7 @@ fn emit_loop_begin(code: &mut Code, line: u32, more: u64) -> Result<usize, Alloc
         counter: CounterIndex { number },
         turns: more,
     })?;
-    let turn = code.instructions.len();
-    code.instructions.push(Instruction::Tick { line })?;
-    Ok(turn)
+    Ok(code.instructions.len())
 }
 
 fn emit_loop_end(code: &mut Code, begin: usize, turn: usize) -> Result<(), AllocError>
@@ -94,7 +94,7 @@ fn emit_ending(code: &mut Code, line: u32, one: Ending) -> Result<(), AllocError
 {
     match one {
         Ending::StopRun => emit_stop_run(code, line),
-        Ending::Continue => emit_tick(code, line),
+        Ending::Continue | Ending::Exit => emit_tick(code, line),
     }
 }
 
@@ -104,6 +104,24 @@ fn emit_start(code: &mut Code) -> Result<(), AllocError>
     let start = code.instructions.len();
     code.starts.push(start)?;
     Ok(())
+}
+
+/// The end of the code paragraph of this number.
+fn emit_back(code: &mut Code, number: usize) -> Result<(), AllocError>
+    ensures { OnOk result (code.new ≡ joined code.old (back_piece number code.old)) }
+{
+    let paragraph = ParagraphIndex { number };
+    code.instructions.push(Instruction::Back { paragraph })?;
+    Ok(())
+}
+
+/// The code paragraph of a section without paragraphs.
+fn emit_nothing(code: &mut Code) -> Result<(), AllocError>
+    ensures { OnOk result (code.new ≡ joined code.old (joined (start_piece code.old) (back_piece (length code.old.starts) code.old))) }
+{
+    let number = code.starts.len();
+    emit_start(code)?;
+    emit_back(code, number)
 }
 
 // The end of the last paragraph.
@@ -152,8 +170,8 @@ impl<'a> Emitter<'a> {
     fn emit_statement(&self, code: &mut Code, one: &Statement) -> Result<(), AllocError>
         requires declared { IsDeclared self.now.declarations.now }
         requires entries { entry_rules self.now.declarations.now.entries.now ≡ [] }
-        requires rules { rules.statement_rules (items_in self.now.declarations.now) one.now ≡ [] }
-        ensures { OnOk result (code.new ≡ joined code.old (statement_piece (items_in self.now.declarations.now) one.now code.old)) }
+        requires rules { rules.statement_rules (scope_in self.now.declarations.now) all_permitted one.now ≡ [] }
+        ensures { OnOk result (code.new ≡ joined code.old (statement_piece (scope_in self.now.declarations.now) one.now code.old)) }
     {
         let line = one.place.line;
         match &one.verb {
@@ -177,9 +195,9 @@ impl<'a> Emitter<'a> {
         requires declared { IsDeclared self.now.declarations.now }
         requires entries { entry_rules self.now.declarations.now.entries.now ≡ [] }
         requires operation { operation_rules (items_in self.now.declarations.now) one.now.operation ≡ [] }
-        requires arose { rules.phrase_rules (rules.statement_rules (items_in self.now.declarations.now)) one.now.phrases.arose ≡ [] }
-        requires did_not { rules.phrase_rules (rules.statement_rules (items_in self.now.declarations.now)) one.now.phrases.did_not ≡ [] }
-        ensures { OnOk result (code.new ≡ joined code.old (calculating_piece (items_in self.now.declarations.now) (statement_piece (items_in self.now.declarations.now)) line one.now code.old)) }
+        requires arose { rules.phrase_rules (rules.statement_rules (scope_in self.now.declarations.now) all_permitted) one.now.phrases.arose ≡ [] }
+        requires did_not { rules.phrase_rules (rules.statement_rules (scope_in self.now.declarations.now) all_permitted) one.now.phrases.did_not ≡ [] }
+        ensures { OnOk result (code.new ≡ joined code.old (calculating_piece (scope_in self.now.declarations.now) (statement_piece (scope_in self.now.declarations.now)) line one.now code.old)) }
     {
         emit_tick(code, line)?;
         self.emit_arithmetic(code, one.phrases.arose.is_some(), &one.operation)?;
@@ -191,9 +209,9 @@ impl<'a> Emitter<'a> {
     fn emit_phrases(&self, code: &mut Code, one: &Phrases<Statement>) -> Result<(), AllocError>
         requires declared { IsDeclared self.now.declarations.now }
         requires entries { entry_rules self.now.declarations.now.entries.now ≡ [] }
-        requires arose { rules.phrase_rules (rules.statement_rules (items_in self.now.declarations.now)) one.now.arose ≡ [] }
-        requires did_not { rules.phrase_rules (rules.statement_rules (items_in self.now.declarations.now)) one.now.did_not ≡ [] }
-        ensures { OnOk result (code.new ≡ joined code.old (phrases_piece (items_in self.now.declarations.now) (statement_piece (items_in self.now.declarations.now)) one.now code.old)) }
+        requires arose { rules.phrase_rules (rules.statement_rules (scope_in self.now.declarations.now) all_permitted) one.now.arose ≡ [] }
+        requires did_not { rules.phrase_rules (rules.statement_rules (scope_in self.now.declarations.now) all_permitted) one.now.did_not ≡ [] }
+        ensures { OnOk result (code.new ≡ joined code.old (phrases_piece (scope_in self.now.declarations.now) (statement_piece (scope_in self.now.declarations.now)) one.now code.old)) }
     {
         if !has_phrase(one) {
             return Ok(());
@@ -210,8 +228,8 @@ impl<'a> Emitter<'a> {
     fn emit_phrase(&self, code: &mut Code, one: &Option<Items<Statement>>) -> Result<(), AllocError>
         requires declared { IsDeclared self.now.declarations.now }
         requires entries { entry_rules self.now.declarations.now.entries.now ≡ [] }
-        requires rules { rules.phrase_rules (rules.statement_rules (items_in self.now.declarations.now)) one.now ≡ [] }
-        ensures { OnOk result (code.new ≡ joined code.old (phrase_piece (items_in self.now.declarations.now) (statement_piece (items_in self.now.declarations.now)) one.now code.old)) }
+        requires rules { rules.phrase_rules (rules.statement_rules (scope_in self.now.declarations.now) all_permitted) one.now ≡ [] }
+        ensures { OnOk result (code.new ≡ joined code.old (phrase_piece (scope_in self.now.declarations.now) (statement_piece (scope_in self.now.declarations.now)) one.now code.old)) }
     {
         match one {
             None => Ok(()),
@@ -229,8 +247,8 @@ impl<'a> Emitter<'a> {
     ) -> Result<(), AllocError>
         requires declared { IsDeclared self.now.declarations.now }
         requires entries { entry_rules self.now.declarations.now.entries.now ≡ [] }
-        requires rules { rules.branching_rules (items_in self.now.declarations.now) (rules.statement_rules (items_in self.now.declarations.now)) one.now ≡ [] }
-        ensures { OnOk result (code.new ≡ joined code.old (branching_piece (items_in self.now.declarations.now) (statement_piece (items_in self.now.declarations.now)) line one.now code.old)) }
+        requires rules { rules.branching_rules (items_in self.now.declarations.now) (rules.statement_rules (scope_in self.now.declarations.now) all_permitted) one.now ≡ [] }
+        ensures { OnOk result (code.new ≡ joined code.old (branching_piece (scope_in self.now.declarations.now) (statement_piece (scope_in self.now.declarations.now)) line one.now code.old)) }
     {
         let (condition, statements, otherwise) = parts_of(one);
         emit_tick(code, line)?;
@@ -242,7 +260,7 @@ impl<'a> Emitter<'a> {
         emit_meeting(code, branch, other)
     }
 
-    /// PERFORM, with its `tick` and the statements in it.
+    /// PERFORM, as often as it says.
     #[cycle(statement)]
     fn emit_performing(
         &self,
@@ -252,37 +270,66 @@ impl<'a> Emitter<'a> {
     ) -> Result<(), AllocError>
         requires declared { IsDeclared self.now.declarations.now }
         requires entries { entry_rules self.now.declarations.now.entries.now ≡ [] }
-        requires rules { rules.performing_rules (items_in self.now.declarations.now) (rules.statement_rules (items_in self.now.declarations.now)) one.now ≡ [] }
-        ensures { OnOk result (code.new ≡ joined code.old (performing_piece (items_in self.now.declarations.now) (statement_piece (items_in self.now.declarations.now)) line one.now code.old)) }
+        requires rules { rules.performing_rules (scope_in self.now.declarations.now) all_permitted (rules.statement_rules (scope_in self.now.declarations.now) all_permitted) one.now ≡ [] }
+        ensures { OnOk result (code.new ≡ joined code.old (performing_piece (scope_in self.now.declarations.now) (statement_piece (scope_in self.now.declarations.now)) line one.now code.old)) }
     {
-        emit_tick(code, line)?;
-        match &one.performed {
-            Performed::Statements(inside) => {
-                self.emit_turns(code, line, &one.turns, inside.as_slice())
+        match &one.turns {
+            Turns::Once => self.emit_turn(code, line, &one.performed),
+            Turns::Times(count) => {
+                emit_tick(code, line)?;
+                self.emit_times(code, line, count_of(count), &one.performed)
+            }
+            Turns::Until(until) => {
+                emit_tick(code, line)?;
+                self.emit_until(code, line, until, &one.performed)
             }
         }
     }
 
-    /// Statements, as often as their PERFORM says.
+    /// One turn, which uses one of the budget.
     #[cycle(statement)]
-    fn emit_turns(
+    pub(crate) fn emit_turn(
         &self,
         code: &mut Code,
         line: u32,
-        turns: &Turns,
-        inside: &[Statement],
+        one: &Performed<Statement>,
     ) -> Result<(), AllocError>
         requires declared { IsDeclared self.now.declarations.now }
         requires entries { entry_rules self.now.declarations.now.entries.now ≡ [] }
-        requires turns { rules.turns_rules (items_in self.now.declarations.now) turns.now ≡ [] }
-        requires rules { each (rules.statement_rules (items_in self.now.declarations.now)) inside.now ≡ [] }
-        ensures { OnOk result (code.new ≡ joined code.old (turns_piece (items_in self.now.declarations.now) line turns.now (in_order (statement_piece (items_in self.now.declarations.now)) inside.now) code.old)) }
+        requires rules { rules.performed_rules (scope_in self.now.declarations.now).procedures all_permitted (rules.statement_rules (scope_in self.now.declarations.now) all_permitted) one.now ≡ [] }
+        ensures { OnOk result (code.new ≡ joined code.old (turn_piece (scope_in self.now.declarations.now) (statement_piece (scope_in self.now.declarations.now)) line one.now code.old)) }
     {
-        match turns {
-            Turns::Once => self.emit_statements(code, inside),
-            Turns::Times(count) => self.emit_times(code, line, count_of(count), inside),
-            Turns::Until(until) => self.emit_until(code, line, until, inside),
+        match one {
+            Performed::Procedures { first, last } => self.emit_range(code, line, first, last),
+            Performed::Statements(inside) => {
+                emit_tick(code, line)?;
+                self.emit_statements(code, inside.as_slice())
+            }
         }
+    }
+
+    /// Procedures are performed, from one to the end of another.
+    fn emit_range(
+        &self,
+        code: &mut Code,
+        line: u32,
+        first: &Name,
+        last: &Option<Name>,
+    ) -> Result<(), AllocError>
+        requires { IsDeclared self.now.declarations.now }
+        ensures { OnOk result (code.new ≡ joined code.old (range_piece line (range_of (scope_in self.now.declarations.now).procedures first.now last.now) code.old)) }
+    {
+        let Some(range) = self.declarations.procedures.range_of(first, last) else {
+            return emit_tick(code, line);
+        };
+        code.instructions.push(Instruction::Perform {
+            line,
+            first: ParagraphIndex {
+                number: range.first,
+            },
+            last: ParagraphIndex { number: range.last },
+        })?;
+        Ok(())
     }
 
     #[cycle(statement)]
@@ -291,19 +338,19 @@ impl<'a> Emitter<'a> {
         code: &mut Code,
         line: u32,
         count: u64,
-        inside: &[Statement],
+        one: &Performed<Statement>,
     ) -> Result<(), AllocError>
         requires declared { IsDeclared self.now.declarations.now }
         requires entries { entry_rules self.now.declarations.now.entries.now ≡ [] }
-        requires rules { each (rules.statement_rules (items_in self.now.declarations.now)) inside.now ≡ [] }
-        ensures { OnOk result (code.new ≡ joined code.old (times_piece line count (in_order (statement_piece (items_in self.now.declarations.now)) inside.now) code.old)) }
+        requires rules { rules.performed_rules (scope_in self.now.declarations.now).procedures all_permitted (rules.statement_rules (scope_in self.now.declarations.now) all_permitted) one.now ≡ [] }
+        ensures { OnOk result (code.new ≡ joined code.old (times_piece count (turn_piece (scope_in self.now.declarations.now) (statement_piece (scope_in self.now.declarations.now)) line one.now) code.old)) }
     {
         if count == 0 {
             return Ok(());
         }
         let begin = code.instructions.len();
-        let turn = emit_loop_begin(code, line, count - 1)?;
-        self.emit_statements(code, inside)?;
+        let turn = emit_loop_begin(code, count - 1)?;
+        self.emit_turn(code, line, one)?;
         emit_loop_end(code, begin, turn)
     }
 
@@ -316,8 +363,8 @@ impl<'a> Emitter<'a> {
     ) -> Result<(), AllocError>
         requires declared { IsDeclared self.now.declarations.now }
         requires entries { entry_rules self.now.declarations.now.entries.now ≡ [] }
-        requires rules { each (rules.statement_rules (items_in self.now.declarations.now)) all.now ≡ [] }
-        ensures { OnOk result (code.new ≡ joined code.old (in_order (statement_piece (items_in self.now.declarations.now)) all.now code.old)) }
+        requires rules { each (rules.statement_rules (scope_in self.now.declarations.now) all_permitted) all.now ≡ [] }
+        ensures { OnOk result (code.new ≡ joined code.old (in_order (statement_piece (scope_in self.now.declarations.now)) all.now code.old)) }
     {
         for one in all {
             self.emit_statement(code, one)?;
@@ -328,8 +375,8 @@ impl<'a> Emitter<'a> {
     fn emit_sentence(&self, code: &mut Code, one: &Sentence) -> Result<(), AllocError>
         requires declared { IsDeclared self.now.declarations.now }
         requires entries { entry_rules self.now.declarations.now.entries.now ≡ [] }
-        requires rules { rules.sentence_rules (items_in self.now.declarations.now) one.now ≡ [] }
-        ensures { OnOk result (code.new ≡ joined code.old (sentence_piece (items_in self.now.declarations.now) one.now code.old)) }
+        requires rules { rules.sentence_rules (scope_in self.now.declarations.now) all_permitted one.now ≡ [] }
+        ensures { OnOk result (code.new ≡ joined code.old (sentence_piece (scope_in self.now.declarations.now) one.now code.old)) }
     {
         self.emit_statements(code, one.statements.as_slice())
     }
@@ -337,8 +384,8 @@ impl<'a> Emitter<'a> {
     fn emit_sentences(&self, code: &mut Code, all: &[Sentence]) -> Result<(), AllocError>
         requires declared { IsDeclared self.now.declarations.now }
         requires entries { entry_rules self.now.declarations.now.entries.now ≡ [] }
-        requires rules { each (rules.sentence_rules (items_in self.now.declarations.now)) all.now ≡ [] }
-        ensures { OnOk result (code.new ≡ joined code.old (in_order (sentence_piece (items_in self.now.declarations.now)) all.now code.old)) }
+        requires rules { each (rules.sentence_rules (scope_in self.now.declarations.now) all_permitted) all.now ≡ [] }
+        ensures { OnOk result (code.new ≡ joined code.old (in_order (sentence_piece (scope_in self.now.declarations.now)) all.now code.old)) }
     {
         for one in all {
             self.emit_sentence(code, one)?;
@@ -349,18 +396,20 @@ impl<'a> Emitter<'a> {
     fn emit_paragraph(&self, code: &mut Code, one: &Paragraph) -> Result<(), AllocError>
         requires declared { IsDeclared self.now.declarations.now }
         requires entries { entry_rules self.now.declarations.now.entries.now ≡ [] }
-        requires rules { rules.paragraph_rules (items_in self.now.declarations.now) one.now ≡ [] }
-        ensures { OnOk result (code.new ≡ joined code.old (paragraph_piece (items_in self.now.declarations.now) one.now code.old)) }
+        requires rules { rules.paragraph_rules (scope_in self.now.declarations.now) all_permitted one.now ≡ [] }
+        ensures { OnOk result (code.new ≡ joined code.old (paragraph_piece (scope_in self.now.declarations.now) one.now code.old)) }
     {
+        let number = code.starts.len();
         emit_start(code)?;
-        self.emit_sentences(code, one.sentences.as_slice())
+        self.emit_sentences(code, one.sentences.as_slice())?;
+        emit_back(code, number)
     }
 
     fn emit_paragraphs(&self, code: &mut Code, all: &[Paragraph]) -> Result<(), AllocError>
         requires declared { IsDeclared self.now.declarations.now }
         requires entries { entry_rules self.now.declarations.now.entries.now ≡ [] }
-        requires rules { each (rules.paragraph_rules (items_in self.now.declarations.now)) all.now ≡ [] }
-        ensures { OnOk result (code.new ≡ joined code.old (in_order (paragraph_piece (items_in self.now.declarations.now)) all.now code.old)) }
+        requires rules { each (rules.paragraph_rules (scope_in self.now.declarations.now) all_permitted) all.now ≡ [] }
+        ensures { OnOk result (code.new ≡ joined code.old (in_order (paragraph_piece (scope_in self.now.declarations.now)) all.now code.old)) }
     {
         for one in all {
             self.emit_paragraph(code, one)?;
@@ -371,18 +420,21 @@ impl<'a> Emitter<'a> {
     fn emit_section(&self, code: &mut Code, one: &Section) -> Result<(), AllocError>
         requires declared { IsDeclared self.now.declarations.now }
         requires entries { entry_rules self.now.declarations.now.entries.now ≡ [] }
-        requires rules { rules.section_rules (items_in self.now.declarations.now) one.now ≡ [] }
-        ensures { OnOk result (code.new ≡ joined code.old (section_piece (items_in self.now.declarations.now) one.now code.old)) }
+        requires rules { rules.section_rules (scope_in self.now.declarations.now) all_permitted one.now ≡ [] }
+        ensures { OnOk result (code.new ≡ joined code.old (section_piece (scope_in self.now.declarations.now) one.now code.old)) }
     {
-        self.emit_paragraphs(code, one.paragraphs.as_slice())
+        match one.paragraphs.as_slice() {
+            [] => emit_nothing(code),
+            paragraphs => self.emit_paragraphs(code, paragraphs),
+        }
     }
 
     /// Sections, in order.
     pub(crate) fn emit_sections(&self, code: &mut Code, all: &[Section]) -> Result<(), AllocError>
         requires declared { IsDeclared self.now.declarations.now }
         requires entries { entry_rules self.now.declarations.now.entries.now ≡ [] }
-        requires rules { rules.sections_rules (items_in self.now.declarations.now) all.now ≡ [] }
-        ensures { OnOk result (code.new ≡ joined code.old (in_order (section_piece (items_in self.now.declarations.now)) all.now code.old)) }
+        requires rules { rules.sections_rules (scope_in self.now.declarations.now) all_permitted all.now ≡ [] }
+        ensures { OnOk result (code.new ≡ joined code.old (in_order (section_piece (scope_in self.now.declarations.now)) all.now code.old)) }
     {
         for one in all {
             self.emit_section(code, one)?;

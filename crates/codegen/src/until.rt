@@ -1,27 +1,26 @@
 //! The code of PERFORM with UNTIL (COBOL-85, Nucleus, "The PERFORM statement").
 
 ghost use Rattle.std.specs.Prelude.{◌≡◌, [], false, OnOk};
-ghost use Rattle.source_tree.specs.Broken.{each};
 ghost use Rattle.source_tree.specs.EntryRules.{entry_rules};
 ghost use Rattle.source_tree.specs.ConditionRules.{varying_rules, until_rules};
 ghost use Rattle.source_tree.specs.Rules as rules;
-ghost use Rattle.check_rules.specs.Named.{IsDeclared, items_in};
-ghost use Rattle.codegen.specs.Pieces.{joined, both, in_order};
+ghost use Rattle.source_tree.specs.Rules.{all_permitted};
+ghost use Rattle.check_rules.specs.Named.{IsDeclared, items_in, scope_in};
+ghost use Rattle.codegen.specs.Pieces.{joined, both};
 ghost use Rattle.codegen.specs.Meeting.{either_piece, nothing_piece};
 ghost use Rattle.codegen.specs.DataCode.{work_piece};
 ghost use Rattle.codegen.specs.ConditionCode.{condition_piece};
 ghost use Rattle.codegen.specs.UntilCode as spec;
-ghost use Rattle.codegen.specs.Layout.{statement_piece};
+ghost use Rattle.codegen.specs.Layout.{turn_piece, statement_piece};
 ghost use Rattle.data_instructions.specs.declared.instruction.DataInstruction.TheVariants as i;
 
 use crate::arithmetic::discard;
-use crate::emit::emit_tick;
 use crate::emitter::Emitter;
 use crate::phrases::{emit_branch, emit_jump, emit_meeting, emit_way_back};
 use crate::references::emit_work;
 use code_image::Code;
 use data_instructions::DataInstruction;
-use source_tree::{Operator, Statement, TestTime, Until, Varying};
+use source_tree::{Operator, Performed, Statement, TestTime, Until, Varying};
 use std::alloc::AllocError;
 
 impl<'a> Emitter<'a> {
@@ -66,25 +65,25 @@ impl<'a> Emitter<'a> {
         emit_meeting(code, branch, other)
     }
 
-    /// Statements up to where a condition is true.
+    /// Turns up to where a condition is true.
     #[cycle(statement)]
     pub(crate) fn emit_until(
         &self,
         code: &mut Code,
         line: u32,
         one: &Until,
-        inside: &[Statement],
+        performed: &Performed<Statement>,
     ) -> Result<(), AllocError>
         requires declared { IsDeclared self.now.declarations.now }
         requires entries { entry_rules self.now.declarations.now.entries.now ≡ [] }
         requires turns { until_rules (items_in self.now.declarations.now) one.now ≡ [] }
-        requires rules { each (rules.statement_rules (items_in self.now.declarations.now)) inside.now ≡ [] }
-        ensures { OnOk result (code.new ≡ joined code.old (spec.until_piece (items_in self.now.declarations.now) line one.now (in_order (statement_piece (items_in self.now.declarations.now)) inside.now) code.old)) }
+        requires rules { rules.performed_rules (scope_in self.now.declarations.now).procedures all_permitted (rules.statement_rules (scope_in self.now.declarations.now) all_permitted) performed.now ≡ [] }
+        ensures { OnOk result (code.new ≡ joined code.old (spec.until_piece (items_in self.now.declarations.now) one.now (turn_piece (scope_in self.now.declarations.now) (statement_piece (scope_in self.now.declarations.now)) line performed.now) code.old)) }
     {
         self.emit_vary_begin(code, &one.varying)?;
         match one.test {
-            TestTime::Before => self.emit_until_before(code, line, one, inside),
-            TestTime::After => self.emit_until_after(code, line, one, inside),
+            TestTime::Before => self.emit_until_before(code, line, one, performed),
+            TestTime::After => self.emit_until_after(code, line, one, performed),
         }
     }
 
@@ -95,18 +94,18 @@ impl<'a> Emitter<'a> {
         code: &mut Code,
         line: u32,
         one: &Until,
-        inside: &[Statement],
+        performed: &Performed<Statement>,
     ) -> Result<(), AllocError>
         requires declared { IsDeclared self.now.declarations.now }
         requires entries { entry_rules self.now.declarations.now.entries.now ≡ [] }
         requires turns { until_rules (items_in self.now.declarations.now) one.now ≡ [] }
-        requires rules { each (rules.statement_rules (items_in self.now.declarations.now)) inside.now ≡ [] }
-        ensures { OnOk result (code.new ≡ joined code.old (spec.until_before_piece line (condition_piece (items_in self.now.declarations.now) one.now.condition) (spec.vary_on_piece (items_in self.now.declarations.now) one.now.varying) (in_order (statement_piece (items_in self.now.declarations.now)) inside.now) code.old)) }
+        requires rules { rules.performed_rules (scope_in self.now.declarations.now).procedures all_permitted (rules.statement_rules (scope_in self.now.declarations.now) all_permitted) performed.now ≡ [] }
+        ensures { OnOk result (code.new ≡ joined code.old (spec.until_before_piece (condition_piece (items_in self.now.declarations.now) one.now.condition) (spec.vary_on_piece (items_in self.now.declarations.now) one.now.varying) (turn_piece (scope_in self.now.declarations.now) (statement_piece (scope_in self.now.declarations.now)) line performed.now) code.old)) }
     {
         self.emit_condition(code, &one.condition)?;
         let branch = emit_branch(code)?;
         let other = emit_jump(code)?;
-        self.emit_turn_before(code, line, one, inside)?;
+        self.emit_turn_before(code, line, one, performed)?;
         emit_meeting(code, branch, other)
     }
 
@@ -117,17 +116,16 @@ impl<'a> Emitter<'a> {
         code: &mut Code,
         line: u32,
         one: &Until,
-        inside: &[Statement],
+        performed: &Performed<Statement>,
     ) -> Result<(), AllocError>
         requires declared { IsDeclared self.now.declarations.now }
         requires entries { entry_rules self.now.declarations.now.entries.now ≡ [] }
         requires turns { until_rules (items_in self.now.declarations.now) one.now ≡ [] }
-        requires rules { each (rules.statement_rules (items_in self.now.declarations.now)) inside.now ≡ [] }
-        ensures { OnOk result (code.new ≡ joined code.old (spec.turning_piece line (both (in_order (statement_piece (items_in self.now.declarations.now)) inside.now) (both (spec.vary_on_piece (items_in self.now.declarations.now) one.now.varying) (condition_piece (items_in self.now.declarations.now) one.now.condition))) code.old)) }
+        requires rules { rules.performed_rules (scope_in self.now.declarations.now).procedures all_permitted (rules.statement_rules (scope_in self.now.declarations.now) all_permitted) performed.now ≡ [] }
+        ensures { OnOk result (code.new ≡ joined code.old (spec.turning_piece (turn_piece (scope_in self.now.declarations.now) (statement_piece (scope_in self.now.declarations.now)) line performed.now) (both (spec.vary_on_piece (items_in self.now.declarations.now) one.now.varying) (condition_piece (items_in self.now.declarations.now) one.now.condition)) code.old)) }
     {
         let begin = code.instructions.len();
-        emit_tick(code, line)?;
-        self.emit_statements(code, inside)?;
+        self.emit_turn(code, line, performed)?;
         self.emit_vary_on(code, &one.varying)?;
         self.emit_condition(code, &one.condition)?;
         emit_way_back(code, begin)
@@ -140,17 +138,16 @@ impl<'a> Emitter<'a> {
         code: &mut Code,
         line: u32,
         one: &Until,
-        inside: &[Statement],
+        performed: &Performed<Statement>,
     ) -> Result<(), AllocError>
         requires declared { IsDeclared self.now.declarations.now }
         requires entries { entry_rules self.now.declarations.now.entries.now ≡ [] }
         requires turns { until_rules (items_in self.now.declarations.now) one.now ≡ [] }
-        requires rules { each (rules.statement_rules (items_in self.now.declarations.now)) inside.now ≡ [] }
-        ensures { OnOk result (code.new ≡ joined code.old (spec.until_after_piece line (condition_piece (items_in self.now.declarations.now) one.now.condition) (spec.vary_on_piece (items_in self.now.declarations.now) one.now.varying) (in_order (statement_piece (items_in self.now.declarations.now)) inside.now) code.old)) }
+        requires rules { rules.performed_rules (scope_in self.now.declarations.now).procedures all_permitted (rules.statement_rules (scope_in self.now.declarations.now) all_permitted) performed.now ≡ [] }
+        ensures { OnOk result (code.new ≡ joined code.old (spec.until_after_piece (condition_piece (items_in self.now.declarations.now) one.now.condition) (spec.vary_on_piece (items_in self.now.declarations.now) one.now.varying) (turn_piece (scope_in self.now.declarations.now) (statement_piece (scope_in self.now.declarations.now)) line performed.now) code.old)) }
     {
         let begin = code.instructions.len();
-        emit_tick(code, line)?;
-        self.emit_statements(code, inside)?;
+        self.emit_turn(code, line, performed)?;
         self.emit_condition(code, &one.condition)?;
         self.emit_onward(code, &one.varying)?;
         emit_way_back(code, begin)

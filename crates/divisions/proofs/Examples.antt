@@ -1,5 +1,5 @@
 -- Tokens of source texts, and what reading them gives.
-use Rattle.std.proofs.Common.{◌≡◌, ℕ, Bool, false, List, [], ◌∷◌, ◌++◌, None, Some, refl}
+use Rattle.std.proofs.Common.{◌≡◌, ℕ, List, [], ◌∷◌, ◌++◌, None, Some, refl}
 use Rattle.std.specs.Prelude.{Ok, Err}
 use Rattle.tokens.specs.declared.reserved.Reserved.{Reserved}
 use Rattle.tokens.specs.declared.reserved.Reserved.TheVariants as w
@@ -7,20 +7,26 @@ use Rattle.tokens.specs.declared.token.Kind.{Kind}
 use Rattle.tokens.specs.declared.token.Kind.TheVariants as k
 use Rattle.tokens.specs.declared.token.Token.{Token}
 use Rattle.lexical.specs.declared.number.Sign.TheVariants as sign
-use Rattle.source_tree.specs.declared.literal.LiteralValue.TheVariants as value
-use Rattle.source_tree.specs.declared.literal.Literal.{Literal}
+use Rattle.lexical.specs.declared.place.Place.{Place}
+use Rattle.source_tree.specs.declared.name.Name.{Name}
+use Rattle.source_tree.specs.declared.performing.Performed.TheVariants.{Procedures, Statements}
+use Rattle.source_tree.specs.declared.performing.Turns.TheVariants.{Once, Times}
+use Rattle.source_tree.specs.declared.ending.Ending.TheVariants as ending
+use Rattle.source_tree.specs.declared.statement.Verb.{Verb}
+use Rattle.source_tree.specs.declared.statement.Verb.TheVariants as verb
+use Rattle.source_tree.specs.declared.statement.Statement.{Statement, roll-Statement}
 use Rattle.source_tree.specs.declared.program.Sentence.{Sentence}
 use Rattle.source_tree.specs.declared.program.Paragraph.{Paragraph}
-use Rattle.source_tree.specs.declared.program.Program.{Program}
-use Rattle.source_tree.proofs.Examples.{display, stop_run, hello, hello_bytes}
+use Rattle.source_tree.proofs.Examples.{stop_run, hello, hello_bytes}
 use Rattle.tokens.specs.Reserved.{same_word}
 use Rattle.grammar.specs.Reading as read
 use Rattle.expressions.specs.Literals as literals
 use Rattle.expressions.specs.Subscripts as subscripts
-use Rattle.expressions.specs.References as references
 use Rattle.expressions.specs.Operands as operands
 use Rattle.statements.specs.Display as display_rule
-use Rattle.statements.specs.Moving as moving_rule
+use Rattle.statements.specs.Exiting as exiting_rule
+use Rattle.statements.specs.Performing as performing_rule
+use Rattle.statements.specs.Turning as turning_rule
 use Rattle.statements.specs.StopRun as stop_run_rule
 use Rattle.statements.specs.Reading as statements
 use Rattle.data_division.specs.Division as division
@@ -30,151 +36,115 @@ use Rattle.divisions.specs.Reading as r
 use Rattle.divisions.specs.Faults.{parse_of}
 use Rattle.divisions.specs.declared.fault.FaultKind.TheVariants.{UnexpectedToken}
 
--- a token at a line and column; where its characters stand in their list is of no account here
-abbrev pub at : ℕ → ℕ → Kind → Token
-at line column kind = record { kind = kind; span = record { start = 0; end = 0 }; place = record { line = line; column = column } }
+abbrev place : ℕ → ℕ → Place
+place line column = record { line = line; column = column }
 
-abbrev pub word : ℕ → ℕ → Reserved → Token
+-- a token at a line and column; where its characters stand in their list is of no account here
+abbrev at : ℕ → ℕ → Kind → Token
+at line column kind = record { kind = kind; span = record { start = 0; end = 0 }; place = place line column }
+
+abbrev word : ℕ → ℕ → Reserved → Token
 word line column one = at line column (k.Reserved one)
 
-abbrev pub period : ℕ → ℕ → Token
+abbrev period : ℕ → ℕ → Token
 period line column = at line column k.Period
 
-abbrev main_para : List ℕ
-main_para = 77 ∷ 65 ∷ 73 ∷ 78 ∷ 45 ∷ 80 ∷ 65 ∷ 82 ∷ 65 ∷ []
-
-abbrev pub identified : List Token → List Token
+abbrev identified : List Token → List Token
 identified more =
     word 1 8 w.Identification ∷ word 1 23 w.Division ∷ period 1 31
     ∷ word 2 8 w.ProgramId ∷ period 2 18 ∷ at 2 20 (k.Word hello_bytes) ∷ period 2 25
     ∷ word 3 8 w.Procedure ∷ word 3 18 w.Division ∷ period 3 26 ∷ more
 
--- the six lines of HELLO
-abbrev hello_tokens : List Token
-hello_tokens =
-    identified (at 4 8 (k.Word main_para) ∷ period 4 17
-    ∷ word 5 12 w.Display ∷ at 5 20 (k.Nonnumeric hello_bytes) ∷ period 5 27
-    ∷ word 6 12 w.Stop ∷ word 6 17 w.Run ∷ period 6 20 ∷ [])
-
--- SHOW 1. at column 12 of a line
-abbrev show_tokens : ℕ → List Token
-show_tokens line =
-    at line 12 (k.Word (83 ∷ 72 ∷ 79 ∷ 87 ∷ []))
-    ∷ at line 17 (k.Numeric (record { sign = sign.Unsigned; whole = 49 ∷ []; decimals = [] })) ∷ period line 18 ∷ []
-
--- every step of reading, so that a program's tree is computed
-unfoldable pub computing : Unit {0}
-unfolding r.program r.identification r.procedure r.all_sections r.outer_body r.after_body r.following r.sections r.section r.section_paragraphs environment.environment_reader environment.configuration_reader environment.computer_reader environment.description_reader environment.some_description environment.past_description division.data_division_reader division.division_reader division.working_storage_reader division.section_reader division.entries_reader forms.first_formless r.body r.opening r.sentences r.any_sentences r.paragraph r.paragraphs r.any_paragraphs r.ending r.end_program same_word read.after_word read.past_word read.expect read.skip read.left_out read.period read.heading read.nothing read.here read.one_token read.name literals.literal_reader literals.all_literal_reader subscripts.qualifier_reader subscripts.qualified_reader subscripts.integer_reader subscripts.literal_subscript_reader subscripts.item_subscript_reader subscripts.adjustment_reader subscripts.subscript_reader references.enclosed_subscripts_reader references.subscripts_reader references.reference_reader operands.item_reader operands.literal_operand_reader operands.operand_reader read.several_from read.several read.any display_rule.after_no_advancing display_rule.display_reader moving_rule.moving_reader stop_run_rule.stop_run_reader statements.statements statements.verb statements.line statements.statement statements.sentence
-computing = tt
-
--- the six lines of HELLO
-hello_is_read : parse_of hello_tokens ≡ Ok hello
-unfolding computing
-hello_is_read = refl
-
--- no tokens at all: line 1, column 1
-no_tokens : parse_of [] ≡ Err (record { kind = UnexpectedToken; place = record { line = 1; column = 1 } })
-unfolding computing
-no_tokens = refl
-
--- SHOW 1. after a statement in its sentence: at SHOW, which is no verb
-unknown_verb_in_a_sentence : parse_of (identified (word 4 12 w.Stop ∷ word 4 17 w.Run ∷ show_tokens 5)) ≡ Err (record { kind = UnexpectedToken; place = record { line = 5; column = 12 } })
-unfolding computing
-unknown_verb_in_a_sentence = refl
-
--- ---- other bodies
-
-abbrev end_program : List ℕ → List Token
-end_program name = word 7 8 w.End ∷ word 7 12 w.Program ∷ at 7 20 (k.Word name) ∷ period 7 25 ∷ []
-
--- a program of HELLO's name with these paragraphs
-abbrev pub of : List Paragraph → Program
-of paragraphs = record { name = hello.name; storage = []; sections = record { name = None; paragraphs = paragraphs } ∷ [] }
-
 -- STOP RUN. at column 12 of a line
 abbrev stop_tokens : ℕ → List Token
 stop_tokens line = word line 12 w.Stop ∷ word line 17 w.Run ∷ period line 20 ∷ []
 
-abbrev stop_sentence : ℕ → Sentence
-stop_sentence line = record { statements = stop_run (record { line = line; column = 12 }) ∷ [] }
+-- MAIN-PARA
+abbrev main_para : List ℕ
+main_para = 77 ∷ 65 ∷ 73 ∷ 78 ∷ 45 ∷ 80 ∷ 65 ∷ 82 ∷ 65 ∷ []
 
--- paragraph P at column 8 of a line
-abbrev p_tokens : ℕ → List Token
-p_tokens line = at line 8 (k.Word (80 ∷ [])) ∷ period line 9 ∷ []
+-- every step of reading, so that a program's tree is computed
+unfoldable computing : Unit {0}
+unfolding
+    same_word read.after_word read.past_word read.expect read.left_out read.period read.heading read.nothing read.here read.one_token read.name
+    read.several_from read.several read.any
+    literals.literal_reader subscripts.integer_reader operands.literal_operand_reader operands.operand_reader
+    display_rule.after_no_advancing display_rule.display_reader exiting_rule.exiting_reader stop_run_rule.stop_run_reader
+    performing_rule.performing_reader performing_rule.procedures_reader performing_rule.last_reader performing_rule.through_reader
+    performing_rule.in_line_reader turning_rule.turns_reader turning_rule.times_reader
+    statements.statements statements.verb statements.line statements.statement statements.sentence
+    environment.environment_reader division.data_division_reader forms.first_formless
+    r.program r.identification r.procedure r.all_sections r.outer_body r.after_body r.following r.sections r.section r.section_paragraphs
+    r.body r.opening r.sentences r.any_sentences r.paragraph r.paragraphs r.any_paragraphs r.ending
+computing = tt
 
-abbrev p_with : ℕ → List Sentence → Paragraph
-p_with line sentences = record { name = Some (record { characters = 80 ∷ []; place = record { line = line; column = 8 } }); sentences = sentences }
-
-abbrev pub unnamed : List Sentence → Paragraph
-unnamed sentences = record { name = None; sentences = sentences }
-
--- A 12.50 it's, in line 4
-abbrev three_tokens : List Token
-three_tokens =
-    at 4 20 (k.Nonnumeric (65 ∷ []))
-    ∷ at 4 24 (k.Numeric (record { sign = sign.Unsigned; whole = 49 ∷ 50 ∷ []; decimals = 53 ∷ 48 ∷ [] }))
-    ∷ at 4 30 (k.Nonnumeric (105 ∷ 116 ∷ 39 ∷ 115 ∷ [])) ∷ []
-
-abbrev three_operands : List Literal
-three_operands =
-    record { value = value.Nonnumeric (65 ∷ []); place = record { line = 4; column = 20 } }
-    ∷ record { value = value.Numeric (record { sign = sign.Unsigned; whole = 49 ∷ 50 ∷ []; decimals = 53 ∷ 48 ∷ [] }); place = record { line = 4; column = 24 } }
-    ∷ record { value = value.Nonnumeric (105 ∷ 116 ∷ 39 ∷ 115 ∷ []); place = record { line = 4; column = 30 } } ∷ []
-
--- DISPLAY of the three, in line 4
-abbrev displays : Bool → Program
-displays advancing = of (unnamed (record { statements = display (record { line = 4; column = 12 }) three_operands advancing ∷ [] } ∷ []) ∷ [])
-
--- END PROGRAM with another name
-end_of_another : parse_of (hello_tokens ++ end_program (80 ∷ [])) ≡ Ok hello
+-- the six lines of HELLO
+hello_is_read :
+    parse_of (identified (at 4 8 (k.Word main_para) ∷ period 4 17
+    ∷ word 5 12 w.Display ∷ at 5 20 (k.Nonnumeric hello_bytes) ∷ period 5 27
+    ∷ stop_tokens 6))
+    ≡ Ok hello
 unfolding computing
-end_of_another = refl
+hello_is_read = refl
 
--- a sentence before the first paragraph, which has none
-sentence_first : parse_of (identified (stop_tokens 4 ++ p_tokens 5)) ≡ Ok (of (unnamed (stop_sentence 4 ∷ []) ∷ p_with 5 [] ∷ []))
-unfolding computing
-sentence_first = refl
+-- ---- sections
 
--- DISPLAY "A" 12.50 'it''s' WITH NO ADVANCING.
-with_no_advancing : parse_of (identified (word 4 12 w.Display ∷ three_tokens ++ word 4 38 w.With ∷ word 4 43 w.No ∷ word 4 46 w.Advancing ∷ period 4 55 ∷ [])) ≡ Ok (displays false)
-unfolding computing
-with_no_advancing = refl
+-- a name of one letter
+abbrev letter : ℕ → ℕ → ℕ → Token
+letter line column one = at line column (k.Word (one ∷ []))
 
--- ---- other divisions and sections
+abbrev named : ℕ → ℕ → ℕ → Name
+named line column one = record { characters = one ∷ []; place = place line column }
 
 -- the name and SECTION in a line
-abbrev section_tokens : ℕ → List ℕ → List Token
-section_tokens line name = at line 8 (k.Word name) ∷ word line 10 w.Section ∷ period line 17 ∷ []
+abbrev section_tokens : ℕ → ℕ → List Token
+section_tokens line one = letter line 8 one ∷ word line 10 w.Section ∷ period line 17 ∷ []
+
+abbrev unnamed : List Sentence → Paragraph
+unnamed sentences = record { name = None; sentences = sentences }
 
 -- a section without paragraphs, after sentences that belong to none
 section_after_sentences :
-    parse_of (identified (stop_tokens 4 ++ section_tokens 5 (80 ∷ [])))
+    parse_of (identified (stop_tokens 4 ++ section_tokens 5 80))
     ≡ Ok (record hello {
       sections =
-          record { name = None; paragraphs = unnamed (stop_sentence 4 ∷ []) ∷ [] }
-          ∷ record { name = Some (record { characters = 80 ∷ []; place = record { line = 5; column = 8 } }); paragraphs = [] } ∷ [];
+          record { name = None; paragraphs = unnamed (record { statements = stop_run (place 4 12) ∷ [] } ∷ []) ∷ [] }
+          ∷ record { name = Some (named 5 8 80); paragraphs = [] } ∷ [];
     })
 unfolding computing
 section_after_sentences = refl
 
 -- a section after a paragraph that belongs to none: at its name
-section_after_a_paragraph : parse_of (identified (p_tokens 4 ++ section_tokens 5 (81 ∷ []))) ≡ Err (record { kind = UnexpectedToken; place = record { line = 5; column = 8 } })
+section_after_a_paragraph :
+    parse_of (identified (letter 4 8 80 ∷ period 4 9 ∷ section_tokens 5 81)) ≡ Err (record { kind = UnexpectedToken; place = place 5 8 })
 unfolding computing
 section_after_a_paragraph = refl
 
--- IDENTIFICATION DIVISION. PROGRAM-ID. HELLO. and these tokens, and then PROCEDURE DIVISION. STOP RUN.
-abbrev with_divisions : List Token → List Token
-with_divisions divisions =
-    word 1 8 w.Identification ∷ word 1 23 w.Division ∷ period 1 31
-    ∷ word 2 8 w.ProgramId ∷ period 2 18 ∷ at 2 20 (k.Word hello_bytes) ∷ period 2 25
-    ∷ (divisions ++ word 6 8 w.Procedure ∷ word 6 18 w.Division ∷ period 6 26 ∷ stop_tokens 7)
+-- ---- statements in one another
 
--- ENVIRONMENT DIVISION. CONFIGURATION SECTION. OBJECT-COMPUTER. HELLO. DATA DIVISION.: nothing is kept of them
-without_effect :
-    parse_of (with_divisions (word 3 8 w.Environment ∷ word 3 20 w.Division ∷ period 3 28
-    ∷ word 4 8 w.Configuration ∷ word 4 22 w.Section ∷ period 4 29
-    ∷ word 4 30 w.ObjectComputer ∷ period 4 45 ∷ at 4 47 (k.Word hello_bytes) ∷ period 4 52
-    ∷ word 5 8 w.Data ∷ word 5 13 w.Division ∷ period 5 21 ∷ []))
-    ≡ Ok (of (unnamed (stop_sentence 7 ∷ []) ∷ []))
+abbrev statement : ℕ → ℕ → Verb Statement → Statement
+statement line column one = roll-Statement (record { place = place line column; verb = one })
+
+-- PERFORM 2 TIMES PERFORM P THRU Q EXIT END-PERFORM STOP RUN.
+nested_statements :
+    parse_of (identified (word 4 12 w.Perform ∷ at 4 20 (k.Numeric (record { sign = sign.Unsigned; whole = 50 ∷ []; decimals = [] })) ∷ word 4 22 w.Times
+    ∷ word 5 16 w.Perform ∷ letter 5 24 80 ∷ word 5 26 w.Thru ∷ letter 5 31 81
+    ∷ word 6 16 w.Exit ∷ word 7 12 w.EndPerform
+    ∷ stop_tokens 8))
+    ≡ Ok (record hello {
+      sections = record {
+        name = None;
+        paragraphs = unnamed (record {
+          statements =
+              statement 4 12 (verb.Performing (record {
+                performed = Statements (
+                    statement 5 16 (verb.Performing (record { performed = Procedures (named 5 24 80) (Some (named 5 31 81)); turns = Once }))
+                    ∷ statement 6 16 (verb.Ending ending.Exit) ∷ []);
+                turns = Times (record { digits = 50 ∷ []; place = place 4 20 });
+              }))
+              ∷ stop_run (place 8 12) ∷ [];
+        } ∷ []) ∷ [];
+      } ∷ [];
+    })
 unfolding computing
-without_effect = refl
+nested_statements = refl

@@ -3,4 +3,3 @@ pub mod Environments
 pub mod SectionLists
 pub mod Programs
 pub mod Examples
-pub mod StatementExamples

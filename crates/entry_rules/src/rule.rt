@@ -8,7 +8,7 @@ use source_tree::Place;
 use std::alloc::{AllocError, AllocFailed};
 use thiserror::Error;
 
-/// A rule that entries, references or literals can break.
+/// A rule that entries, statements or procedures can break.
 #[derive(Clone, Copy, Debug, PartialEq, Eq)]
 pub enum Rule {
     /// The form of a numeric literal, or of an integer.
@@ -19,6 +19,8 @@ pub enum Rule {
     UnknownName,
     /// A name that names several things.
     AmbiguousName,
+    /// A name that is given to two procedures.
+    GivenTwice,
     /// Level numbers and their order.
     LevelOrder,
     /// OCCURS, JUSTIFIED, BLANK WHEN ZERO, SIGN and USAGE.
@@ -38,7 +40,9 @@ pub enum Rule {
     Number,
     /// Two sides that can't be compared.
     Comparison,
-    /// A range of values that is backwards.
+    /// A PERFORM that leads back to the paragraph that it stands in.
+    Recursion,
+    /// A range of values or of procedures that is backwards.
     Range,
     /// A procedure division without any paragraph or sentence.
     NoProcedure,
@@ -58,6 +62,7 @@ impl Rule {
             Rule::NonnumericLiteral => 18,
             Rule::UnknownName => 40,
             Rule::AmbiguousName => 41,
+            Rule::GivenTwice => 42,
             Rule::LevelOrder => 43,
             Rule::Clause => 44,
             Rule::Picture => 45,
@@ -68,6 +73,7 @@ impl Rule {
             Rule::Subscripts => 50,
             Rule::Number => 51,
             Rule::Comparison => 52,
+            Rule::Recursion => 54,
             Rule::Range => 55,
             Rule::NoProcedure => 56,
             Rule::AllLiteral => 67,

@@ -1,4 +1,5 @@
 pub mod Rooms
+pub mod Returns
 pub mod Standing
 pub mod Ends
 pub mod Progress

@@ -8,6 +8,7 @@ mod loaded;
 mod machine;
 mod outside;
 mod registers;
+mod returns;
 mod room;
 mod show;
 

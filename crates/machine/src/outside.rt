@@ -33,6 +33,7 @@ pub(crate) fn converse<S: Station>(
     ensures cause { IsCaused result (S.failures station.old) (S.failures station.new) }
     ensures within { address + 1 < length code.now.instructions }
     ensures stands { OnOk result (Stands code.now registers.new (address + 1)) }
+    ensures returns { registers.new.returns ≡ registers.old.returns }
     ensures on { S.is_honest station.old → (run : Run) (before : State) (past : List State) (left : ℕ) →
         Running code.now day.now run before past address left registers.old (S.history station.old) (S.state station.old) →
         GoesOn code.now day.now run before past (address + 1) left result registers.new (S.history station.new) (S.state station.new) }

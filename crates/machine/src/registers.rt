@@ -4,6 +4,7 @@ ghost use Rattle.std.specs.Prelude.{◌≡◌, ◌<◌, ◌-◌, length, slice_i
 ghost use Rattle.code_image.specs.Demands.{IsVerified};
 ghost use Rattle.machine.specs.Standing.{IsLoaded};
 
+use crate::returns::Returns;
 use crate::room::room_along;
 use code_image::{Code, CounterIndex};
 use run_time_data::{Data, longest_item};
@@ -14,6 +15,8 @@ use std::alloc::{AllocError, Global};
 pub(crate) struct Registers {
     /// One for each address.
     pub(crate) counters: Vec<u64>,
+    /// The `perform`s that have not come back.
+    pub(crate) returns: Returns,
     /// Where a console line is read, as much of it as an item takes.
     pub(crate) input: Vec<u8>,
     /// What instructions on data work on.
@@ -29,11 +32,13 @@ impl Registers {
         ensures { IfOk result (IsLoaded code.now) }
     {
         let counters = vec![in alloc; 0; code.instructions.len()]?;
+        let returns = Returns::new(alloc, code)?;
         let input = vec![in alloc; 0; longest_item(&code.tables)]?;
         let room = room_along(alloc, code)?;
         let scratch = Data::new(alloc, &code.tables, room)?;
         Ok(Registers {
             counters,
+            returns,
             input,
             scratch,
             line: 0,

@@ -4,3 +4,4 @@ pub mod Within
 pub mod ItemCalls
 pub mod Picked
 pub mod ConditionCalls
+pub mod Noting

@@ -5,6 +5,7 @@ mod conditions;
 mod declaration;
 mod laws;
 mod look_up;
+mod procedures;
 mod qualification;
 mod table;
 
@@ -12,5 +13,6 @@ pub use conditions::{ConditionNames, DeclaredCondition, condition_names};
 pub use declaration::item_names;
 pub use laws::{conditions_named, items_named};
 pub use look_up::LookUp;
+pub use procedures::{ParagraphRange, ProcedureNames, ProcedureNamesError, procedure_names};
 pub use qualification::is_within;
 pub use table::{Declared, NameTable};

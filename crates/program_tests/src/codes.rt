@@ -5,7 +5,7 @@ ghost use Rattle.machine.specs.Ends.{IsDigit};
 
 use crate::asserted::{same, same_in};
 use check_rules::check;
-use code_image::{Code, ImageError, Instruction, from_bytes, to_bytes, verify};
+use code_image::{Code, ImageError, Instruction, ParagraphIndex, from_bytes, to_bytes, verify};
 use codegen::generate;
 use data_instructions::{DataInstruction, DataTables, ItemIndex, TextIndex};
 use machine::{Ended, Machine, Refusal};
@@ -257,13 +257,13 @@ fn hello_image(alloc: Global) -> Result<Vec<u8>, AllocError> {
     image.extend_from_slice(b"HELLO")?;
     put_counts(&mut image, &[1])?;
     image.extend_from_slice(b"\n")?;
-    // one code paragraph that starts at 0, and seven instructions
-    put_counts(&mut image, &[1, 0, 7])?;
+    // one code paragraph that starts at 0, and eight instructions
+    put_counts(&mut image, &[1, 0, 8])?;
     image.extend_from_slice(&[1, 0, 0, 0, 5])?;
     image.extend_from_slice(&[24, 0, 0, 0, 0])?;
     image.extend_from_slice(&[24, 0, 0, 0, 1, 2])?;
     image.extend_from_slice(&[1, 0, 0, 0, 6])?;
-    image.extend_from_slice(&[3, 3])?;
+    image.extend_from_slice(&[3, 12, 0, 0, 0, 0, 0, 0, 0, 0, 3])?;
     Ok(image)
 }
 
@@ -399,9 +399,41 @@ const PLACE: Instruction = Instruction::Data(DataInstruction::Place {
 
 const PUSH: Instruction = Instruction::Data(DataInstruction::Push);
 
+/// The end of the code paragraph of that number.
+const BACK_0: Instruction = Instruction::Back {
+    paragraph: ParagraphIndex { number: 0 },
+};
+
+const BACK_1: Instruction = Instruction::Back {
+    paragraph: ParagraphIndex { number: 1 },
+};
+
+const BACK_2: Instruction = Instruction::Back {
+    paragraph: ParagraphIndex { number: 2 },
+};
+
+const PERFORM_0: Instruction = Instruction::Perform {
+    line: 1,
+    first: ParagraphIndex { number: 0 },
+    last: ParagraphIndex { number: 0 },
+};
+
+const PERFORM_0_TO_1: Instruction = Instruction::Perform {
+    line: 1,
+    first: ParagraphIndex { number: 0 },
+    last: ParagraphIndex { number: 1 },
+};
+
+const PERFORM_1_TO_0: Instruction = Instruction::Perform {
+    line: 1,
+    first: ParagraphIndex { number: 1 },
+    last: ParagraphIndex { number: 0 },
+};
+
 /// Instructions, where paragraphs start, and the number of the refusal, 0 where a machine takes them.
-const VERDICTS: [(&[Instruction], &[usize], u8); 9] = [
-    (&[TICK, FIRST, SHOW, STOP], &[0, 3], 0),
+const VERDICTS: [(&[Instruction], &[usize], u8); 20] = [
+    (&[TICK, FIRST, SHOW, STOP], &[0], 0),
+    (&[TICK, FIRST, SHOW, BACK_0, TICK, BACK_1, STOP], &[0, 4], 0),
     (&[STOP], &[], 0),
     // the second text of one, and the first item of none
     (&[TICK, SECOND, SHOW, STOP], &[0], 73),
@@ -414,6 +446,24 @@ const VERDICTS: [(&[Instruction], &[usize], u8); 9] = [
     // a line that isn't shown before the next statement, and no place where one is taken
     (&[TICK, FIRST, TICK, STOP], &[0], 74),
     (&[TICK, PUSH, STOP], &[0], 74),
+    // a paragraph that starts behind no back, inside of another one, or is another one's start
+    (&[TICK, FIRST, SHOW, STOP], &[0, 3], 74),
+    (&[TICK, TICK, BACK_0, STOP], &[1], 74),
+    (&[TICK, BACK_0, TICK, BACK_1, STOP], &[2, 0], 74),
+    // a back of another paragraph, and of none
+    (&[TICK, BACK_1, TICK, BACK_0, STOP], &[0, 2], 74),
+    (&[TICK, BACK_1, STOP], &[0], 73),
+    // a paragraph performs the one before it, itself, and none
+    (&[TICK, BACK_0, PERFORM_0, BACK_1, STOP], &[0, 2], 0),
+    (&[PERFORM_0, BACK_0, STOP], &[0], 74),
+    (&[PERFORM_0_TO_1, BACK_0, STOP], &[0], 73),
+    // a range that is backwards, and a perform outside of paragraphs
+    (
+        &[TICK, BACK_0, TICK, BACK_1, PERFORM_1_TO_0, BACK_2, STOP],
+        &[0, 2, 4],
+        74,
+    ),
+    (&[TICK, BACK_0, PERFORM_0, STOP], &[0], 74),
 ];
 
 #[test]

@@ -15,7 +15,7 @@ const HEADER: &str =
     "       IDENTIFICATION DIVISION.\n       PROGRAM-ID. HELLO.\n       PROCEDURE DIVISION.\n";
 
 /// What comes after the three lines of `HEADER`, and its tree as `shape` writes it.
-const TREES: [(&str, &str); 36] = [
+const TREES: [(&str, &str); 38] = [
     // HELLO in its six lines, with END PROGRAM, and with another name there
     (
         "       MAIN-PARA.\n           DISPLAY \"HELLO\".\n           STOP RUN.\n",
@@ -150,6 +150,15 @@ const TREES: [(&str, &str); 36] = [
         "           DISPLAY 1. DISPLAY 2.\n       A SECTION.\n       B SECTION.\n           STOP RUN.\n",
         "HELLO|.D1+@4:12.D1+@4:23#A@5:8#B@6:8|.S@7:12",
     ),
+    // PERFORM of procedures, and EXIT
+    (
+        "           PERFORM A.\n           PERFORM A THROUGH B 2 TIMES EXIT.\n       A.\n       B.\n",
+        "HELLO|.P[A]@4:12.P2[A-B]@5:12E@5:40|A@6:8|B@7:8",
+    ),
+    (
+        "           PERFORM A PERFORM A THRU A TEST AFTER UNTIL 1 = 2.\n       A.\n",
+        "HELLO|.P[A]@4:12PV[A-A]@4:22|A@5:8",
+    ),
     // END PROGRAM after a section
     (
         "       A SECTION.\n           STOP RUN.\n       END PROGRAM HELLO.\n",
@@ -158,7 +167,7 @@ const TREES: [(&str, &str); 36] = [
 ];
 
 /// What comes after the three lines of `HEADER`, and the fault's number, line and column.
-const FAULTS: [(&str, u8, u32, u8); 40] = [
+const FAULTS: [(&str, u8, u32, u8); 41] = [
     // nothing after PROCEDURE DIVISION. : at the last token
     ("", 30, 3, 26),
     // a missing period at the end
@@ -209,7 +218,8 @@ const FAULTS: [(&str, u8, u32, u8); 40] = [
         20,
     ),
     ("           STOP RUN.\n       END HELLO.\n", 30, 5, 12),
-    // a PERFORM without statements, without its end, with a period before it, of a paragraph, and an end without one
+    // a PERFORM without statements, without its end, with a period before it, without the name behind THRU, with a name before TIMES
+    // alone, and an end without one
     ("           PERFORM END-PERFORM.\n", 30, 4, 20),
     ("           PERFORM CONTINUE.\n", 30, 4, 28),
     (
@@ -218,7 +228,8 @@ const FAULTS: [(&str, u8, u32, u8); 40] = [
         4,
         48,
     ),
-    ("           PERFORM A.\n       A.\n", 30, 4, 20),
+    ("           PERFORM A THRU.\n       A.\n", 30, 4, 26),
+    ("           PERFORM A TIMES.\n       A.\n", 30, 4, 22),
     ("           CONTINUE END-PERFORM.\n", 30, 4, 21),
     // a count without TIMES, TIMES without a count or twice, and no statements
     ("           PERFORM 2 CONTINUE END-PERFORM.\n", 30, 4, 22),
@@ -377,6 +388,34 @@ fn push_turns(to: &mut String, turns: &Turns) -> Result<(), AllocError> {
     }
 }
 
+/// The names of what is performed.
+fn push_range(to: &mut String, first: &Name, last: &Option<Name>) -> Result<(), AllocError> {
+    to.push_str("[")?;
+    push_text(to, first.characters.as_slice())?;
+    if let Some(last) = last {
+        to.push_str("-")?;
+        push_text(to, last.characters.as_slice())?;
+    }
+    to.push_str("]")
+}
+
+fn push_performed(
+    to: &mut String,
+    alloc: Global,
+    performed: &Performed<Statement>,
+) -> Result<(), AllocError> {
+    match performed {
+        Performed::Procedures { first, last } => push_range(to, first, last),
+        Performed::Statements(inside) => {
+            to.push_str("(")?;
+            for one in inside.as_slice() {
+                push_statement(to, alloc, one)?;
+            }
+            to.push_str(")")
+        }
+    }
+}
+
 fn push_statement(to: &mut String, alloc: Global, statement: &Statement) -> Result<(), AllocError> {
     match &statement.verb {
         Verb::Text(
@@ -391,19 +430,10 @@ fn push_statement(to: &mut String, alloc: Global, statement: &Statement) -> Resu
         Verb::Moving(Moving::Move { receivers, .. }) => {
             to.push_str(format!(in alloc; "M{}", receivers.len())?.as_str())?;
         }
-        Verb::Performing(
-            Performing {
-                performed: Performed::Statements(inside),
-                turns,
-            },
-        ) => {
+        Verb::Performing(Performing { performed, turns }) => {
             to.push_str("P")?;
             push_turns(to, turns)?;
-            to.push_str("(")?;
-            for one in inside.as_slice() {
-                push_statement(to, alloc, one)?;
-            }
-            to.push_str(")")?;
+            push_performed(to, alloc, performed)?;
         }
         // what stands in its ways is shown by tests of `statements`
         Verb::Branching(Branching::If { statements, .. }) => {
@@ -415,6 +445,7 @@ fn push_statement(to: &mut String, alloc: Global, statement: &Statement) -> Resu
         Verb::Arithmetic(_) => to.push_str("R")?,
         Verb::Ending(Ending::StopRun) => to.push_str("S")?,
         Verb::Ending(Ending::Continue) => to.push_str("C")?,
+        Verb::Ending(Ending::Exit) => to.push_str("E")?,
     }
     let place = statement.place;
     to.push_str(format!(in alloc; "@{}:{}", place.line, place.column)?.as_str())

@@ -123,8 +123,8 @@ fn the_bytes_of_a_loop(rt: HostRuntime) -> Result<(), Fail> {
     let alloc = rt.alloc();
     let image = to_bytes(alloc, &code_of(alloc, &nested(alloc, &[b"258"])?)?)?;
     let mut expected = Vec::new(alloc);
-    // ten instructions, a tick for the statement
-    expected.extend_from_slice(&[0, 0, 0, 0, 0, 0, 0, 10])?;
+    // eleven instructions, a tick for the statement
+    expected.extend_from_slice(&[0, 0, 0, 0, 0, 0, 0, 11])?;
     expected.extend_from_slice(&[1, 0, 0, 0, 4])?;
     // count: the counter of this address, and the turns after the first
     expected.extend_from_slice(&[4, 0, 0, 0, 0, 0, 0, 0, 1, 0, 0, 0, 0, 0, 0, 1, 1])?;
@@ -134,7 +134,9 @@ fn the_bytes_of_a_loop(rt: HostRuntime) -> Result<(), Fail> {
     expected.extend_from_slice(&[24, 0, 0, 0, 0, 2])?;
     // turn: back to the tick
     expected.extend_from_slice(&[5, 0, 0, 0, 0, 0, 0, 0, 1, 0, 0, 0, 0, 0, 0, 0, 2])?;
-    expected.extend_from_slice(&[1, 0, 0, 0, 9, 3, 3])?;
+    expected.extend_from_slice(&[1, 0, 0, 0, 9, 3])?;
+    // the paragraph's end, and the program's
+    expected.extend_from_slice(&[12, 0, 0, 0, 0, 0, 0, 0, 0, 3])?;
     same(&rt, image.as_slice().ends_with(expected.as_slice()), true);
     Ok(())
 }

@@ -1,5 +1,6 @@
 -- From a source text to its tree, stage by stage. What the stages promise comes as premises.
-use Rattle.std.proofs.Common.{◌≡◌, ◌∙◌, ℕ, ◌<◌, List, Option, None, Some, Result, Ok, Err, inl, inr, [], ◌∷◌, refl, sym, ap, subst, arith}
+use Rattle.std.proofs.Common.{◌≡◌, ◌∙◌, ℕ, Bool, ◌<◌, List, Option, None, Some, Result, Ok, Err, inl, inr, [], ◌∷◌, refl, sym, ap, subst, arith}
+use Rattle.std.specs.Prelude.{IfErr}
 use Rattle.source_lines.specs.declared.lines.Character.{Character}
 use Rattle.source_lines.specs.Format.{HasCharacters}
 use Rattle.source_lines.specs.Reading.{characters_of}
@@ -17,14 +18,19 @@ use Rattle.tokens.specs.declared.fault.TokenError.{TokenError}
 use Rattle.tokens.specs.declared.fault.TokenError.TheVariants as in_tokens
 use Rattle.divisions.specs.declared.fault.ParseError.{ParseError}
 use Rattle.divisions.specs.declared.fault.ParseError.TheVariants as in_tree
+use Rattle.perform_order.specs.declared.performed.PerformedRange.{PerformedRange}
+use Rattle.perform_order.specs.Order.{AllFall, PerformOneAnother, heights}
 use Rattle.source_tree.specs.Broken.{Broken}
+use Rattle.source_tree.specs.LookUp.{first}
+use Rattle.source_tree.specs.Recursion.{HasOrder, performed}
+use Rattle.source_tree.specs.Rules.{program_rules}
+use Rattle.check_rules.specs.Told.{IsBroken, IsTold}
 use Rattle.entry_rules.specs.Checks as rules
-use Rattle.entry_rules.specs.Checks.{first_or}
 use Rattle.entry_rules.specs.declared.rule.CheckError.{CheckError}
 use Rattle.entry_rules.specs.declared.rule.CheckError.TheVariants as in_rules
 use Rattle.run_unit.specs.Faults as compiling
-use Rattle.run_unit.specs.Faults.{OfLines, OfTokens, OfTree, OfRules, from_tokens, from_tree, from_rules}
-use Rattle.run_unit.specs.Trees.{IsReadFrom, IsTreeAnswer, broken_rules, then_read, tree_by, tree_with_rules, tree_in_tokens, tree_in_characters, tree_of}
+use Rattle.run_unit.specs.Faults.{StageFault, OfLines, OfTokens, OfTree, OfRules, from_tokens, from_tree, from_rules}
+use Rattle.run_unit.specs.Trees.{IsReadFrom, IsTreeAnswer, IsRecursion, IsToldOf, IsFaultOf, broken_rules, then_read, tree_by, tree_with_rules, tree_in_tokens, tree_in_characters, tree_of}
 use Rattle.run_unit.specs.Images.{IsImageAnswer}
 use Rattle.run_unit.specs.declared.fault.CompileError.{CompileError}
 use Rattle.run_unit.specs.declared.fault.CompileError.TheVariants.{Memory, Refused}
@@ -79,23 +85,60 @@ tree_refusal tree formed (in_tree.Refused fault) (inr formless) = absurd (no_pla
 fails_not : {A F : Type 0} {a : A} {fault : F} {r : Result A F} → r ≡ Ok a → r ≡ Err fault → ⊥
 fails_not is fails = cc
 
--- what a check of these rules answers
-abbrev pub none_broken : List Broken → Result (Unit {0}) Broken
-none_broken rules = first_or tt rules
+-- what `one_answer` says
+abbrev pub NoRing : Type 0
+NoRing = (performed : List PerformedRange) (height : ℕ → ℕ) (among : ℕ → Bool) → AllFall height performed → PerformOneAnother among performed → ⊥
 
--- where the tree keeps the rules, only memory refuses it
-pub rules_refusal : (tree : Program) → broken_rules tree ≡ [] → (e : CheckError) → Fails (rules.fault_of e) (none_broken (broken_rules tree)) → IsImageAnswer tree (Err (from_rules e))
-rules_refusal tree kept in_rules.Memory fails = tt
-rules_refusal tree kept (in_rules.Refused broken) fails = absurd (fails_not (ap none_broken kept) fails)
+-- what is first of none
+not_first : (rules : List Broken) (one : Broken) → rules ≡ [] → first rules ≡ Some one → ⊥
+not_first [] one kept is = cc
+not_first (other ∷ more) one kept is = cc
 
-by_first : (tree : Program) (rules : List Broken) (broken : Broken) → none_broken rules ≡ Err broken → tree_by tree rules ≡ Err (OfRules broken)
-by_first tree [] broken e = cc
-by_first tree (one ∷ more) broken e = cc
+-- where the tree keeps the rules and has an order, nothing is told of it
+not_told : NoRing → (tree : Program) (one : Broken) → broken_rules tree ≡ [] → HasOrder tree → IsBroken tree one → ⊥
+unfolding broken_rules
+not_told none tree one kept order (inl is) = not_first (program_rules tree) one kept is
+not_told none tree one kept order (inr back) = none (performed tree) (heights order.0) back.back.among order.1.fall back.back.ring
 
--- the first rule that is broken is what is told of the tree
-pub rules_fault : (tree : Program) (e : CheckError) → Fails (rules.fault_of e) (none_broken (broken_rules tree)) → Fails (compiling.fault_of (from_rules e)) (tree_with_rules tree)
-rules_fault tree in_rules.Memory fails = tt
-rules_fault tree (in_rules.Refused broken) fails = by_first tree (broken_rules tree) (rules.broken_of broken) fails
+-- only memory refuses it
+pub rules_refusal : NoRing → (tree : Program) → broken_rules tree ≡ [] → HasOrder tree → (e : CheckError) → IsTold tree (rules.fault_of e) → IsImageAnswer tree (Err (from_rules e))
+rules_refusal none tree kept order in_rules.Memory told = tt
+rules_refusal none tree kept order (in_rules.Refused broken) told = absurd (not_told none tree (rules.broken_of broken) kept order told)
+
+by_first : (tree : Program) (rules : List Broken) (one : Broken) → first rules ≡ Some one → tree_by tree rules ≡ Err (OfRules one)
+by_first tree [] one e = cc
+by_first tree (other ∷ more) one e = cc
+
+told_fault : (tree : Program) (one : Broken) → IsBroken tree one → IsToldOf tree (Some (OfRules one))
+unfolding broken_rules
+told_fault tree one (inl is) = inl (by_first tree (program_rules tree) one is)
+told_fault tree one (inr back) = inr (record { broken = one; is = refl; back = back })
+
+-- the first rule that is broken is what is told of the tree, or a PERFORM that leads back
+pub rules_fault : (tree : Program) (e : CheckError) → IsTold tree (rules.fault_of e) → IsToldOf tree (compiling.fault_of (from_rules e))
+rules_fault tree in_rules.Memory told = tt
+rules_fault tree (in_rules.Refused broken) told = told_fault tree (rules.broken_of broken) told
+
+kept_tree : (tree : Program) (fault : StageFault) → IsRecursion tree fault → tree_with_rules tree ≡ Ok tree
+unfolding broken_rules
+kept_tree tree fault is = ap (tree_by tree) is.back.kept
+
+-- what is told of a tree is told of its source text
+pub source_fault : (source : List ℕ) (tree : Program) (fault : Option StageFault) → tree_of source ≡ tree_with_rules tree → IsToldOf tree fault → IsFaultOf source fault
+source_fault source tree None same told = tt
+source_fault source tree (Some fault) same (inl is) = inl (same ∙ is)
+source_fault source tree (Some fault) same (inr back) = inr (tree, same ∙ kept_tree tree fault back, back)
+
+-- where a result is an error
+pub result_fault : {A : Type 0} (source : List ℕ) (tree : Program) (result : Result A CompileError) → tree_of source ≡ tree_with_rules tree
+    → IfErr result (λ e. IsToldOf tree (compiling.fault_of e)) → IfErr result (λ e. IsFaultOf source (compiling.fault_of e))
+result_fault source tree (Ok value) same told = tt
+result_fault source tree (Err e) same told = source_fault source tree (compiling.fault_of e) same told
+
+-- a stage before the rules fails
+pub stage_failed : (source : List ℕ) (fault : Option StageFault) → Fails fault (tree_of source) → IsFaultOf source fault
+stage_failed source None fails = tt
+stage_failed source (Some fault) fails = inl fails
 
 -- a tree that was read is the source text's, if it keeps the rules
 pub rules_left : (source : List ℕ) (characters : List Character) (found : List Token) (tree : Program)

@@ -1,5 +1,5 @@
 -- The tree of a source text.
-use Rattle.std.specs.Prelude.{◌≡◌, ℕ, List, [], ◌∷◌, Result, Ok, Err}
+use Rattle.std.specs.Prelude.{◌≡◌, ◌⊎◌, ℕ, List, [], ◌∷◌, Option, Some, None, Result, Ok, Err}
 use Rattle.source_lines.specs.declared.lines.Character.{Character}
 use Rattle.source_lines.specs.Format.{HasCharacters}
 use Rattle.source_lines.specs.Reading.{characters_of}
@@ -8,7 +8,9 @@ use Rattle.tokens.specs.Tokens.{TokensOf}
 use Rattle.tokens.specs.Scanning.{tokens}
 use Rattle.source_tree.specs.declared.program.Program.{Program}
 use Rattle.source_tree.specs.Broken.{Broken}
+use Rattle.source_tree.specs.Recursion.{HasOrder}
 use Rattle.source_tree.specs.Rules.{program_rules}
+use Rattle.check_rules.specs.Told.{Recurses}
 use Rattle.statements.specs.Spelling.{max_nesting}
 use Rattle.data_division.specs.Forms.{HasForms}
 use Rattle.divisions.specs.Spelling.{Spells}
@@ -31,10 +33,11 @@ pub record IsReadFrom (source : List ℕ) (tree : Program) : Type 0 where
   pub spelled : Spells max_nesting tree tokens
   pub formed : HasForms tree.storage
 
--- And it keeps the rules.
+-- And it keeps the rules, and none of its PERFORMs leads back to the paragraph that it stands in.
 pub record IsTreeOf (source : List ℕ) (tree : Program) : Type 0 where
   pub read : IsReadFrom source tree
   pub kept : broken_rules tree ≡ []
+  pub order : HasOrder tree
 
 -- ---- the same as a function, by the stages in order
 
@@ -56,7 +59,7 @@ tree_in_tokens found = then_read (parse_of found) OfTree tree_with_rules
 abbrev pub tree_in_characters : List Character → Result Program StageFault
 tree_in_characters characters = then_read (tokens characters) OfTokens tree_in_tokens
 
--- the tree of a source text, or its first fault
+-- the tree of a source text, or its first fault; of PERFORMs that lead back nothing is said here
 abbrev pub tree_of : List ℕ → Result Program StageFault
 tree_of source = then_read (characters_of source) OfLines tree_in_characters
 
@@ -65,3 +68,19 @@ abbrev pub IsTreeAnswer : Program → Result Program CompileError → Type 0
 IsTreeAnswer tree (Ok answer) = answer ≡ tree
 IsTreeAnswer tree (Err Memory) = Unit {0}
 IsTreeAnswer tree (Err (Refused fault)) = ⊥
+
+-- 54, told of a tree that keeps the other rules
+pub record IsRecursion (tree : Program) (fault : StageFault) : Type 0 where
+  pub broken : Broken
+  pub is : fault ≡ OfRules broken
+  pub back : Recurses tree broken
+
+-- What may be told of a tree: the first rule that it breaks, or a PERFORM that leads back. Of memory nothing is said.
+abbrev pub IsToldOf : Program → Option StageFault → Type 0
+IsToldOf tree None = Unit {0}
+IsToldOf tree (Some fault) = (tree_with_rules tree ≡ Err fault) ⊎ IsRecursion tree fault
+
+-- the same of a source text: the first fault of its stages, or a PERFORM that leads back where there is none
+abbrev pub IsFaultOf : List ℕ → Option StageFault → Type 0
+IsFaultOf source None = Unit {0}
+IsFaultOf source (Some fault) = (tree_of source ≡ Err fault) ⊎ ((tree : Program) × (tree_of source ≡ Ok tree) × IsRecursion tree fault)

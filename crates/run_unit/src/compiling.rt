@@ -1,12 +1,14 @@
 //! From a source text to its image.
 
 ghost use Rattle.std.specs.Prelude.{[], ◌≡◌, ℕ, IfOk, IfErr, OnOk};
-ghost use Rattle.answers.specs.Answer.{Gives, Fails};
+ghost use Rattle.answers.specs.Answer.{Fails};
 ghost use Rattle.source_tree.specs.declared.program.Program.{Program};
+ghost use Rattle.source_tree.specs.Recursion.{HasOrder};
 ghost use Rattle.source_tree.specs.Meaning.{meaning};
 ghost use Rattle.entry_rules.specs.Checks as rules;
+ghost use Rattle.check_rules.specs.Told.{IsTold};
 ghost use Rattle.run_unit.specs.Faults.{fault_of};
-ghost use Rattle.run_unit.specs.Trees.{IsReadFrom, IsTreeOf, IsTreeAnswer, broken_rules, tree_with_rules, tree_of};
+ghost use Rattle.run_unit.specs.Trees.{IsReadFrom, IsTreeOf, IsTreeAnswer, IsToldOf, IsFaultOf, broken_rules, tree_with_rules, tree_of};
 ghost use Rattle.run_unit.specs.Images.{MeansAs, IsImageAnswer};
 
 use crate::fault::CompileError;
@@ -14,6 +16,7 @@ use check_rules::{CheckError, Checked, check};
 use code_image::to_bytes;
 use codegen::generate;
 use divisions::parse;
+use perform_order::one_answer;
 use source_lines::{logical, reference_format};
 use source_tree::Program;
 use std::alloc::{AllocError, Global};
@@ -39,7 +42,8 @@ fn read_tree(alloc: Global, source: &[u8]) -> Result<Program, CompileError>
 fn check_tree(alloc: Global, tree: &Program) -> Result<Checked<'_>, CheckError>
     ensures tree { IfOk result (λ checked. checked ≡ tree.now) }
     ensures kept { OnOk result (broken_rules tree.now ≡ []) }
-    ensures exact { Gives (λ checked. tt {0}) rules.fault_of result (rules.first_or (tt {0}) (broken_rules tree.now)) }
+    ensures order { OnOk result (HasOrder tree.now) }
+    ensures exact { IfErr result (λ e. IsTold tree.now (rules.fault_of e)) }
 {
     check(alloc, tree)
 }
@@ -52,13 +56,15 @@ fn make_image(alloc: Global, checked: &Checked<'_>) -> Result<Vec<u8>, AllocErro
     to_bytes(alloc, &code)
 }
 
-/// The image of a tree, if it keeps the rules; else the first one that it breaks.
+/// The image of a tree, if it keeps the rules and none of its PERFORMs leads back; else the first rule that it breaks, or such a PERFORM.
 fn image_of_tree(alloc: Global, tree: &Program) -> Result<Vec<u8>, CompileError>
     ensures kept { OnOk result (broken_rules tree.now ≡ []) }
+    ensures order { OnOk result (HasOrder tree.now) }
     ensures image { IfOk result (λ image. MeansAs tree.now image.items) }
-    ensures only { broken_rules tree.now ≡ [] → IsImageAnswer tree.now result }
-    ensures fault { IfErr result (λ e. Fails (fault_of e) (tree_with_rules tree.now)) }
+    ensures only { broken_rules tree.now ≡ [] → HasOrder tree.now → IsImageAnswer tree.now result }
+    ensures fault { IfErr result (λ e. IsToldOf tree.now (fault_of e)) }
 {
+    one_answer();
     let checked = check_tree(alloc, tree)?;
     Ok(make_image(alloc, &checked)?)
 }
@@ -66,15 +72,15 @@ fn image_of_tree(alloc: Global, tree: &Program) -> Result<Vec<u8>, CompileError>
 /// The image of a source text.
 ///
 /// `Refused` with the first fault that a stage meets: 10 to 14 for its lines, 15 to 18 for its tokens, 30, 31 and 20
-/// for its tree, 43 to 48, 55 and 69 for the rules of its entries, 17, 18, 40, 41, 49 to 51 and 67 for those of its
-/// statements.
+/// for its tree, 43 to 48, 55 and 69 for the rules of its entries, 42 for the names of its procedures, 17, 18, 40, 41, 49 to 52, 55
+/// and 67 for the rules of its statements, 56 where it has no procedure, and 54 where a PERFORM leads back to its paragraph.
 pub fn compile(alloc: Global, source: &[u8]) -> Result<Vec<u8>, CompileError>
     // What is answered is an image of the source text's tree: whatever it is given, its run is what the tree means.
     ensures image { IfOk result (λ image. (tree : Program) × IsTreeOf source.now tree × MeansAs tree image.items) }
     // A source text with a tree is answered with such an image, unless memory runs out.
     ensures only { (tree : Program) → IsTreeOf source.now tree → IsImageAnswer tree result }
-    // Else the answer is the first fault of its stages.
-    ensures fault { IfErr result (λ e. Fails (fault_of e) (tree_of source.now)) }
+    // Else the answer is the first fault of its stages, or a PERFORM that leads back where there is none.
+    ensures fault { IfErr result (λ e. IsFaultOf source.now (fault_of e)) }
 {
     let tree = read_tree(alloc, source)?;
     image_of_tree(alloc, &tree)

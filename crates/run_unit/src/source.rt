@@ -1,14 +1,13 @@
 //! Compiling and running in one call.
 
 ghost use Rattle.std.specs.Prelude.{◌≡◌, ◌↔◌, All, OnErr, IfOk, IfErr};
-ghost use Rattle.answers.specs.Answer.{Fails};
 ghost use Rattle.station.specs.History.{Through};
 ghost use Rattle.source_tree.specs.declared.program.Program.{Program};
 ghost use Rattle.source_tree.specs.Given.{given_on};
 ghost use Rattle.source_tree.specs.Meaning.{meaning};
 ghost use Rattle.machine.specs.Ends.{IsDigit, Moment};
 ghost use Rattle.run_unit.specs.Faults.{fault_of};
-ghost use Rattle.run_unit.specs.Trees.{IsTreeOf, tree_of};
+ghost use Rattle.run_unit.specs.Trees.{IsTreeOf, IsFaultOf};
 ghost use Rattle.run_unit.specs.Ends.{EndsAs, HasCause, IfUnbegun, IsEndOfImage, ForSource};
 ghost use Rattle.run_unit.specs.declared.fault.CompileError.TheVariants.{Memory};
 
@@ -32,9 +31,10 @@ pub fn run_source<S: Station>(
     ensures sectors { S.sectors station.new ≡ S.sectors station.old }
     ensures honest { S.is_honest station.old ↔ S.is_honest station.new }
     ensures cause { ForSource result (S.failures station.old) (S.failures station.new) }
-    // A refused source text leaves the station as it was, and the answer is the first fault of its stages.
+    // A refused source text leaves the station as it was, and the answer is the first fault of its stages, or a PERFORM that leads back
+    // where there is none.
     ensures untouched { OnErr result (station.new ≡ station.old) }
-    ensures fault { IfErr result (λ e. Fails (fault_of e) (tree_of source.now)) }
+    ensures fault { IfErr result (λ e. IsFaultOf source.now (fault_of e)) }
     // Its image is never refused, and where memory runs out before the run nothing was done.
     ensures own { IfOk result IsEndOfImage }
     ensures unbegun { IfOk result (λ ended. IfUnbegun ended (station.new ≡ station.old)) }

@@ -2,7 +2,7 @@
 use Rattle.std.proofs.Common.{◌≡◌, ℕ, zero, suc, ◌<◌, ◌≤◌, List, [], ◌∷◌, refl, ap, ◌∙◌, arith}
 use Rattle.std.specs.Prelude.{Bool, true, false, Option, Some, None, Ok, Err}
 use Rattle.source_tree.specs.declared.performing.Performed.{Performed}
-use Rattle.source_tree.specs.declared.performing.Performed.TheVariants.{Statements}
+use Rattle.source_tree.specs.declared.performing.Performed.TheVariants.{Procedures, Statements}
 use Rattle.source_tree.specs.declared.performing.Turns.{Turns}
 use Rattle.source_tree.specs.declared.performing.Turns.TheVariants.{Once, Times}
 use Rattle.source_tree.specs.declared.phrases.Phrases.{Phrases}
@@ -15,8 +15,8 @@ use Rattle.source_tree.specs.State.{State, Outcome, Done, Over, then_do, in_turn
 use Rattle.source_tree.specs.Places.{Placed}
 use Rattle.source_tree.specs.Evaluated.{Evaluated}
 use Rattle.source_tree.specs.Arithmetic.{Stored, operation, is_there, in_phrase, phrase_for, calculating}
-use Rattle.source_tree.specs.Setting.{Setting}
-use Rattle.source_tree.specs.Performing.{turns, turns_of, repeat, body}
+use Rattle.source_tree.specs.Procedures.{Range, Procedure, range_of}
+use Rattle.source_tree.specs.Performing.{turns, turns_of, repeat, performed_range, body}
 use Rattle.source_tree.specs.Meaning.{step, exec, sentence, paragraph, range}
 use Rattle.source_tree.proofs.Runs
 use Rattle.source_tree.proofs.Runs.{Within, IsRun, in_turn_runs, body_runs}
@@ -52,9 +52,16 @@ turns_agrees n line (suc more) go other r a =
     spend_agrees n line (λ s. then_do (go s) (turns line more go)) (λ s. then_do (other s) (turns line more other))
     (then_agrees n go other (turns line more go) (turns line more other) r a (turns_agrees n line more go other r a))
 
-pub body_agrees : {S : Type 0} (n : ℕ) (run other : S → State → Outcome) → ((one : S) → IsRun (run one)) → ((one : S) → Agrees n (run one) (other one))
-    → (one : Performed S) → Agrees n (body run one) (body other one)
-body_agrees n run other r a (Statements statements) = in_turn_agrees n run other r a statements
+-- what is performed, where the paragraphs of ranges agree too
+module _ {S : Type 0} (n : ℕ) (run other : S → State → Outcome) (r : (one : S) → IsRun (run one)) (a : (one : S) → Agrees n (run one) (other one))
+    (range others : Range → State → Outcome) (ranges : (one : Range) → Agrees n (range one) (others one)) where
+  performed_agrees : (found : Option Range) → Agrees n (performed_range range found) (performed_range others found)
+  performed_agrees None = record { by = λ s le. refl }
+  performed_agrees (Some one) = ranges one
+
+  pub body_agrees : (procedures : List Procedure) (one : Performed S) → Agrees n (body run range procedures one) (body other others procedures one)
+  body_agrees procedures (Procedures first last) = performed_agrees (range_of procedures first last)
+  body_agrees procedures (Statements statements) = in_turn_agrees n run other r a statements
 
 -- The stores are the same; a phrase runs with the budget that is left.
 module _ {S : Type 0} (n : ℕ) (run other : S → State → Outcome) (r : (one : S) → IsRun (run one)) (a : (one : S) → Agrees n (run one) (other one)) where

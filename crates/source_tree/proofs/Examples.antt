@@ -55,12 +55,12 @@ perform_times place digits inside =
 abbrev with : ℕ → Given
 with budget = record { budget = budget; day = 50 ∷ 54 ∷ 48 ∷ 55 ∷ 51 ∷ 48 ∷ []; lines = [] }
 
-abbrev meaning : Program → ℕ → Run
+abbrev pub meaning : Program → ℕ → Run
 meaning program budget = given.meaning program (with budget)
 
 -- no items
 abbrev nothing_declared : Setting
-nothing_declared = record { items = [] }
+nothing_declared = record { scope = record { items = []; procedures = [] }; paragraphs = [] }
 
 -- of a program without items
 abbrev empty : Program

@@ -14,3 +14,4 @@ pub mod EntryExamples
 pub mod MoveExamples
 pub mod DataExamples
 pub mod UntilExamples
+pub mod PerformExamples

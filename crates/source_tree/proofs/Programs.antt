@@ -4,16 +4,20 @@ use Rattle.std.specs.Prelude.{length}
 use Rattle.source_tree.specs.declared.program.Program.{Program}
 use Rattle.source_tree.specs.Given.{Given, with_budget}
 use Rattle.source_tree.specs.State.{Stopped, Budget, Faulted, Outcome, Done, Over}
-use Rattle.source_tree.specs.Setting.{setting}
-use Rattle.source_tree.specs.Meaning.{paragraphs, start, run_from, told, meaning}
+use Rattle.source_tree.specs.Setting.{paragraphs, setting}
+use Rattle.source_tree.specs.Meaning.{exec, start, run_from, told, meaning}
 use Rattle.station.specs.State.{Begins}
 use Rattle.source_tree.proofs.Runs.{Alike, richer, itself}
-use Rattle.source_tree.proofs.StatementRuns.{range_runs}
-use Rattle.source_tree.proofs.StatementDepth.{range_agrees}
+use Rattle.source_tree.proofs.StatementRuns.{exec_runs, range_runs}
+use Rattle.source_tree.proofs.StatementDepth.{exec_agrees, range_agrees}
 
 deep : (program : Program) (given : Given) (depth : ℕ) → given.budget < depth → run_from depth program (start program given) ≡ run_from (suc given.budget) program (start program given)
 deep program given depth below =
-    (range_agrees (setting program) given.budget depth (suc given.budget) below (omega arith) (paragraphs program) (length (paragraphs program))).by (start program given) (omega arith)
+    let around = setting program in
+    let budget = given.budget in
+    (range_agrees budget (exec around depth) (exec around (suc budget)) (exec_runs around depth) (exec_agrees around budget depth (suc budget) below (omega arith))
+    (paragraphs program) (length (paragraphs program))).by
+    (start program given) (omega arith)
 
 pub depth_is_enough : (program : Program) (given : Given) (depth : ℕ) → given.budget < depth → told (run_from depth program (start program given)) ≡ meaning program given
 depth_is_enough program given depth below = ap told (deep program given depth below)

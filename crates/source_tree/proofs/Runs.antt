@@ -9,7 +9,7 @@ use Rattle.source_tree.specs.declared.text.Text.TheVariants as text
 use Rattle.source_tree.specs.declared.ending.Ending.{Ending}
 use Rattle.source_tree.specs.declared.ending.Ending.TheVariants as ending
 use Rattle.source_tree.specs.declared.performing.Performed.{Performed}
-use Rattle.source_tree.specs.declared.performing.Performed.TheVariants.{Statements}
+use Rattle.source_tree.specs.declared.performing.Performed.TheVariants.{Procedures, Statements}
 use Rattle.source_tree.specs.declared.performing.Turns.{Turns}
 use Rattle.source_tree.specs.declared.performing.Turns.TheVariants.{Once, Times}
 use Rattle.source_tree.specs.declared.performing.Performing.{Performing}
@@ -22,7 +22,7 @@ use Rattle.source_tree.specs.Places.{Placed}
 use Rattle.source_tree.specs.Evaluated.{Evaluated}
 use Rattle.source_tree.specs.State.{State, Stopped, Budget, Faulted, Outcome, Done, Over, showing, then_do, in_turn, spend_from, spend, with_value, changing, outcome_events}
 use Rattle.source_tree.specs.Showing.{displayed}
-use Rattle.source_tree.specs.Setting.{Setting}
+use Rattle.source_tree.specs.Procedures.{Range, Procedure, range_of}
 use Rattle.source_tree.specs.Moving.{moving}
 use Rattle.source_tree.specs.Texts.{texts}
 use Rattle.source_tree.specs.Accepting.{next_line, later_lines, accept_line, accept_date}
@@ -30,7 +30,7 @@ use Rattle.source_tree.specs.Arithmetic.{Stored, operation, is_there, in_phrase,
 use Rattle.source_tree.specs.declared.phrases.Phrases.{Phrases}
 use Rattle.source_tree.specs.declared.arithmetic.Arithmetic.{Arithmetic}
 use Rattle.source_tree.specs.declared.reference.Reference.{Reference}
-use Rattle.source_tree.specs.Performing.{turns, turns_of, repeat, body, performing}
+use Rattle.source_tree.specs.Performing.{turns, turns_of, repeat, performed_range, body, performing}
 use Rattle.source_tree.specs.Meaning.{finish, step, exec, sentence, paragraph, range}
 use Rattle.station.specs.State.{Begins}
 
@@ -153,9 +153,9 @@ changing_runs change = value_runs (λ after s. Done (record s { storage = after 
 accepting_runs : (lines : List (List ℕ) → List (List ℕ)) (after : Storage) → IsRun (λ s. Done (record s { storage = after; lines = lines s.lines }))
 accepting_runs lines after = record { falls = λ s. omega arith; grows = λ s. itself s.events; alike = λ k s. refl }
 
-accept_runs : (around : Setting) (receiver : Reference) → IsRun (texts around (text.Accept receiver))
-accept_runs around receiver =
-    let find : State → Evaluated Storage = λ s. accept_line around.items (next_line s.lines) receiver s.storage in
+accept_runs : (items : List Placed) (receiver : Reference) → IsRun (texts items (text.Accept receiver))
+accept_runs items receiver =
+    let find : State → Evaluated Storage = λ s. accept_line items (next_line s.lines) receiver s.storage in
     let go : Storage → State → Outcome = λ after s. Done (record s { storage = after; lines = later_lines s.lines }) in
     record {
       falls = λ s. value_within go (accepting_runs later_lines) (find s) s;
@@ -163,9 +163,9 @@ accept_runs around receiver =
       alike = λ k s. value_alike go (accepting_runs later_lines) (find s) k s;
     }
 
-accept_date_runs : (around : Setting) (receiver : Reference) → IsRun (texts around (text.AcceptDate receiver))
-accept_date_runs around receiver =
-    let find : State → Evaluated Storage = λ s. accept_date around.items s.day receiver s.storage in
+accept_date_runs : (items : List Placed) (receiver : Reference) → IsRun (texts items (text.AcceptDate receiver))
+accept_date_runs items receiver =
+    let find : State → Evaluated Storage = λ s. accept_date items s.day receiver s.storage in
     let go : Storage → State → Outcome = λ after s. Done (record s { storage = after }) in
     record {
       falls = λ s. value_within go storing_runs (find s) s;
@@ -173,22 +173,28 @@ accept_date_runs around receiver =
       alike = λ k s. value_alike go storing_runs (find s) k s;
     }
 
-pub texts_runs : (around : Setting) (one : Text) → IsRun (texts around one)
-texts_runs around (text.Display operands advancing) = value_runs (λ bytes s. Done (showing bytes s)) show_runs (displayed around.items operands advancing)
-texts_runs around (text.Accept receiver) = accept_runs around receiver
-texts_runs around (text.AcceptDate receiver) = accept_date_runs around receiver
+pub texts_runs : (items : List Placed) (one : Text) → IsRun (texts items one)
+texts_runs items (text.Display operands advancing) = value_runs (λ bytes s. Done (showing bytes s)) show_runs (displayed items operands advancing)
+texts_runs items (text.Accept receiver) = accept_runs items receiver
+texts_runs items (text.AcceptDate receiver) = accept_date_runs items receiver
 
 pub finish_runs : (one : Ending) → IsRun (finish one)
 finish_runs ending.StopRun = stop_runs
 finish_runs ending.Continue = done_runs
+finish_runs ending.Exit = done_runs
 
 pub turns_runs : (line count : ℕ) (go : State → Outcome) → IsRun go → IsRun (turns line count go)
 turns_runs line zero go r = done_runs
 turns_runs line (suc more) go r = spend_runs line (λ s. then_do (go s) (turns line more go)) (then_runs go (turns line more go) r (turns_runs line more go r))
 
-module _ {S : Type 0} (run : S → State → Outcome) (r : (one : S) → IsRun (run one)) where
-  pub body_runs : (one : Performed S) → IsRun (body run one)
-  body_runs (Statements statements) = in_turn_runs run r statements
+module _ {S : Type 0} (run : S → State → Outcome) (range : Range → State → Outcome) (r : (one : S) → IsRun (run one)) (ranges : (one : Range) → IsRun (range one)) where
+  performed_runs : (found : Option Range) → IsRun (performed_range range found)
+  performed_runs None = done_runs
+  performed_runs (Some one) = ranges one
+
+  pub body_runs : (procedures : List Procedure) (one : Performed S) → IsRun (body run range procedures one)
+  body_runs procedures (Procedures first last) = performed_runs (range_of procedures first last)
+  body_runs procedures (Statements statements) = in_turn_runs run r statements
 
 -- A phrase behind stores.
 module _ {S : Type 0} (run : S → State → Outcome) (r : (one : S) → IsRun (run one)) where

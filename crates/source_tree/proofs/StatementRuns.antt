@@ -9,10 +9,11 @@ use Rattle.source_tree.specs.declared.statement.Statement.{Statement, out-Statem
 use Rattle.source_tree.specs.declared.program.Paragraph.{Paragraph}
 use Rattle.source_tree.specs.Places.{Placed}
 use Rattle.source_tree.specs.State.{State, Outcome}
-use Rattle.source_tree.specs.Setting.{Setting}
+use Rattle.source_tree.specs.Procedures.{Range, within_range}
+use Rattle.source_tree.specs.Setting.{Scope, Setting}
 use Rattle.source_tree.specs.Moving.{moving}
 use Rattle.source_tree.specs.Performing.{turns_of, repeat, body, performing}
-use Rattle.source_tree.specs.Meaning.{step, exec, sentence, paragraph, range}
+use Rattle.source_tree.specs.Meaning.{step, exec, sentence, paragraph, ranged, range}
 use Rattle.source_tree.proofs.Runs.{IsRun, itself, stop_runs, then_runs, spend_runs, in_turn_runs, changing_runs, turns_runs, body_runs, calculating_runs, texts_runs, finish_runs}
 use Rattle.source_tree.proofs.Repeating.{until_runs, branching_runs}
 
@@ -21,32 +22,39 @@ repeat_runs items depth line often.Once go r = r
 repeat_runs items depth line (often.Times count) go r = turns_runs line (turns_of count) go r
 repeat_runs items depth line (often.Until one) go r = until_runs items line depth one go r
 
-performing_runs : {S : Type 0} (run : S → State → Outcome) (r : (one : S) → IsRun (run one)) (items : List Placed) (depth line : ℕ) (one : Performing S)
-    → IsRun (performing run items depth line one)
-performing_runs run r items depth line one = repeat_runs items depth line one.turns (body run one.performed) (body_runs run r one.performed)
+-- the statements in a statement are runs, and so are ranges of paragraphs
+module _ {S : Type 0} (run : S → State → Outcome) (range : Range → State → Outcome) (r : (one : S) → IsRun (run one)) (ranges : (one : Range) → IsRun (range one)) (scope : Scope) where
+  performing_runs : (depth line : ℕ) (one : Performing S) → IsRun (performing run range scope depth line one)
+  performing_runs depth line one =
+      repeat_runs scope.items depth line one.turns (body run range scope.procedures one.performed) (body_runs run range r ranges scope.procedures one.performed)
+
+  step_runs : (depth line : ℕ) (one : Verb S) → IsRun (step scope run range depth line one)
+  step_runs depth line (verb.Moving one) = changing_runs (moving scope.items one)
+  step_runs depth line (verb.Arithmetic one) = calculating_runs run r scope.items one
+  step_runs depth line (verb.Branching one) = branching_runs run r scope.items one
+  step_runs depth line (verb.Performing one) = performing_runs depth line one
+  step_runs depth line (verb.Text one) = texts_runs scope.items one
+  step_runs depth line (verb.Ending one) = finish_runs one
+
+pub paragraph_runs : (run : Statement → State → Outcome) → ((one : Statement) → IsRun (run one)) → (one : Paragraph) → IsRun (paragraph run one)
+paragraph_runs run r one = in_turn_runs (sentence run) (λ some. in_turn_runs run r some.statements) one.sentences
+
+pub ranged_runs : (run : Statement → State → Outcome) → ((one : Statement) → IsRun (run one)) → (paragraphs : List Paragraph) (one : Range) → IsRun (ranged run paragraphs one)
+ranged_runs run r paragraphs one = in_turn_runs (paragraph run) (paragraph_runs run r) (within_range one paragraphs)
 
 module _ (around : Setting) where
-  step_runs : {S : Type 0} (run : S → State → Outcome) → ((one : S) → IsRun (run one)) → (depth line : ℕ) (one : Verb S) → IsRun (step around run depth line one)
-  step_runs run r depth line (verb.Moving one) = changing_runs (moving around.items one)
-  step_runs run r depth line (verb.Arithmetic one) = calculating_runs run r around.items one
-  step_runs run r depth line (verb.Branching one) = branching_runs run r around.items one
-  step_runs run r depth line (verb.Performing one) = performing_runs run r around.items depth line one
-  step_runs run r depth line (verb.Text one) = texts_runs around one
-  step_runs run r depth line (verb.Ending one) = finish_runs one
-
   pub exec_runs : (depth : ℕ) (one : Statement) → IsRun (exec around depth one)
   exec_runs zero one = record { falls = λ s. tt; grows = λ s. itself s.events; alike = λ k s. itself s.events }
   exec_runs (suc depth) one =
       let line = (out-Statement one).place.line in
       let verb = (out-Statement one).verb in
-      spend_runs line (step around (exec around depth) depth line verb) (step_runs (exec around depth) (exec_runs depth) depth line verb)
-
-  pub paragraph_runs : (depth : ℕ) (one : Paragraph) → IsRun (paragraph (exec around depth) one)
-  paragraph_runs depth one =
-      in_turn_runs (sentence (exec around depth)) (λ some. in_turn_runs (exec around depth) (exec_runs depth) some.statements) one.sentences
+      let run = exec around depth in
+      let range = ranged run around.paragraphs in
+      spend_runs line (step around.scope run range depth line verb)
+      (step_runs run range (exec_runs depth) (ranged_runs run (exec_runs depth) around.paragraphs) around.scope depth line verb)
 
   pub range_runs : (depth : ℕ) (all : List Paragraph) (more : ℕ) → IsRun (range (exec around depth) all more)
   range_runs depth [] more = stop_runs
-  range_runs depth (one ∷ rest) zero = paragraph_runs depth one
+  range_runs depth (one ∷ rest) zero = paragraph_runs (exec around depth) (exec_runs depth) one
   range_runs depth (one ∷ rest) (suc more) =
-      then_runs (paragraph (exec around depth) one) (range (exec around depth) rest more) (paragraph_runs depth one) (range_runs depth rest more)
+      then_runs (paragraph (exec around depth) one) (range (exec around depth) rest more) (paragraph_runs (exec around depth) (exec_runs depth) one) (range_runs depth rest more)

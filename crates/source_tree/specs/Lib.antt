@@ -1,6 +1,5 @@
 pub mod Given
 pub mod State
-pub mod Setting
 pub mod Display
 pub mod Performing
 pub mod Integers
@@ -12,6 +11,8 @@ pub mod Places
 pub mod Literals
 pub mod Starts
 pub mod Storage
+pub mod Procedures
+pub mod Setting
 pub mod Evaluated
 pub mod LookUp
 pub mod References
@@ -34,6 +35,8 @@ pub mod MoveRules
 pub mod TextRules
 pub mod ArithmeticRules
 pub mod ConditionRules
+pub mod PerformRules
+pub mod Recursion
 pub mod Rules
 pub mod Meaning
 pub use Rattle.station.specs.State as Events

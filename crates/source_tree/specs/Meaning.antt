@@ -1,6 +1,6 @@
 -- What a program does, told on its tree. Control runs from the first statement to the end of the last paragraph, which
 -- acts as STOP RUN and uses none of the budget (own choice; COBOL-85, Nucleus, "Procedure division execution").
-use Rattle.std.specs.Prelude.{ℕ, zero, suc, List, [], ◌∷◌, ◌++◌, length}
+use Rattle.std.specs.Prelude.{ℕ, zero, suc, List, [], ◌∷◌, length}
 use Rattle.station.specs.State.{Event}
 use Rattle.source_tree.specs.declared.ending.Ending.{Ending}
 use Rattle.source_tree.specs.declared.ending.Ending.TheVariants as ending
@@ -9,12 +9,12 @@ use Rattle.source_tree.specs.declared.statement.Verb.TheVariants as verb
 use Rattle.source_tree.specs.declared.statement.Statement.{Statement, out-Statement}
 use Rattle.source_tree.specs.declared.program.Sentence.{Sentence}
 use Rattle.source_tree.specs.declared.program.Paragraph.{Paragraph}
-use Rattle.source_tree.specs.declared.program.Section.{Section}
 use Rattle.source_tree.specs.declared.program.Program.{Program}
 use Rattle.source_tree.specs.Given.{Given}
 use Rattle.source_tree.specs.Starts.{areas_at_start}
 use Rattle.source_tree.specs.State.{State, End, Stopped, Budget, Outcome, Done, Over, then_do, in_turn, spend, changing}
-use Rattle.source_tree.specs.Setting.{Setting, setting}
+use Rattle.source_tree.specs.Procedures.{Range, within_range}
+use Rattle.source_tree.specs.Setting.{Scope, Setting, paragraphs, setting}
 use Rattle.source_tree.specs.Moving.{moving}
 use Rattle.source_tree.specs.Arithmetic.{calculating}
 use Rattle.source_tree.specs.Branching.{branching}
@@ -24,23 +24,17 @@ use Rattle.source_tree.specs.Texts.{texts}
 abbrev pub finish : Ending → State → Outcome
 finish ending.StopRun s = Over Stopped s
 finish ending.Continue s = Done s
+finish ending.Exit s = Done s
 
--- One statement at this line after it has used one of the budget, by its family. `run` runs the statements that stand in it; a loop that
--- goes on until a condition is true has at most `depth` turns.
-abbrev pub step : Setting → {S : Type 0} → (S → State → Outcome) → ℕ → ℕ → Verb S → State → Outcome
-step around run depth line (verb.Moving one) s = changing (moving around.items one) s
-step around run depth line (verb.Arithmetic one) s = calculating around.items run one s
-step around run depth line (verb.Branching one) s = branching around.items run one s
-step around run depth line (verb.Performing one) s = performing run around.items depth line one s
-step around run depth line (verb.Text one) s = texts around one s
-step around run depth line (verb.Ending one) s = finish one s
-
--- A statement, with at most `depth` statements and turns in one another, itself among them. Each of these has used one of the
--- budget, so that a depth above the budget is never used up.
-abbrev pub exec : Setting → ℕ → Statement → State → Outcome
-exec around zero one s = Over Budget s
-exec around (suc depth) one s =
-    spend (out-Statement one).place.line s (step around (exec around depth) depth (out-Statement one).place.line (out-Statement one).verb)
+-- One statement at this line after it has used one of the budget, by its family. `run` runs the statements that stand in it, and `range`
+-- the paragraphs of a range; a loop that goes on until a condition is true has at most `depth` turns.
+abbrev pub step : Scope → {S : Type 0} → (S → State → Outcome) → (Range → State → Outcome) → ℕ → ℕ → Verb S → State → Outcome
+step scope run range depth line (verb.Moving one) s = changing (moving scope.items one) s
+step scope run range depth line (verb.Arithmetic one) s = calculating scope.items run one s
+step scope run range depth line (verb.Branching one) s = branching scope.items run one s
+step scope run range depth line (verb.Performing one) s = performing run range scope depth line one s
+step scope run range depth line (verb.Text one) s = texts scope.items one s
+step scope run range depth line (verb.Ending one) s = finish one s
 
 abbrev pub sentence : (Statement → State → Outcome) → Sentence → State → Outcome
 sentence run one s = in_turn run one.statements s
@@ -48,19 +42,23 @@ sentence run one s = in_turn run one.statements s
 abbrev pub paragraph : (Statement → State → Outcome) → Paragraph → State → Outcome
 paragraph run one s = in_turn (sentence run) one.sentences s
 
+-- the paragraphs of a range, in order
+abbrev pub ranged : (Statement → State → Outcome) → List Paragraph → Range → State → Outcome
+ranged run paragraphs range s = in_turn (paragraph run) (within_range range paragraphs) s
+
+-- A statement, with at most `depth` statements and turns in one another, itself among them. Each of these has used one of the
+-- budget, so that a depth above the budget is never used up.
+abbrev pub exec : Setting → ℕ → Statement → State → Outcome
+exec around zero one s = Over Budget s
+exec around (suc depth) one s =
+    spend (out-Statement one).place.line s
+    (step around.scope (exec around depth) (ranged (exec around depth) around.paragraphs) depth (out-Statement one).place.line (out-Statement one).verb)
+
 -- paragraphs from the first of the list on: that one and so many more; the end of the last one of all stops
 abbrev pub range : (Statement → State → Outcome) → List Paragraph → ℕ → State → Outcome
 range run [] more s = Over Stopped s
 range run (one ∷ rest) zero s = paragraph run one s
 range run (one ∷ rest) (suc more) s = then_do (paragraph run one s) (range run rest more)
-
-abbrev pub paragraphs_in : List Section → List Paragraph
-paragraphs_in [] = []
-paragraphs_in (one ∷ more) = one.paragraphs ++ paragraphs_in more
-
--- all paragraphs of a program, in order
-abbrev pub paragraphs : Program → List Paragraph
-paragraphs program = paragraphs_in program.sections
 
 abbrev pub start : Program → Given → State
 start program given = record {

@@ -1,13 +1,15 @@
 -- PERFORM (COBOL-85, Nucleus, "The PERFORM statement").
-use Rattle.std.specs.Prelude.{ℕ, zero, suc, min, ◌≤◌, List}
+use Rattle.std.specs.Prelude.{ℕ, zero, suc, min, ◌≤◌, List, Option, Some, None}
 use Rattle.source_tree.specs.declared.performing.Performed.{Performed}
-use Rattle.source_tree.specs.declared.performing.Performed.TheVariants.{Statements}
+use Rattle.source_tree.specs.declared.performing.Performed.TheVariants.{Procedures, Statements}
 use Rattle.source_tree.specs.declared.performing.Turns.{Turns}
 use Rattle.source_tree.specs.declared.performing.Turns.TheVariants as often
 use Rattle.source_tree.specs.declared.performing.Performing.{Performing}
 use Rattle.source_tree.specs.declared.literal.Integer.{Integer}
 use Rattle.source_tree.specs.Integers.{number_of}
 use Rattle.source_tree.specs.Places.{Placed}
+use Rattle.source_tree.specs.Procedures.{Range, Procedure, range_of}
+use Rattle.source_tree.specs.Setting.{Scope}
 use Rattle.source_tree.specs.State.{State, Outcome, Done, then_do, in_turn, spend}
 use Rattle.source_tree.specs.Until.{until}
 
@@ -36,10 +38,17 @@ repeat items depth line often.Once body s = body s
 repeat items depth line (often.Times count) body s = turns line (turns_of count) body s
 repeat items depth line (often.Until one) body s = until items line depth one body s
 
-module _ {S : Type 0} (run : S → State → Outcome) where
-  -- what is performed, one time
-  abbrev pub body : Performed S → State → Outcome
-  body (Statements statements) s = in_turn run statements s
+-- Names that name no procedure perform nothing.
+abbrev pub performed_range : (Range → State → Outcome) → Option Range → State → Outcome
+performed_range range None s = Done s
+performed_range range (Some found) s = range found s
 
-  abbrev pub performing : List Placed → ℕ → ℕ → Performing S → State → Outcome
-  performing items depth line one s = repeat items depth line one.turns (body one.performed) s
+-- `run` runs the statements that stand in it, and `range` the paragraphs of a range.
+module _ {S : Type 0} (run : S → State → Outcome) (range : Range → State → Outcome) where
+  -- what is performed, one time
+  abbrev pub body : List Procedure → Performed S → State → Outcome
+  body procedures (Procedures first last) s = performed_range range (range_of procedures first last) s
+  body procedures (Statements statements) s = in_turn run statements s
+
+  abbrev pub performing : Scope → ℕ → ℕ → Performing S → State → Outcome
+  performing scope depth line one s = repeat scope.items depth line one.turns (body scope.procedures one.performed) s

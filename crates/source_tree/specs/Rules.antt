@@ -1,6 +1,6 @@
--- The rules of a program: those that it breaks, and where; its entries first, then its statements in order, and then whether there is a
--- procedure.
-use Rattle.std.specs.Prelude.{List, [], ◌∷◌, ◌++◌, ◌==◌, length, Option, Some, None}
+-- The rules of a program: those that it breaks, and where; its entries first, then the names of its procedures, its statements in order,
+-- and then whether there is a procedure. Rule 54 looks at the whole program, and comes after these.
+use Rattle.std.specs.Prelude.{Bool, true, false, ◌&&◌, List, [], ◌∷◌, ◌++◌, Option, Some, None}
 use Rattle.lexical.specs.declared.place.Place.{Place}
 use Rattle.source_tree.specs.declared.name.Name.{Name}
 use Rattle.source_tree.specs.declared.moving.Moving.{Moving}
@@ -13,7 +13,7 @@ use Rattle.source_tree.specs.declared.performing.Turns.{Turns}
 use Rattle.source_tree.specs.declared.performing.Turns.TheVariants as often
 use Rattle.source_tree.specs.declared.performing.Performing.{Performing}
 use Rattle.source_tree.specs.declared.performing.Performed.{Performed}
-use Rattle.source_tree.specs.declared.performing.Performed.TheVariants.{Statements}
+use Rattle.source_tree.specs.declared.performing.Performed.TheVariants.{Procedures, Statements}
 use Rattle.source_tree.specs.declared.statement.Verb.{Verb}
 use Rattle.source_tree.specs.declared.statement.Verb.TheVariants as verb
 use Rattle.source_tree.specs.declared.statement.Statement.{Statement}
@@ -23,10 +23,12 @@ use Rattle.source_tree.specs.declared.program.Sentence.{Sentence}
 use Rattle.source_tree.specs.declared.program.Paragraph.{Paragraph}
 use Rattle.source_tree.specs.declared.program.Section.{Section}
 use Rattle.source_tree.specs.declared.program.Program.{Program}
-use Rattle.source_tree.specs.Places.{Placed, items_of}
+use Rattle.source_tree.specs.Places.{Placed}
+use Rattle.source_tree.specs.Procedures.{Range, Procedure}
+use Rattle.source_tree.specs.Setting.{Scope, scope}
 use Rattle.source_tree.specs.Broken.{Broken, where_so, each}
-use Rattle.source_tree.specs.Meaning.{paragraphs}
 use Rattle.source_tree.specs.EntryRules.{entry_rules}
+use Rattle.source_tree.specs.PerformRules.{range_rules, procedure_name_rules}
 use Rattle.source_tree.specs.MoveRules.{move_rules}
 use Rattle.source_tree.specs.TextRules.{display_rules, accept_line_rules, accept_date_rules}
 use Rattle.source_tree.specs.ArithmeticRules.{operation_rules}
@@ -53,9 +55,10 @@ phrases_rules inside phrases = phrase_rules inside phrases.arose ++ phrase_rules
 abbrev pub arithmetic_rules : List Placed → {S : Type 0} → (S → List Broken) → Arithmetic S → List Broken
 arithmetic_rules items inside one = operation_rules items one.operation ++ phrases_rules inside one.phrases
 
--- What is performed; `inside` has the rules of the statements in it.
-abbrev pub performed_rules : {S : Type 0} → (S → List Broken) → Performed S → List Broken
-performed_rules inside (Statements statements) = each inside statements
+-- What is performed; `permits` says which ranges may be, where the PERFORM stands, and `inside` has the rules of the statements in it.
+abbrev pub performed_rules : List Procedure → (Range → Bool) → {S : Type 0} → (S → List Broken) → Performed S → List Broken
+performed_rules procedures permits inside (Procedures first last) = range_rules permits procedures first last
+performed_rules procedures permits inside (Statements statements) = each inside statements
 
 -- how often it is performed
 abbrev pub turns_rules : List Placed → Turns → List Broken
@@ -63,39 +66,40 @@ turns_rules items often.Once = []
 turns_rules items (often.Times count) = []
 turns_rules items (often.Until one) = until_rules items one
 
-abbrev pub performing_rules : List Placed → {S : Type 0} → (S → List Broken) → Performing S → List Broken
-performing_rules items inside one = turns_rules items one.turns ++ performed_rules inside one.performed
+abbrev pub performing_rules : Scope → (Range → Bool) → {S : Type 0} → (S → List Broken) → Performing S → List Broken
+performing_rules scope permits inside one = turns_rules scope.items one.turns ++ performed_rules scope.procedures permits inside one.performed
 
 abbrev pub branching_rules : List Placed → {S : Type 0} → (S → List Broken) → Branching S → List Broken
 branching_rules items inside (If condition statements otherwise) =
     condition_rules items condition ++ each inside statements ++ phrase_rules inside otherwise
 
 -- a statement, by its family
-abbrev pub verb_rules : List Placed → {S : Type 0} → (S → List Broken) → Verb S → List Broken
-verb_rules items inside (verb.Moving one) = moving_rules items one
-verb_rules items inside (verb.Arithmetic one) = arithmetic_rules items inside one
-verb_rules items inside (verb.Branching one) = branching_rules items inside one
-verb_rules items inside (verb.Performing one) = performing_rules items inside one
-verb_rules items inside (verb.Text one) = text_rules items one
-verb_rules items inside (verb.Ending one) = []
+abbrev pub verb_rules : Scope → (Range → Bool) → {S : Type 0} → (S → List Broken) → Verb S → List Broken
+verb_rules scope permits inside (verb.Moving one) = moving_rules scope.items one
+verb_rules scope permits inside (verb.Arithmetic one) = arithmetic_rules scope.items inside one
+verb_rules scope permits inside (verb.Branching one) = branching_rules scope.items inside one
+verb_rules scope permits inside (verb.Performing one) = performing_rules scope permits inside one
+verb_rules scope permits inside (verb.Text one) = text_rules scope.items one
+verb_rules scope permits inside (verb.Ending one) = []
 
-abbrev pub statement_layer : List Placed → Statement-F (List Broken) → List Broken
-statement_layer items one = verb_rules items (λ broken. broken) one.verb
+module _ (scope : Scope) (permits : Range → Bool) where
+  abbrev pub statement_layer : Statement-F (List Broken) → List Broken
+  statement_layer one = verb_rules scope permits (λ broken. broken) one.verb
 
-unfoldable pub statement_rules : List Placed → Statement → List Broken
-statement_rules items = fold-Statement (List Broken) (statement_layer items)
+  unfoldable pub statement_rules : Statement → List Broken
+  statement_rules = fold-Statement (List Broken) statement_layer
 
-abbrev pub sentence_rules : List Placed → Sentence → List Broken
-sentence_rules items one = each (statement_rules items) one.statements
+  abbrev pub sentence_rules : Sentence → List Broken
+  sentence_rules one = each statement_rules one.statements
 
-abbrev pub paragraph_rules : List Placed → Paragraph → List Broken
-paragraph_rules items one = each (sentence_rules items) one.sentences
+  abbrev pub paragraph_rules : Paragraph → List Broken
+  paragraph_rules one = each sentence_rules one.sentences
 
-abbrev pub section_rules : List Placed → Section → List Broken
-section_rules items one = each (paragraph_rules items) one.paragraphs
+  abbrev pub section_rules : Section → List Broken
+  section_rules one = each paragraph_rules one.paragraphs
 
-abbrev pub sections_rules : List Placed → List Section → List Broken
-sections_rules items sections = each (section_rules items) sections
+  abbrev pub sections_rules : List Section → List Broken
+  sections_rules sections = each section_rules sections
 
 abbrev pub name_place : Place → Option Name → Place
 name_place other None = other
@@ -106,10 +110,26 @@ abbrev pub procedures_place : Place → List Section → Place
 procedures_place other [] = other
 procedures_place other (one ∷ more) = name_place other one.name
 
+abbrev pub is_empty : List Paragraph → Bool
+is_empty [] = true
+is_empty (one ∷ more) = false
+
+-- sections without any paragraph or sentence
+abbrev pub are_empty : List Section → Bool
+are_empty [] = true
+are_empty (one ∷ more) = is_empty one.paragraphs && are_empty more
+
 -- 56: sections without any paragraph or sentence are no procedure.
 abbrev pub procedure_rules : Program → List Broken
-procedure_rules program = where_so (length (paragraphs program) == 0) 56 (procedures_place program.name.place program.sections)
+procedure_rules program = where_so (are_empty program.sections) 56 (procedures_place program.name.place program.sections)
+
+-- all ranges may be performed
+abbrev pub all_permitted : Range → Bool
+all_permitted range = true
 
 abbrev pub program_rules : Program → List Broken
 program_rules program =
-    entry_rules program.storage ++ sections_rules (items_of program.storage) program.sections ++ procedure_rules program
+    entry_rules program.storage
+    ++ procedure_name_rules program.sections
+    ++ sections_rules (scope program) all_permitted program.sections
+    ++ procedure_rules program

@@ -1,15 +1,16 @@
 -- Statements on texts: DISPLAY and ACCEPT.
+use Rattle.std.specs.Prelude.{List}
 use Rattle.source_tree.specs.declared.text.Text.{Text}
 use Rattle.source_tree.specs.declared.text.Text.TheVariants as text
+use Rattle.source_tree.specs.Places.{Placed}
 use Rattle.source_tree.specs.State.{State, Outcome, Done, showing, changing, with_value}
 use Rattle.source_tree.specs.Showing.{displayed}
 use Rattle.source_tree.specs.Accepting.{next_line, later_lines, accept_line, accept_date}
-use Rattle.source_tree.specs.Setting.{Setting}
 
-abbrev pub texts : Setting → Text → State → Outcome
-texts around (text.Display operands advancing) s =
-    with_value (displayed around.items operands advancing s.storage) s (λ bytes. Done (showing bytes s))
-texts around (text.Accept receiver) s =
-    with_value (accept_line around.items (next_line s.lines) receiver s.storage) s
+abbrev pub texts : List Placed → Text → State → Outcome
+texts items (text.Display operands advancing) s =
+    with_value (displayed items operands advancing s.storage) s (λ bytes. Done (showing bytes s))
+texts items (text.Accept receiver) s =
+    with_value (accept_line items (next_line s.lines) receiver s.storage) s
     (λ after. Done (record s { storage = after; lines = later_lines s.lines }))
-texts around (text.AcceptDate receiver) s = changing (accept_date around.items s.day receiver) s
+texts items (text.AcceptDate receiver) s = changing (accept_date items s.day receiver) s

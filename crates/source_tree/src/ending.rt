@@ -1,8 +1,10 @@
-//! STOP RUN and CONTINUE.
+//! STOP RUN, CONTINUE and EXIT.
 
 #[derive(Clone, Copy, Debug, PartialEq, Eq)]
 pub enum Ending {
     StopRun,
     /// Nothing.
     Continue,
+    /// Nothing: the end of a procedure.
+    Exit,
 }

@@ -1,12 +1,15 @@
 //! PERFORM.
 
 use crate::literal::Integer;
+use crate::name::Name;
 use crate::until::Until;
 use sqlite_items::Items;
 
 /// What is performed (COBOL-85, Nucleus, "The PERFORM statement").
 #[derive(Debug, Drop)]
 pub enum Performed<S> {
+    /// A paragraph or section, or all from one to the end of another, by their names.
+    Procedures { first: Name, last: Option<Name> },
     /// The statements up to END-PERFORM, one or more.
     Statements(Items<S>),
 }

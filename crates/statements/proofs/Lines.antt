@@ -28,8 +28,9 @@ use Rattle.statements.proofs.Verbs.Arithmetic.{verb_word, arithmetic_shrinks, ar
 use Rattle.statements.proofs.Verbs.Branching.{branching_shrinks, branching_stands, branching_complete, branching_sound}
 use Rattle.statements.proofs.Verbs.Continuing.{continuing_shrinks, continuing_stands, continuing_complete, continuing_sound}
 use Rattle.statements.proofs.Verbs.Display.{display_shrinks, display_stands, display_complete, display_sound}
+use Rattle.statements.proofs.Verbs.Exiting.{exiting_shrinks, exiting_stands, exiting_complete, exiting_sound}
 use Rattle.statements.proofs.Verbs.Moving.{moving_shrinks, moving_stands, moving_complete, moving_sound}
-use Rattle.statements.proofs.StatementLists.{statements_shrink, statements_complete}
+use Rattle.statements.proofs.StatementLists.{statements_shrink, statements_start, statements_complete}
 use Rattle.statements.proofs.Verbs.Performing.{performing_shrinks, performing_stands, performing_complete, performing_sound}
 use Rattle.statements.proofs.Verbs.StopRun.{stop_run_shrinks, stop_run_stands, stop_run_complete, stop_run_sound}
 
@@ -46,6 +47,7 @@ module _ (depth : ℕ) (p : Statement → Part) where
   verb_shrinks fewer (verb.Text (text.AcceptDate receiver)) i rest s = accepting_shrinks receiver false i rest s
   verb_shrinks fewer (verb.Ending ending.StopRun) i rest s = stop_run_shrinks i rest s
   verb_shrinks fewer (verb.Ending ending.Continue) i rest s = continuing_shrinks i rest s
+  verb_shrinks fewer (verb.Ending ending.Exit) i rest s = exiting_shrinks i rest s
 
   pub line_shrinks : Shrinks p → Shrinks (g.line depth p)
   line_shrinks fewer x i rest (i1, at, s) = let l = ap length at.0 in let a = verb_shrinks fewer (out-Statement x).verb i1 rest s in omega arith
@@ -61,6 +63,7 @@ module _ (depth : ℕ) (p : Statement → Part) where
   word_of (verb.Text (text.AcceptDate receiver)) = v.Accept
   word_of (verb.Ending ending.StopRun) = v.Stop
   word_of (verb.Ending ending.Continue) = v.Continue
+  word_of (verb.Ending ending.Exit) = v.Exit
 
   verb_stands : (x : Verb Statement) (i rest : List Token) → g.verb_line depth p x i rest → verb_at i ≡ Some (word_of x)
   verb_stands (verb.Moving (Move sender receivers)) i rest s = moving_stands sender receivers i rest s
@@ -72,6 +75,7 @@ module _ (depth : ℕ) (p : Statement → Part) where
   verb_stands (verb.Text (text.AcceptDate receiver)) i rest s = accepting_stands receiver false i rest s
   verb_stands (verb.Ending ending.StopRun) i rest s = stop_run_stands i rest s
   verb_stands (verb.Ending ending.Continue) i rest s = continuing_stands i rest s
+  verb_stands (verb.Ending ending.Exit) i rest s = exiting_stands i rest s
 
   pub line_starts : Starts begins_statement (g.line depth p)
   line_starts x i rest (i1, at, s) = ap begins_statement at.0 ∙ ap is_some (verb_stands (out-Statement x).verb i1 rest s)
@@ -85,6 +89,7 @@ module _ (depth : ℕ) (p : Statement → Part) where
     by_verb_sound (Some (v.Arithmetic one)) x i rest e = arithmetic_sound depth p nested each one x i rest e
     by_verb_sound (Some v.Continue) x i rest e = continuing_sound depth p x i rest e
     by_verb_sound (Some v.Display) x i rest e = display_sound depth p x i rest e
+    by_verb_sound (Some v.Exit) x i rest e = exiting_sound depth p x i rest e
     by_verb_sound (Some v.If) x i rest e = branching_sound depth p nested each x i rest e
     by_verb_sound (Some v.Move) x i rest e = moving_sound depth p x i rest e
     by_verb_sound (Some v.Perform) x i rest e = performing_sound depth p nested each x i rest e
@@ -113,12 +118,14 @@ module _ (Allowed : Halt → Type 0) (depth depth' : ℕ) (computes : Complete A
   by_verb_complete (verb.Branching (If asked done otherwise)) i rest s =
       branching_complete (g.statements p) (r.statements nested) Allowed (statements_complete Allowed p nested each fewer begins) depth depth' asks asked done otherwise i rest s
   by_verb_complete (verb.Performing one) i rest s =
-      performing_complete (g.statements p) Allowed depth depth' asks (r.statements nested) (statements_complete Allowed p nested each fewer begins) one.turns one.performed i rest s
+      performing_complete (g.statements p) Allowed depth depth' asks (r.statements nested) (statements_complete Allowed p nested each fewer begins) (statements_start p begins)
+      one.turns one.performed i rest s
   by_verb_complete (verb.Text (text.Display operands advancing)) i rest s = display_complete operands advancing i rest s
   by_verb_complete (verb.Text (text.Accept receiver)) i rest s = accepting_complete receiver true i rest s
   by_verb_complete (verb.Text (text.AcceptDate receiver)) i rest s = accepting_complete receiver false i rest s
   by_verb_complete (verb.Ending ending.StopRun) i rest s = stop_run_complete i rest s
   by_verb_complete (verb.Ending ending.Continue) i rest s = continuing_complete i rest s
+  by_verb_complete (verb.Ending ending.Exit) i rest s = exiting_complete i rest s
 
   verb_complete : Complete Allowed (g.verb_line depth' p) (r.verb depth nested)
   unfolding r.verb

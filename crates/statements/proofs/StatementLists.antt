@@ -13,6 +13,9 @@ use Rattle.statements.specs.Reading as r
 pub statements_shrink : (p : Statement → Part) → Shrinks p → Shrinks (g.statements p)
 statements_shrink p fewer = Lists.several_shrinks p (tested begins_statement) fewer
 
+pub statements_start : (p : Statement → Part) → Starts begins_statement p → Starts begins_statement (g.statements p)
+statements_start p begins = Lists.several_starts p (tested begins_statement) begins_statement begins
+
 pub statements_sound : (p : Statement → Part) (nested : Parser Statement) → Sound p nested → Sound (g.statements p) (r.statements nested)
 unfolding r.statements
 statements_sound p nested each = Lists.several_sound p nested (tested begins_statement) begins_statement (tests_tested begins_statement) each

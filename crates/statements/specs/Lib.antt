@@ -10,6 +10,7 @@ pub mod Arithmetic
 pub mod Branching
 pub mod Continuing
 pub mod Display
+pub mod Exiting
 pub mod Moving
 pub mod Turning
 pub mod Performing

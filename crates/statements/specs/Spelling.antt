@@ -17,6 +17,7 @@ use Rattle.statements.specs.Arithmetic.{arithmetic}
 use Rattle.statements.specs.Branching.{branching}
 use Rattle.statements.specs.Continuing.{continuing}
 use Rattle.statements.specs.Display.{display}
+use Rattle.statements.specs.Exiting.{exiting}
 use Rattle.statements.specs.Moving.{moving}
 use Rattle.statements.specs.Performing.{performing}
 use Rattle.statements.specs.StopRun.{stop_run}
@@ -36,6 +37,7 @@ text_line (text.AcceptDate receiver) = accepting receiver false
 abbrev pub ending_line : Ending → Part
 ending_line ending.StopRun = stop_run
 ending_line ending.Continue = continuing
+ending_line ending.Exit = exiting
 
 abbrev pub statements : (Statement → Part) → List Statement → Part
 statements statement = several statement (tested begins_statement)

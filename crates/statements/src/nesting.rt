@@ -9,6 +9,7 @@ ghost use Rattle.statements.specs.Nests.{Nests};
 use crate::accepting::accepting;
 use crate::continuing::continuing;
 use crate::display::display;
+use crate::exiting::exiting;
 use crate::moving::moving;
 use crate::stop_run::stop_run;
 use crate::verb::{VerbWord, begins_statement, verb_at};
@@ -68,6 +69,7 @@ impl<F: Fn(Global, &mut Tokens<'_>, usize) -> Result<Statement, ReadFault>> Nest
             Some(VerbWord::Arithmetic(verb)) => self.arithmetic(verb, tokens),
             Some(VerbWord::Continue) => continuing(tokens),
             Some(VerbWord::Display) => display(self.alloc, tokens),
+            Some(VerbWord::Exit) => exiting(tokens),
             Some(VerbWord::If) => self.branching(tokens),
             Some(VerbWord::Move) => moving(self.alloc, tokens),
             Some(VerbWord::Perform) => self.performing(tokens),

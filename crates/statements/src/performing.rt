@@ -8,19 +8,62 @@ ghost use Rattle.statements.specs.Reading as spec;
 
 use crate::nesting::Nesting;
 use crate::turning::turns;
-use grammar::{ReadFault, Tokens};
-use source_tree::{Performed, Performing, Statement, Verb};
+use grammar::{ReadFault, Tokens, begins_name, name};
+use source_tree::{Name, Performed, Performing, Statement, Verb};
 use std::alloc::Global;
 use tokens::Reserved;
 
+/// THRU or THROUGH, whichever `thru` is, and the last procedure's name.
+fn through(
+    alloc: Global,
+    tokens: &mut Tokens<'_>,
+    thru: Reserved,
+) -> Result<Option<Name>, ReadFault>
+    ensures { Reads (rule.through_by thru tokens.old) result tokens.new }
+{
+    tokens.expect(thru)?;
+    Ok(Some(name(alloc, tokens)?))
+}
+
+/// The last procedure's name, where THRU or THROUGH stands.
+#[tactic(auto, unfolding(crate::specs::Performing::last_reader, crate::specs::Performing::through_reader))]
+fn last(alloc: Global, tokens: &mut Tokens<'_>) -> Result<Option<Name>, ReadFault>
+    ensures { Reads (rule.last_reader tokens.old) result tokens.new }
+{
+    if tokens.at_word(Reserved::Thru) {
+        through(alloc, tokens, Reserved::Thru)
+    } else if tokens.at_word(Reserved::Through) {
+        through(alloc, tokens, Reserved::Through)
+    } else {
+        Ok(None)
+    }
+}
+
+/// Procedures by their names, and how often; `depth` is how deep a condition may nest.
+#[tactic(auto, unfolding(crate::specs::Performing::procedures_reader))]
+fn procedures(
+    alloc: Global,
+    depth: usize,
+    tokens: &mut Tokens<'_>,
+) -> Result<Verb<Statement>, ReadFault>
+    ensures { Reads (rule.procedures_reader depth tokens.old) result tokens.new }
+{
+    let first = name(alloc, tokens)?;
+    let last = last(alloc, tokens)?;
+    let turns = turns(alloc, depth, tokens)?;
+    Ok(Verb::Performing(Performing {
+        performed: Performed::Procedures { first, last },
+        turns,
+    }))
+}
+
 impl<F: Fn(Global, &mut Tokens<'_>, usize) -> Result<Statement, ReadFault>> Nesting<F> {
-    /// From the verb on.
-    #[tactic(auto, unfolding(crate::specs::Performing::performing_reader))]
-    pub fn performing(&self, tokens: &mut Tokens<'_>) -> Result<Verb<Statement>, ReadFault>
+    /// How often, the statements and END-PERFORM.
+    #[tactic(auto, unfolding(crate::specs::Performing::in_line_reader))]
+    fn in_line(&self, tokens: &mut Tokens<'_>) -> Result<Verb<Statement>, ReadFault>
         requires { Nests self.now.depth (F.pre self.now.statement) (F.post self.now.statement) }
-        ensures { Reads (rule.performing_reader self.now.depth (spec.statements (spec.statement self.now.depth)) tokens.old) result tokens.new }
+        ensures { Reads (rule.in_line_reader self.now.depth (spec.statements (spec.statement self.now.depth)) tokens.old) result tokens.new }
     {
-        tokens.expect(Reserved::Perform)?;
         let turns = turns(self.alloc, self.depth, tokens)?;
         let inside = self.statements(tokens)?;
         tokens.expect(Reserved::EndPerform)?;
@@ -28,5 +71,19 @@ impl<F: Fn(Global, &mut Tokens<'_>, usize) -> Result<Statement, ReadFault>> Nest
             performed: Performed::Statements(inside),
             turns,
         }))
+    }
+
+    /// From the verb on.
+    #[tactic(auto, unfolding(crate::specs::Performing::performing_reader))]
+    pub fn performing(&self, tokens: &mut Tokens<'_>) -> Result<Verb<Statement>, ReadFault>
+        requires { Nests self.now.depth (F.pre self.now.statement) (F.post self.now.statement) }
+        ensures { Reads (rule.performing_reader self.now.depth (spec.statements (spec.statement self.now.depth)) tokens.old) result tokens.new }
+    {
+        tokens.expect(Reserved::Perform)?;
+        if begins_name(tokens) {
+            procedures(self.alloc, self.depth, tokens)
+        } else {
+            self.in_line(tokens)
+        }
     }
 }

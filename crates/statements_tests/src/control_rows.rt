@@ -1,4 +1,4 @@
-//! Rows of IF and PERFORM: what is read of a sentence, and where reading halts.
+//! Rows of IF, PERFORM and EXIT: what is read of a sentence, and where reading halts.
 
 use crate::asserted::same_in;
 use crate::read::{Left, nested, read};
@@ -120,8 +120,50 @@ const PERFORMING: [(&str, &str); 13] = [
     ),
 ];
 
+/// A sentence with PERFORM of procedures or EXIT, and what is read of it.
+const PROCEDURES: [(&str, &str); 16] = [
+    ("PERFORM P.", "perform P;"),
+    ("PERFORM P-1 THRU Q.", "perform P-1 thru Q;"),
+    ("PERFORM P THROUGH Q.", "perform P thru Q;"),
+    ("PERFORM P 3 TIMES.", "perform 3 times P;"),
+    ("PERFORM P THRU Q 12 TIMES.", "perform 12 times P thru Q;"),
+    ("PERFORM P THROUGH Q 1 TIMES.", "perform 1 times P thru Q;"),
+    ("PERFORM P UNTIL A > 5.", "perform until A>5 P;"),
+    (
+        "PERFORM P WITH TEST AFTER UNTIL A.",
+        "perform after until A P;",
+    ),
+    (
+        "PERFORM P THRU Q TEST AFTER VARYING A FROM 1 BY 2\nUNTIL A > B.",
+        "perform after A from 1 by 2 until A>B P thru Q;",
+    ),
+    // a phrase belongs to it, and statements behind it don't
+    (
+        "PERFORM P CONTINUE PERFORM Q UNTIL A CONTINUE.",
+        "perform P;continue;perform until A Q;continue;",
+    ),
+    (
+        "PERFORM 2 TIMES PERFORM P END-PERFORM.",
+        "perform 2 times{perform P;};",
+    ),
+    (
+        "PERFORM PERFORM P THRU Q 2 TIMES PERFORM R\nEND-PERFORM CONTINUE.",
+        "perform{perform 2 times P thru Q;perform R;};continue;",
+    ),
+    (
+        "IF A PERFORM P ELSE PERFORM Q THRU R END-IF.",
+        "if A{perform P;}else{perform Q thru R;};",
+    ),
+    (
+        "ADD 1 TO A SIZE ERROR PERFORM P NOT SIZE ERROR EXIT.",
+        "add 1 -> A error{perform P;} fits{exit;};",
+    ),
+    ("EXIT.", "exit;"),
+    ("CONTINUE EXIT STOP RUN.", "continue;exit;stop;"),
+];
+
 /// How many tokens there are from where reading halts on.
-const HALTS: [(&str, usize); 25] = [
+const HALTS: [(&str, usize); 39] = [
     ("IF A.", 1),
     ("IF A THEN.", 1),
     ("IF CONTINUE.", 2),
@@ -154,6 +196,23 @@ const HALTS: [(&str, usize); 25] = [
     ("PERFORM WITH UNTIL A CONTINUE END-PERFORM.", 6),
     ("PERFORM TEST AFTER CONTINUE END-PERFORM.", 3),
     ("PERFORM UNTIL A TEST AFTER CONTINUE END-PERFORM.", 5),
+    // THRU stands between two names
+    ("PERFORM THRU Q.", 3),
+    ("PERFORM P THRU.", 1),
+    ("PERFORM P THROUGH 3 TIMES.", 3),
+    ("PERFORM P THRU Q THRU R.", 3),
+    ("PERFORM P Q.", 2),
+    ("PERFORM P, Q THRU R.", 4),
+    // how often stands behind the names, and there are no statements and no END-PERFORM
+    ("PERFORM 3 TIMES P.", 2),
+    ("PERFORM P 3 TIMES THRU Q.", 3),
+    ("PERFORM P END-PERFORM.", 2),
+    ("PERFORM P UNTIL A CONTINUE END-PERFORM.", 2),
+    ("PERFORM PERFORM P.", 1),
+    ("PERFORM P 3.", 1),
+    // a count by its name is not read
+    ("PERFORM N TIMES.", 2),
+    ("EXIT P.", 2),
 ];
 
 #[test]
@@ -169,6 +228,16 @@ fn branching_is_read(rt: HostRuntime) -> Result<(), Fail> {
 #[test]
 fn performing_is_read(rt: HostRuntime) -> Result<(), Fail> {
     for (text, shape) in PERFORMING.iter() {
+        let found = read(rt.alloc(), text)?;
+        same_in(&rt, text, found.0.as_str(), *shape);
+        same_in(&rt, text, found.1, (0, false));
+    }
+    Ok(())
+}
+
+#[test]
+fn performing_of_procedures_is_read(rt: HostRuntime) -> Result<(), Fail> {
+    for (text, shape) in PROCEDURES.iter() {
         let found = read(rt.alloc(), text)?;
         same_in(&rt, text, found.0.as_str(), *shape);
         same_in(&rt, text, found.1, (0, false));

@@ -4,7 +4,7 @@ use crate::asked::push_condition;
 use crate::operands::{DEEPEST, push_bytes, push_operand, push_reference};
 use crate::operations::{push_operation, push_text};
 use source_tree::{
-    Branching, Condition, Ending, Performed, Statement, TestTime, Turns, Until, Verb,
+    Branching, Condition, Ending, Name, Performed, Statement, TestTime, Turns, Until, Verb,
 };
 use sqlite_items::Items;
 use std::alloc::AllocError;
@@ -36,6 +36,25 @@ fn push_turns(to: &mut String, turns: &Turns) -> Result<(), AllocError> {
             to.push_str(" times")
         }
         Turns::Until(until) => push_until(to, until),
+    }
+}
+
+/// The first procedure, and the last behind `thru`.
+fn push_procedures(to: &mut String, first: &Name, last: &Option<Name>) -> Result<(), AllocError> {
+    to.push_str(" ")?;
+    push_bytes(to, first.characters.as_slice())?;
+    if let Some(last) = last {
+        to.push_str(" thru ")?;
+        push_bytes(to, last.characters.as_slice())?;
+    }
+    Ok(())
+}
+
+fn ending(ending: Ending) -> &'static str {
+    match ending {
+        Ending::StopRun => "stop",
+        Ending::Continue => "continue",
+        Ending::Exit => "exit",
     }
 }
 
@@ -89,12 +108,14 @@ fn push_statement(to: &mut String, statement: &Statement) -> Result<(), AllocErr
         }
         Verb::Performing(one) => {
             push_turns(to, &one.turns)?;
-            let Performed::Statements(statements) = &one.performed;
-            push_inner(to, statements)
+            match &one.performed {
+                Performed::Procedures { first, last } => push_procedures(to, first, last),
+                Performed::Statements(statements) => push_inner(to, statements),
+            }
         }
         Verb::Text(text) => push_text(to, text),
-        Verb::Ending(Ending::Continue) => to.push_str("continue"),
-        _ => to.push_str("?"),
+        Verb::Ending(one) => to.push_str(ending(*one)),
+        Verb::Moving(_) => to.push_str("?"),
     }
 }
 

@@ -1,13 +1,10 @@
 -- DIVIDE: what is read is spelled, and what is spelled is read.
-use Rattle.std.proofs.Common.{◌≡◌, ◌<◌, ◌≤◌, ℕ, Bool, true, false, List, [], ◌∷◌, length, Some, None, Ok, refl, ap, ◌∙◌, subst, arith}
+use Rattle.std.proofs.Common.{◌≡◌, ◌<◌, ◌≤◌, ℕ, Bool, true, false, List, [], ◌∷◌, length, Some, Ok, refl, ap, subst, arith}
 use Rattle.std.specs.Prelude.{if◌then◌else◌}
 use Rattle.tokens.specs.declared.reserved.Reserved.{Reserved}
 use Rattle.tokens.specs.declared.reserved.Reserved.TheVariants as w
-use Rattle.tokens.specs.declared.token.Kind.{Kind}
-use Rattle.tokens.specs.declared.token.Kind.TheVariants as k
 use Rattle.tokens.specs.declared.token.Token.{Token}
 use Rattle.tokens.specs.Reserved.{same_word}
-use Rattle.lexical.specs.declared.place.Place.{Place}
 use Rattle.source_tree.specs.declared.reference.Reference.{Reference}
 use Rattle.source_tree.specs.declared.expression.Operand.{Operand}
 use Rattle.source_tree.specs.declared.arithmetic.Receiver.{Receiver}
@@ -16,7 +13,7 @@ use Rattle.source_tree.specs.declared.arithmetic.DivisionOrder.TheVariants.{Into
 use Rattle.source_tree.specs.declared.arithmetic.Operation.{Operation}
 use Rattle.source_tree.specs.declared.arithmetic.Operation.TheVariants.{Divide, DivideGiving, DivideRemainder}
 use Rattle.grammar.specs.declared.fault.Halt.{Halt}
-use Rattle.grammar.specs.Parts.{Part, ◌then◌, without, word, is_told, named_by, begins_name}
+use Rattle.grammar.specs.Parts.{Part, ◌then◌, without, word, begins_name}
 use Rattle.grammar.specs.Reading as read
 use Rattle.grammar.specs.Reading.{is_word, begins_word}
 use Rattle.grammar.proofs.Outcomes.{Answers, Reached, step, unstep, value, after, last}
@@ -35,7 +32,7 @@ use Rattle.statements.specs.Verbs.{verb_at}
 use Rattle.statements.specs.Receivers.{receiver, receivers, target, receivers_reader, target_reader}
 use Rattle.statements.specs.Dividing.{dividing, order_word, dividing_giving, quotients, quotient_remainder, only, remainder_of, given_reader, divided_into, into_reader, by_reader, divided_reader, dividing_reader}
 use Rattle.statements.specs.Arithmetic.{operation}
-use Rattle.statements.proofs.Standing.{stands}
+use Rattle.statements.proofs.Standing.{stands, word_no_name}
 use Rattle.statements.proofs.ReceiverLists.{receiver_shrinks, receivers_sound, receivers_complete, receivers_shrink, target_sound, target_complete, target_shrinks}
 
 into_no_by : same_word w.Into w.By ≡ false
@@ -87,12 +84,6 @@ word_absent one (first ∷ more) nowhere = go (is_word one first) refl
     go : (b : Bool) → is_word one first ≡ b → is_word one first ≡ false
     go false e = e
     go true e = absurd (nowhere more (first, refl, kind_is one first.kind e))
-
-no_name : (one : Reserved) (kind : Kind) (place : Place) → kind ≡ k.Reserved one → named_by kind place ≡ None
-no_name one kind place e = ap (λ x. named_by x place) e
-
-word_no_name : (one : Reserved) (i rest : List Token) → word one i rest → begins_name i ≡ false
-word_no_name one i rest (first, is, kind) = ap begins_name is ∙ ap is_told (no_name one first.kind first.place kind)
 
 -- ---- what is spelled is read
 

@@ -4,23 +4,25 @@ use Rattle.std.specs.Prelude.{◌||◌, if◌then◌else◌}
 use Rattle.tokens.specs.declared.reserved.Reserved.{Reserved}
 use Rattle.tokens.specs.declared.reserved.Reserved.TheVariants as w
 use Rattle.tokens.specs.declared.token.Token.{Token}
+use Rattle.source_tree.specs.declared.name.Name.{Name}
+use Rattle.source_tree.specs.declared.literal.Integer.{Integer}
 use Rattle.source_tree.specs.declared.performing.Turns.{Turns}
 use Rattle.source_tree.specs.declared.performing.Turns.TheVariants.{Once, Times, Until as Through}
 use Rattle.source_tree.specs.declared.until.TestTime.{TestTime}
 use Rattle.source_tree.specs.declared.until.Varying.{Varying}
 use Rattle.source_tree.specs.declared.until.Until.{Until}
 use Rattle.grammar.specs.declared.fault.Halt.{Halt}
-use Rattle.grammar.specs.Parts.{is_told, word}
+use Rattle.grammar.specs.Parts.{is_told, word, name_in, begins_name}
 use Rattle.grammar.specs.Reading as read
 use Rattle.grammar.specs.Reading.{after_word, begins_word}
 use Rattle.grammar.proofs.Outcomes.{Answers, Reached, step, unstep, value, after, last}
-use Rattle.grammar.proofs.Looking.{Finds, is_absent, is_missing, finds_word, finds_past, tests_tested, true_not_false, word_begins}
+use Rattle.grammar.proofs.Looking.{Finds, none_not, is_absent, is_missing, finds_word, finds_past, tests_tested, true_not_false, word_begins}
 use Rattle.grammar.proofs.Lists.{Sound, Complete, Shrinks}
 use Rattle.grammar.proofs.Parts.{word_sound, word_complete, word_shrinks, skip_shrinks, one_token_sound, one_token_complete, telling_shrinks}
 use Rattle.expressions.specs.References.{reference_reader}
 use Rattle.expressions.specs.Operands.{number_operand_reader}
-use Rattle.expressions.specs.Subscripts.{integer_by, begins_integer, integer_reader}
-use Rattle.expressions.proofs.Exact.Marks.{either, neither}
+use Rattle.expressions.specs.Subscripts.{integer, integer_by, begins_integer, integer_reader}
+use Rattle.expressions.proofs.Exact.Marks.{name_integer, either, neither}
 use Rattle.expressions.proofs.Exact.References.{reference_sound, reference_complete, reference_shrinks}
 use Rattle.expressions.proofs.Exact.Operands.{number_operand_sound, number_operand_complete, number_operand_shrinks}
 use Rattle.expressions.proofs.Exact.Subscripts.{integer_sound, integer_complete, integer_shrinks, integer_starts}
@@ -29,6 +31,7 @@ use Rattle.conditions.proofs.Exact.Tests.{no_word}
 use Rattle.conditions.proofs.Exact.Conditions.{condition_sound, condition_shrinks}
 use Rattle.statements.specs.Turning as rule
 use Rattle.statements.specs.Turning.{time_in, after_with_test, time_at, test_reader, varied_reader, some_varied_reader, varying_reader, begins_until, begins_turns, until_reader, times_reader, turns_reader}
+use Rattle.statements.proofs.Standing.{word_no_name}
 
 -- ---- TEST
 
@@ -200,6 +203,25 @@ opens_phrase i (one, behind, s, begins) = begins
 opens_no_integer : (i : List Token) → Opens i → begins_integer i ≡ false
 unfolding Opens
 opens_no_integer i (one, behind, (first, is, kind), begins) = ap begins_integer is ∙ ap (λ k. is_told (integer_by k first.place)) kind
+
+-- ---- no name begins the phrase
+
+integer_no_name : (count : Integer) (i rest : List Token) → integer count i rest → begins_name i ≡ false
+integer_no_name count i rest (first, is, tell) = ap begins_name is ∙ go (name_in first) refl
+  where
+    go : (o : Option Name) → name_in first ≡ o → is_told (name_in first) ≡ false
+    go None e = ap is_told e
+    go (Some name) e = absurd (none_not (sym (name_integer first name e) ∙ tell))
+
+opens_no_name : (i : List Token) → Opens i → begins_name i ≡ false
+unfolding Opens
+opens_no_name i (one, behind, s, begins) = word_no_name one i behind s
+
+-- where none begins behind it
+pub turns_no_name : (depth : ℕ) (x : Turns) (i rest : List Token) → rule.turns depth x i rest → begins_name rest ≡ false → begins_name i ≡ false
+turns_no_name depth Once i rest s none = ap begins_name s.0 ∙ none
+turns_no_name depth (Times count) i rest s none = integer_no_name count i s.0 s.1
+turns_no_name depth (Through one) i rest s none = opens_no_name i (phrase_opens depth one i rest s)
 
 -- ---- the phrase
 

@@ -1,35 +1,96 @@
-use Rattle.std.proofs.Common.{◌++◌, subst, sym, ap, ◌∙◌}
+use Rattle.std.proofs.Common.{◌≡◌, [], List, ◌++◌, Some, subst, sym, ap, ◌∙◌}
 use Rattle.std.proofs.lemmas.Result.{err_from_is_err_and}
-use Rattle.entry_rules.specs.Answer.{Fails}
+use Rattle.source_tree.specs.declared.entry.Entry.{Entry}
+use Rattle.source_tree.specs.declared.program.Section.{Section}
 use Rattle.source_tree.specs.EntryRules.{entry_rules}
 use Rattle.source_tree.specs.LookUp.{first}
-use Rattle.source_tree.specs.Places.{items_of}
-use Rattle.source_tree.specs.Rules.{sections_rules, procedure_rules}
-use Rattle.entry_rules.specs.Checks.{broken_of, fault_of, first_or}
-use Rattle.check_rules.specs.Named.{items_in}
-use Rattle.check_rules.proofs.Firsts.{front_none, fails_front, fails_first}
+use Rattle.source_tree.specs.PerformRules.{procedure_name_rules}
+use Rattle.source_tree.specs.Rules.{sections_rules, procedure_rules, all_permitted}
+use Rattle.source_tree.specs.Setting.{Scope, scope}
+use Rattle.entry_rules.specs.Checks.{IsFirst, broken_of, fault_of}
+use Rattle.check_rules.specs.Named.{scope_in}
+use Rattle.check_rules.proofs.Firsts.{is_first_front, is_first_behind, fails_is_first, told_first, told_back, both_none, all_none, program_none, scope_same}
 use Rattle.check_rules.proofs.checked.check.Goals as goal
 
 pub returns-in_err-check_entries-clause-exact : goal.returns-in_err-check_entries-clause-exact
 returns-in_err-check_entries-clause-exact c =
-    let p = err_from_is_err_and c.from_residual.result c.from_residual.ensures.1 in
+    let error = err_from_is_err_and c.from_residual.result c.from_residual.ensures.1 in
     let program = c.args.program.now in
     let fault = fault_of c.in_err-check_entries.field-0.0 in
     let entries = entry_rules program.storage in
-    let sections = sections_rules (items_of program.storage) program.sections in
-    rw (p.1, p.2) (fails_front (tt {0}) fault (entries ++ sections) (procedure_rules program) (fails_front (tt {0}) fault entries sections
-    (subst (λ l. Fails fault (first_or (tt {0}) (entry_rules l))) c.as_slice-storage.ensures c.in_err-check_entries.ensures.exact)))
+    let names = procedure_name_rules program.sections in
+    let statements = sections_rules (scope program) all_permitted program.sections in
+    let found = fails_is_first (tt {0}) fault (entry_rules c.as_slice-storage.result.now) c.in_err-check_entries.ensures.exact in
+    rw (error.1, error.2)
+    (told_first program fault (is_first_front fault (entries ++ names ++ statements) (procedure_rules program)
+    (is_first_front fault (entries ++ names) statements
+    (is_first_front fault entries names (subst (λ (l : List Entry). IsFirst fault (entry_rules l)) c.as_slice-storage.ensures found)))))
+
+pub returns-in_err-declarations-clause-exact : goal.returns-in_err-declarations-clause-exact
+returns-in_err-declarations-clause-exact c =
+    let error = err_from_is_err_and c.from_residual-in_err-declarations.result c.from_residual-in_err-declarations.ensures.1 in
+    let program = c.args.program.now in
+    let entries = entry_rules program.storage in
+    let names = procedure_name_rules program.sections in
+    let statements = sections_rules (scope program) all_permitted program.sections in
+    let fault = fault_of c.in_err-declarations.field-0.0 in
+    let kept_entries : entries ≡ [] = ap entry_rules (sym c.as_slice-storage.ensures) ∙ c.in_ok-check_entries.ensures.kept in
+    rw (error.1, error.2)
+    (told_first program fault (is_first_front fault (entries ++ names ++ statements) (procedure_rules program)
+    (is_first_front fault (entries ++ names) statements
+    (is_first_behind fault entries names kept_entries
+    (subst (λ (l : List Section). IsFirst fault (procedure_name_rules l)) c.as_slice-sections.ensures c.in_err-declarations.ensures.names)))))
 
 pub returns-in_err-sections_rules-clause-exact : goal.returns-in_err-sections_rules-clause-exact
 returns-in_err-sections_rules-clause-exact c =
-    let p = err_from_is_err_and c.from_residual-in_err-sections_rules.result c.from_residual-in_err-sections_rules.ensures.1 in
+    let error = err_from_is_err_and c.from_residual-in_err-sections_rules.result c.from_residual-in_err-sections_rules.ensures.1 in
     let program = c.args.program.now in
-    let declared = c.in_ok-declarations.declarations in
     let entries = entry_rules program.storage in
-    let sections = sections_rules (items_of program.storage) program.sections in
-    let kept = ap entry_rules (sym c.as_slice-storage.ensures) ∙ c.in_ok-check_entries.ensures.kept in
-    let stored = c.in_ok-declarations.ensures.entries ∙ c.as_slice-storage.ensures in
-    let found = ap (λ l. first (sections_rules (items_of l) program.sections)) (sym stored)
-    ∙ ap (λ l. first (sections_rules (items_in declared) l)) (sym c.as_slice.ensures) ∙ c.in_err-sections_rules.ensures in
-    rw (p.1, p.2) (fails_first (tt {0}) (broken_of c.in_err-sections_rules.field-0.0) (entries ++ sections) (procedure_rules program)
-    (ap first (front_none entries sections kept) ∙ found))
+    let names = procedure_name_rules program.sections in
+    let statements = sections_rules (scope program) all_permitted program.sections in
+    let broken = broken_of c.in_err-sections_rules.field-0.0 in
+    let kept_entries : entries ≡ [] = ap entry_rules (sym c.as_slice-storage.ensures) ∙ c.in_ok-check_entries.ensures.kept in
+    let kept_names : names ≡ [] = ap procedure_name_rules (sym c.as_slice-sections.ensures) ∙ c.in_ok-declarations.ensures.names in
+    let declared = c.in_ok-declarations.declarations in
+    let around = scope_same program declared (c.in_ok-declarations.ensures.entries ∙ c.as_slice-storage.ensures) (c.in_ok-declarations.ensures.sections ∙ c.as_slice-sections.ensures) in
+    let found : first statements ≡ Some broken = ap (λ (s : Scope). first (sections_rules s all_permitted program.sections)) around
+    ∙ ap (λ (l : List Section). first (sections_rules (scope_in declared) all_permitted l)) (sym c.as_slice-sections.ensures) ∙ c.in_err-sections_rules.ensures in
+    rw (error.1, error.2)
+    (told_first program (Some broken) (is_first_front (Some broken) (entries ++ names ++ statements) (procedure_rules program)
+    (is_first_behind (Some broken) (entries ++ names) statements (both_none entries names kept_entries kept_names) found)))
+
+pub returns-in_err-procedure_rules-clause-exact : goal.returns-in_err-procedure_rules-clause-exact
+returns-in_err-procedure_rules-clause-exact c =
+    let error = err_from_is_err_and c.from_residual-in_err-procedure_rules.result c.from_residual-in_err-procedure_rules.ensures.1 in
+    let program = c.args.program.now in
+    let entries = entry_rules program.storage in
+    let names = procedure_name_rules program.sections in
+    let statements = sections_rules (scope program) all_permitted program.sections in
+    let broken = broken_of c.in_err-procedure_rules.field-0.0 in
+    let kept_entries : entries ≡ [] = ap entry_rules (sym c.as_slice-storage.ensures) ∙ c.in_ok-check_entries.ensures.kept in
+    let kept_names : names ≡ [] = ap procedure_name_rules (sym c.as_slice-sections.ensures) ∙ c.in_ok-declarations.ensures.names in
+    let declared = c.in_ok-declarations.declarations in
+    let around = scope_same program declared (c.in_ok-declarations.ensures.entries ∙ c.as_slice-storage.ensures) (c.in_ok-declarations.ensures.sections ∙ c.as_slice-sections.ensures) in
+    let kept_statements : statements ≡ [] = ap (λ (s : Scope). sections_rules s all_permitted program.sections) around
+    ∙ ap (sections_rules (scope_in declared) all_permitted) (sym c.as_slice-sections.ensures) ∙ c.in_ok-sections_rules.ensures in
+    rw (error.1, error.2)
+    (told_first program (Some broken)
+    (is_first_behind (Some broken) (entries ++ names ++ statements) (procedure_rules program) (all_none entries names statements kept_entries kept_names kept_statements)
+    c.in_err-procedure_rules.ensures))
+
+pub returns-in_err-recursion_rules-clause-exact : goal.returns-in_err-recursion_rules-clause-exact
+returns-in_err-recursion_rules-clause-exact c =
+    let error = err_from_is_err_and c.from_residual-in_err-recursion_rules.result c.from_residual-in_err-recursion_rules.ensures.1 in
+    let program = c.args.program.now in
+    let entries = entry_rules program.storage in
+    let names = procedure_name_rules program.sections in
+    let statements = sections_rules (scope program) all_permitted program.sections in
+    let kept_entries : entries ≡ [] = ap entry_rules (sym c.as_slice-storage.ensures) ∙ c.in_ok-check_entries.ensures.kept in
+    let kept_names : names ≡ [] = ap procedure_name_rules (sym c.as_slice-sections.ensures) ∙ c.in_ok-declarations.ensures.names in
+    let declared = c.in_ok-declarations.declarations in
+    let around = scope_same program declared (c.in_ok-declarations.ensures.entries ∙ c.as_slice-storage.ensures) (c.in_ok-declarations.ensures.sections ∙ c.as_slice-sections.ensures) in
+    let kept_statements : statements ≡ [] = ap (λ (s : Scope). sections_rules s all_permitted program.sections) around
+    ∙ ap (sections_rules (scope_in declared) all_permitted) (sym c.as_slice-sections.ensures) ∙ c.in_ok-sections_rules.ensures in
+    rw (error.1, error.2)
+    (told_back program (fault_of c.in_err-recursion_rules.field-0.0)
+    (program_none program kept_entries kept_names kept_statements c.in_ok-procedure_rules.ensures) c.in_err-recursion_rules.ensures.back)

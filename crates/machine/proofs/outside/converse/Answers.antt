@@ -1,47 +1,68 @@
 use Rattle.std.proofs.Common.{length, Some, refl, ap, ◌∙◌}
 use Rattle.machine.proofs.Counters.{as_many_now}
-use Rattle.machine.proofs.Steps.{at_failure, at_no_day, after_show, after_accept, after_date}
+use Rattle.machine.proofs.Steps.{outside_from, at_failure, at_failed_line, at_no_day, after_show, after_accept, after_date}
 use Rattle.machine.proofs.Standing.{finds_for_accept, finds_for_date, stands_after_show, stands_after_accept, stands_after_date}
 use Rattle.machine.proofs.outside.converse.Goals as goal
 
 pub accept_line-requires-clause-operand : goal.accept_line-requires-clause-operand
-accept_line-requires-clause-operand g c = finds_for_accept c.args.code.now c.args.registers.now c.args.address c.requires.stands (c.requires.here ∙ ap Some c.in-Accept.is)
+accept_line-requires-clause-operand g c = finds_for_accept c.args.code.now c.args.registers.now c.args.address c.requires.stands
+    (c.requires.here ∙ ap Some c.in-Accept.is)
 
 pub date-requires-clause-operand : goal.date-requires-clause-operand
-date-requires-clause-operand g c = finds_for_date c.args.code.now c.args.registers.now c.args.address c.requires.stands (c.requires.here ∙ ap Some c.in-Date.is)
+date-requires-clause-operand g c = finds_for_date c.args.code.now c.args.registers.now c.args.address c.requires.stands
+    (c.requires.here ∙ ap Some c.in-Date.is)
 
 pub returns-in-Ok-clause-stands : goal.returns-in-Ok-clause-stands
 returns-in-Ok-clause-stands g c =
-    stands_after_show c.args.code.now c.args.registers.now c.args.address c.requires.stands _ (c.requires.here ∙ ap Some c.in-Show.is) c.in-Ok.ensures.empty c.in-Ok.ensures.keeps refl refl
+    stands_after_show c.args.code.now c.args.registers.now c.args.address c.requires.stands _
+    (c.requires.here ∙ ap Some c.in-Show.is) c.in-Ok.ensures.empty c.in-Ok.ensures.keeps refl refl refl
 
 pub returns-in-Ok-clause-on : goal.returns-in-Ok-clause-on
 returns-in-Ok-clause-on g c = λ honest run before past left so_far.
-    after_show c.args.code.now c.args.day.now run before past c.args.address left c.args.registers.now _ _ so_far (c.requires.here ∙ ap Some c.in-Show.is) _ _ (c.show_line.ensures.moments honest)
-    _ (c.in-Ok.ensures.shown honest) c.in-Ok.ensures.empty refl refl
+    after_show c.args.code.now c.args.day.now run before past c.args.address left c.args.registers.now _ _ so_far
+    (c.requires.here ∙ ap Some c.in-Show.is) _ _ (c.show_line.ensures.moments honest)
+    _ (c.in-Ok.ensures.shown honest) c.in-Ok.ensures.empty refl refl refl
 
 pub returns-in-Err-clause-on : goal.returns-in-Err-clause-on
 returns-in-Err-clause-on g c = λ honest run before past left so_far.
-    at_failure c.args.code.now c.args.day.now run before past c.args.address left c.args.registers.now _ _ so_far (c.requires.here ∙ ap Some c.in-Show.is) _ _ (c.show_line.ensures.moments honest) c.in-Err.refusal
+    at_failure c.args.code.now c.args.day.now run before past c.args.address left c.args.registers.now _ _ so_far
+    (c.requires.here ∙ ap Some c.in-Show.is) _ _ (c.show_line.ensures.moments honest) c.in-Err.refusal
 
 pub returns-in-Ok-accept_line-clause-stands : goal.returns-in-Ok-accept_line-clause-stands
 returns-in-Ok-accept_line-clause-stands g c =
-    stands_after_accept c.args.code.now c.args.registers.now c.args.address c.requires.stands _ c.in-Ok-accept_line.ensures.stored.0 (c.requires.here ∙ ap Some c.in-Accept.is)
-    c.in-Ok-accept_line.ensures.stored.1 c.in-Ok-accept_line.ensures.keeps refl
+    stands_after_accept c.args.code.now c.args.registers.now c.args.address c.requires.stands _ c.in-Ok-accept_line.ensures.stored.0
+    (c.requires.here ∙ ap Some c.in-Accept.is)
+    c.in-Ok-accept_line.ensures.stored.1 c.in-Ok-accept_line.ensures.keeps refl refl
     (as_many_now c.args.registers.now.input c.accept_line.new.input (c.accept_line.auto.input ∙ ap length c.as_mut_slice-input.ensures.value))
 
 pub returns-in-Ok-accept_line-clause-on : goal.returns-in-Ok-accept_line-clause-on
 returns-in-Ok-accept_line-clause-on g c = λ honest run before past left so_far.
-    after_accept c.args.code.now c.args.day.now run before past c.args.address left c.args.registers.now _ _ so_far (c.requires.here ∙ ap Some c.in-Accept.is) _ _ (c.accept_line.ensures.moves honest)
-    _ (c.in-Ok-accept_line.ensures.taken honest) (c.in-Ok-accept_line.ensures.accepted honest) refl refl
+    after_accept c.args.code.now c.args.day.now run before past c.args.address left c.args.registers.now _ _ so_far
+    (c.requires.here ∙ ap Some c.in-Accept.is) _ _ (c.accept_line.ensures.moves honest)
+    _ (c.in-Ok-accept_line.ensures.taken honest) (c.in-Ok-accept_line.ensures.accepted honest) refl refl refl
 
 pub returns-in-Ok-date-clause-stands : goal.returns-in-Ok-date-clause-stands
 returns-in-Ok-date-clause-stands g c =
-    stands_after_date c.args.code.now c.args.registers.now c.args.address c.requires.stands _ c.args.day.now (c.requires.here ∙ ap Some c.in-Date.is) c.in-Ok-date.ensures.does c.in-Ok-date.ensures.keeps refl refl
+    stands_after_date c.args.code.now c.args.registers.now c.args.address c.requires.stands _ c.args.day.now
+    (c.requires.here ∙ ap Some c.in-Date.is) c.in-Ok-date.ensures.does c.in-Ok-date.ensures.keeps refl refl refl
 
 pub returns-in-Ok-date-clause-on : goal.returns-in-Ok-date-clause-on
 returns-in-Ok-date-clause-on g c = λ honest run before past left so_far.
-    after_date c.args.code.now c.args.day.now run before past c.args.address left c.args.registers.now _ _ so_far _ (c.requires.here ∙ ap Some c.in-Date.is) c.in-Ok-date.ensures.does refl refl
+    after_date c.args.code.now c.args.day.now run before past c.args.address left c.args.registers.now _ _ so_far _
+    (c.requires.here ∙ ap Some c.in-Date.is) c.in-Ok-date.ensures.does refl refl refl
 
 pub returns-in-Err-date-clause-on : goal.returns-in-Err-date-clause-on
 returns-in-Err-date-clause-on g c = λ honest run before past left so_far.
-    at_no_day c.args.code.now c.args.day.now run before past c.args.address left c.args.registers.now _ _ so_far c.in-Err-date.fault (c.requires.here ∙ ap Some c.in-Date.is) c.in-Err-date.ensures.does
+    at_no_day c.args.code.now c.args.day.now run before past c.args.address left c.args.registers.now _ _ so_far c.in-Err-date.fault
+    (c.requires.here ∙ ap Some c.in-Date.is) c.in-Err-date.ensures.does
+
+pub returns-in-Err-accept_line-clause-on : goal.returns-in-Err-accept_line-clause-on
+returns-in-Err-accept_line-clause-on g c = λ honest run before past left so_far.
+    at_failed_line c.args.code.now c.args.day.now run before past c.args.address left c.args.registers.now _ _ so_far (c.requires.here ∙ ap Some c.in-Accept.is)
+    _ _ (c.accept_line.ensures.moves honest) (c.in-Err-accept_line.ensures.untaken honest) c.in-Err-accept_line.refusal
+
+pub returns-in-Ok-date-clause-within : goal.returns-in-Ok-date-clause-within
+returns-in-Ok-date-clause-within g c = outside_from c.args.code.now c.requires.verified c.args.address c.args.one c.requires.here c.requires.outside
+
+pub returns-in-Err-date-clause-within : goal.returns-in-Err-date-clause-within
+returns-in-Err-date-clause-within g c = outside_from c.args.code.now c.requires.verified c.args.address c.args.one c.requires.here c.requires.outside

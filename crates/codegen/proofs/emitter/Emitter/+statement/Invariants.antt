@@ -1,12 +1,12 @@
 use Rattle.std.proofs.Common.{◌≡◌, ◌+◌, ◌*◌, drop}
-use Rattle.check_rules.specs.Named.{items_in}
+use Rattle.check_rules.specs.Named.{scope_in}
 use Rattle.codegen.specs.Pieces.{joined, in_order}
 use Rattle.codegen.specs.Layout.{statement_piece}
 use Rattle.codegen.proofs.emitter.Emitter.+statement.Given as goal
 
 -- what is there, and what is still to come, are the whole
 abbrev pub invariant-emit_statements-loop-one : goal.invariant-emit_statements-loop-one
-invariant-emit_statements-loop-one l = joined l.code (in_order (statement_piece (items_in l.self.declarations.now)) (drop l.one-index l.all) l.code) ≡ joined l.initial.code (in_order (statement_piece (items_in l.self.declarations.now)) l.all l.initial.code)
+invariant-emit_statements-loop-one l = joined l.code (in_order (statement_piece (scope_in l.self.declarations.now)) (drop l.one-index l.all) l.code) ≡ joined l.initial.code (in_order (statement_piece (scope_in l.self.declarations.now)) l.all l.initial.code)
 
 -- Each goes down by the depth of the statements in it, and a caller stands above what it hands the same ones to.
 abbrev pub decreases-emit_statement : goal.decreases-emit_statement
@@ -16,25 +16,25 @@ abbrev pub decreases-emit_statements : goal.decreases-emit_statements
 decreases-emit_statements l = 8 * goal.size-emit_statements l + 1
 
 abbrev pub decreases-emit_times : goal.decreases-emit_times
-decreases-emit_times l = 8 * goal.size-emit_times l + 2
+decreases-emit_times l = 8 * goal.size-emit_times l + 3
 
 abbrev pub decreases-emit_performing : goal.decreases-emit_performing
 decreases-emit_performing l = 8 * goal.size-emit_performing l + 6
 
-abbrev pub decreases-emit_turns : goal.decreases-emit_turns
-decreases-emit_turns l = 8 * goal.size-emit_turns l + 5
+abbrev pub decreases-emit_turn : goal.decreases-emit_turn
+decreases-emit_turn l = 8 * goal.size-emit_turn l + 2
 
 abbrev pub decreases-emit_until : goal.decreases-emit_until
-decreases-emit_until l = 8 * goal.size-emit_until l + 4
+decreases-emit_until l = 8 * goal.size-emit_until l + 5
 
 abbrev pub decreases-emit_until_before : goal.decreases-emit_until_before
-decreases-emit_until_before l = 8 * goal.size-emit_until_before l + 3
+decreases-emit_until_before l = 8 * goal.size-emit_until_before l + 4
 
 abbrev pub decreases-emit_until_after : goal.decreases-emit_until_after
-decreases-emit_until_after l = 8 * goal.size-emit_until_after l + 3
+decreases-emit_until_after l = 8 * goal.size-emit_until_after l + 4
 
 abbrev pub decreases-emit_turn_before : goal.decreases-emit_turn_before
-decreases-emit_turn_before l = 8 * goal.size-emit_turn_before l + 2
+decreases-emit_turn_before l = 8 * goal.size-emit_turn_before l + 3
 
 abbrev pub decreases-emit_branching : goal.decreases-emit_branching
 decreases-emit_branching l = 8 * goal.size-emit_branching l + 4

@@ -1,0 +1,80 @@
+-- The rules of a statement, by those of the statements in it.
+use Rattle.std.proofs.Common.{◌≡◌, List, [], ◌∷◌, ◌++◌, None, Some, refl, ap, ◌∙◌}
+use Rattle.std.specs.Prelude.{Bool, Option, map}
+use Rattle.lexical.specs.declared.place.Place.{Place}
+use Rattle.source_tree.specs.declared.arithmetic.Operation.{Operation}
+use Rattle.source_tree.specs.declared.condition.Condition.{Condition}
+use Rattle.source_tree.specs.declared.branching.Branching.TheVariants.{If}
+use Rattle.source_tree.specs.declared.performing.Performed.{Performed}
+use Rattle.source_tree.specs.declared.performing.Performed.TheVariants.{Procedures, Statements}
+use Rattle.source_tree.specs.declared.performing.Turns.{Turns}
+use Rattle.source_tree.specs.declared.statement.Verb.{Verb}
+use Rattle.source_tree.specs.declared.statement.Verb.TheVariants as verb
+use Rattle.source_tree.specs.declared.statement.Statement.{Statement, out-Statement, roll-Statement}
+use Rattle.source_tree.specs.declared.statement.Statement.TheOpen.{Statement-F}
+use Rattle.source_tree.specs.declared.statement.Statement.TheFolds.{map-Statement, fold_out-Statement, fold-roll-Statement}
+use Rattle.source_tree.specs.Broken.{Broken, each}
+use Rattle.source_tree.specs.ArithmeticRules.{operation_rules}
+use Rattle.source_tree.specs.ConditionRules.{condition_rules}
+use Rattle.source_tree.specs.Procedures.{Range}
+use Rattle.source_tree.specs.Setting.{Scope}
+use Rattle.source_tree.specs.Rules.{turns_rules, verb_rules, statement_layer, statement_rules}
+
+module _ {A B : Type 0} (f : A → B) (rules : B → List Broken) where
+  pub each_map : (all : List A) → each rules (map f all) ≡ each (λ a. rules (f a)) all
+  each_map [] = refl
+  each_map (one ∷ more) = ap (λ l. rules (f one) ++ l) (each_map more)
+
+  module _ (scope : Scope) (permits : Range → Bool) where
+    performing_map : (place : Place) (often : Turns) (what : Performed A)
+        → verb_rules scope permits rules (map-Statement A B f (record { place = place; verb = verb.Performing (record { performed = what; turns = often }) })).verb
+        ≡ verb_rules scope permits (λ a. rules (f a)) (verb.Performing (record { performed = what; turns = often }))
+    performing_map place often (Procedures first last) = refl
+    performing_map place often (Statements inside) = ap (λ l. turns_rules scope.items often ++ l) (each_map inside)
+
+    branching_map : (place : Place) (condition : Condition) (statements : List A) (otherwise : Option (List A))
+        → verb_rules scope permits rules (map-Statement A B f (record { place = place; verb = verb.Branching (If condition statements otherwise) })).verb
+        ≡ verb_rules scope permits (λ a. rules (f a)) (verb.Branching (If condition statements otherwise))
+    branching_map place condition statements None = ap (λ l. condition_rules scope.items condition ++ l ++ []) (each_map statements)
+    branching_map place condition statements (Some other) =
+        ap (λ l. condition_rules scope.items condition ++ l ++ each rules (map f other)) (each_map statements)
+        ∙ ap (λ l. condition_rules scope.items condition ++ each (λ a. rules (f a)) statements ++ l) (each_map other)
+
+    phrases_map : (place : Place) (operation : Operation) (arose did_not : Option (List A))
+        → verb_rules scope permits rules
+        (map-Statement A B f (record { place = place; verb = verb.Arithmetic (record { operation = operation; phrases = record { arose = arose; did_not = did_not } }) })).verb
+        ≡ verb_rules scope permits (λ a. rules (f a)) (verb.Arithmetic (record { operation = operation; phrases = record { arose = arose; did_not = did_not } }))
+    phrases_map place operation None None = refl
+    phrases_map place operation (Some inside) None = ap (λ l. operation_rules scope.items operation ++ (l ++ [])) (each_map inside)
+    phrases_map place operation None (Some other) = ap (λ l. operation_rules scope.items operation ++ l) (each_map other)
+    phrases_map place operation (Some inside) (Some other) =
+        ap (λ l. operation_rules scope.items operation ++ (l ++ each rules (map f other))) (each_map inside)
+        ∙ ap (λ l. operation_rules scope.items operation ++ (each (λ a. rules (f a)) inside ++ l)) (each_map other)
+
+    pub verb_map : (place : Place) (one : Verb A)
+        → verb_rules scope permits rules (map-Statement A B f (record { place = place; verb = one })).verb ≡ verb_rules scope permits (λ a. rules (f a)) one
+    verb_map place (verb.Moving one) = refl
+    verb_map place (verb.Arithmetic one) = phrases_map place one.operation one.phrases.arose one.phrases.did_not
+    verb_map place (verb.Branching (If condition statements otherwise)) = branching_map place condition statements otherwise
+    verb_map place (verb.Performing one) = performing_map place one.turns one.performed
+    verb_map place (verb.Text one) = refl
+    verb_map place (verb.Ending one) = refl
+
+module _ (scope : Scope) (permits : Range → Bool) where
+  -- one layer of a statement's rules
+  pub statement_is : (one : Statement) → statement_rules scope permits one ≡ verb_rules scope permits (statement_rules scope permits) (out-Statement one).verb
+  unfolding statement_rules
+  statement_is one =
+      fold_out-Statement (List Broken) (statement_layer scope permits) one
+      ∙ verb_map (statement_rules scope permits) (λ broken. broken) scope permits (out-Statement one).place (out-Statement one).verb
+
+  pub rolled_rules : (l : Statement-F Statement) → statement_rules scope permits (roll-Statement l) ≡ verb_rules scope permits (statement_rules scope permits) l.verb
+  unfolding statement_rules
+  rolled_rules l =
+      fold-roll-Statement (List Broken) (statement_layer scope permits) l
+      ∙ verb_map (statement_rules scope permits) (λ broken. broken) scope permits l.place l.verb
+
+  -- where the statements in it are those of others
+  pub mapped_rules : {A : Type 0} (f : A → Statement) (l : Statement-F A)
+      → statement_rules scope permits (roll-Statement (map-Statement A Statement f l)) ≡ verb_rules scope permits (λ a. statement_rules scope permits (f a)) l.verb
+  mapped_rules {A} f l = rolled_rules (map-Statement A Statement f l) ∙ verb_map f (statement_rules scope permits) scope permits l.place l.verb

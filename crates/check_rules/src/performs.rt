@@ -1,0 +1,216 @@
+//! What the PERFORMs of a program perform, by the numbers of paragraphs.
+
+ghost use Rattle.std.specs.Prelude.{◌≡◌, ◌+◌, ◌<◌, ◌^◌, [], ◌∷◌, length, IfOk, OnOk};
+ghost use Rattle.source_tree.specs.Procedures.{paragraphs_in, paragraphs_or_one, range_of};
+ghost use Rattle.source_tree.specs.Recursion as spec;
+ghost use Rattle.source_tree.specs.Recursion.{each_performs, performs_from};
+ghost use Rattle.check_rules.specs.Named.{IsDeclared, procedures_in};
+ghost use Rattle.check_rules.specs.Performs.{Adds, AddsPhrase, in_paragraph};
+
+use crate::declarations::Declarations;
+use perform_order::PerformedRange;
+use source_tree::{
+    Arithmetic, Branching, Name, Paragraph, Performed, Performing, Phrases, Place, Section,
+    Sentence, Statement, Verb,
+};
+use sqlite_items::Items;
+use std::alloc::{AllocError, Global};
+
+/// What PERFORMs perform, in the order of the text, and where each names its first procedure.
+#[derive(Drop)]
+pub(crate) struct Performs {
+    pub(crate) places: Vec<Place>,
+    pub(crate) ranges: Vec<PerformedRange>,
+}
+
+impl Performs {
+    /// Nothing.
+    pub(crate) fn new(alloc: Global) -> Performs
+        ensures places { result.places.items ≡ [] }
+        ensures ranges { result.ranges.items ≡ [] }
+    {
+        Performs {
+            places: Vec::new(alloc),
+            ranges: Vec::new(alloc),
+        }
+    }
+
+    fn push(&mut self, place: Place, range: PerformedRange) -> Result<(), AllocError>
+        ensures { OnOk result (Adds self.old self.new ((place, range) ∷ [])) }
+    {
+        self.places.push(place)?;
+        self.ranges.push(range)?;
+        Ok(())
+    }
+}
+
+impl<'a> Declarations<'a> {
+    /// What a PERFORM of procedures performs, in the paragraph of that number.
+    fn range_performs(
+        &self,
+        number: usize,
+        first: &Name,
+        last: &Option<Name>,
+        all: &mut Performs,
+    ) -> Result<(), AllocError>
+        requires { IsDeclared self.now }
+        ensures { OnOk result (Adds all.old all.new (in_paragraph number (spec.range_performs first.now.place (range_of (procedures_in self.now) first.now last.now)))) }
+    {
+        let Some(range) = self.procedures.range_of(first, last) else {
+            return Ok(());
+        };
+        let performed = PerformedRange {
+            performer: number,
+            first: range.first,
+            last: range.last,
+        };
+        all.push(first.place, performed)
+    }
+
+    /// What the PERFORMs in a statement perform.
+    #[cycle(performs)]
+    #[tactic(auto, using(crate::proofs::PerformLayers::statement_is))]
+    fn statement_performs(
+        &self,
+        number: usize,
+        one: &Statement,
+        all: &mut Performs,
+    ) -> Result<(), AllocError>
+        requires { IsDeclared self.now }
+        ensures { OnOk result (Adds all.old all.new (in_paragraph number (spec.statement_performs (procedures_in self.now) one.now))) }
+    {
+        match &one.verb {
+            Verb::Arithmetic(
+                Arithmetic {
+                    phrases: Phrases { arose, did_not },
+                    ..
+                },
+            ) => {
+                self.phrase_performs(number, arose, all)?;
+                self.phrase_performs(number, did_not, all)
+            }
+            Verb::Branching(
+                Branching::If {
+                    statements,
+                    otherwise,
+                    ..
+                },
+            ) => {
+                self.statements_performs(number, statements.as_slice(), all)?;
+                self.phrase_performs(number, otherwise, all)
+            }
+            Verb::Performing(Performing { performed, .. }) => match performed {
+                Performed::Procedures { first, last } => {
+                    self.range_performs(number, first, last, all)
+                }
+                Performed::Statements(inside) => {
+                    self.statements_performs(number, inside.as_slice(), all)
+                }
+            },
+            Verb::Moving(_) | Verb::Text(_) | Verb::Ending(_) => Ok(()),
+        }
+    }
+
+    /// Those of statements, in order.
+    #[cycle(performs)]
+    fn statements_performs(
+        &self,
+        number: usize,
+        statements: &[Statement],
+        all: &mut Performs,
+    ) -> Result<(), AllocError>
+        requires { IsDeclared self.now }
+        ensures { OnOk result (Adds all.old all.new (in_paragraph number (each_performs (spec.statement_performs (procedures_in self.now)) statements.now))) }
+    {
+        for one in statements {
+            self.statement_performs(number, one, all)?;
+        }
+        Ok(())
+    }
+
+    /// Those of the statements of a phrase, if it stands.
+    #[cycle(performs)]
+    fn phrase_performs(
+        &self,
+        number: usize,
+        phrase: &Option<Items<Statement>>,
+        all: &mut Performs,
+    ) -> Result<(), AllocError>
+        requires { IsDeclared self.now }
+        ensures { OnOk result (AddsPhrase (procedures_in self.now) number all.old all.new phrase.now) }
+    {
+        match phrase {
+            None => Ok(()),
+            Some(inside) => self.statements_performs(number, inside.as_slice(), all),
+        }
+    }
+
+    /// Those of a paragraph, which has that number.
+    fn paragraph_performs(
+        &self,
+        number: usize,
+        sentences: &[Sentence],
+        all: &mut Performs,
+    ) -> Result<(), AllocError>
+        requires { IsDeclared self.now }
+        ensures { OnOk result (Adds all.old all.new (in_paragraph number (each_performs (spec.sentence_performs (procedures_in self.now)) sentences.now))) }
+    {
+        for one in sentences {
+            self.statements_performs(number, one.statements.as_slice(), all)?;
+        }
+        Ok(())
+    }
+
+    /// Those of paragraphs, of which the first has that number.
+    fn paragraphs_performs(
+        &self,
+        first: usize,
+        paragraphs: &[Paragraph],
+        all: &mut Performs,
+    ) -> Result<(), AllocError>
+        requires declared { IsDeclared self.now }
+        requires numbers { first + length paragraphs.now < 2 ^ 64 }
+        ensures { OnOk result (Adds all.old all.new (performs_from (procedures_in self.now) first paragraphs.now)) }
+    {
+        for (i, one) in paragraphs.iter().enumerate() {
+            self.paragraph_performs(first + i, one.sentences.as_slice(), all)?;
+        }
+        Ok(())
+    }
+
+    /// Those of a section, whose first paragraph has that number. Answers the number of the next paragraph.
+    fn section_performs(
+        &self,
+        first: usize,
+        one: &Section,
+        all: &mut Performs,
+    ) -> Result<usize, AllocError>
+        requires { IsDeclared self.now }
+        ensures next { IfOk result (λ next. next ≡ first + length (paragraphs_or_one one.now.paragraphs)) }
+        ensures added { OnOk result (Adds all.old all.new (performs_from (procedures_in self.now) first (paragraphs_or_one one.now.paragraphs))) }
+    {
+        let paragraphs = one.paragraphs.as_slice();
+        let Some(next) = first.checked_add(paragraphs.len().max(1)) else {
+            return Err(AllocError);
+        };
+        self.paragraphs_performs(first, paragraphs, all)?;
+        Ok(next)
+    }
+
+    /// Those of all sections. Answers how many paragraphs there are.
+    pub(crate) fn sections_performs(
+        &self,
+        sections: &[Section],
+        all: &mut Performs,
+    ) -> Result<usize, AllocError>
+        requires { IsDeclared self.now }
+        ensures count { IfOk result (λ count. count ≡ length (paragraphs_in sections.now)) }
+        ensures added { OnOk result (Adds all.old all.new (performs_from (procedures_in self.now) 0 (paragraphs_in sections.now))) }
+    {
+        let mut number = 0;
+        for one in sections {
+            number = self.section_performs(number, one, all)?;
+        }
+        Ok(number)
+    }
+}

@@ -1,0 +1,16 @@
+-- A table of the code paragraphs that addresses are in, and what is known of their order.
+use Rattle.std.specs.Prelude.{◌≡◌, ℕ, ◌+◌, ◌≤◌, List, length, slice_index}
+use Rattle.perform_order.specs.declared.order.Order.{Order}
+use Rattle.perform_order.specs.declared.order.Order.TheVariants.{Heights, Recursive}
+use Rattle.code_image.specs.declared.instruction.Instruction.{Instruction}
+use Rattle.code_image.specs.Demands.{paragraph_at}
+
+-- the code paragraph of each address, and of the one behind the last
+pub record ListsParagraphs (instructions : List Instruction) (paragraphs : List ℕ) : Type 0 where
+  pub one_each : length paragraphs ≡ length instructions + 1
+  pub each : (address : ℕ) → address ≤ length instructions → slice_index paragraphs address ≡ paragraph_at instructions address
+
+-- Heights of paragraphs were found, and no paragraphs that perform one another.
+abbrev pub HasHeights : Order → Type 0
+HasHeights (Heights all) = Unit {0}
+HasHeights (Recursive all) = ⊥

@@ -1,0 +1,191 @@
+-- The run of the code of a program that keeps the rules is what the program means.
+use Rattle.std.proofs.Common.{◌≡◌, ℕ, zero, suc, ◌+◌, ◌-◌, ◌<◌, true, List, [], ◌∷◌, ◌++◌, length, map, Option, Some, refl, sym, ap, ◌∙◌, subst, arith}
+use Rattle.std.specs.Prelude.{Bool, slice_get}
+use Rattle.std.specs.List.{AllByRecursion}
+use Rattle.std.proofs.lemmas.List.{length-replicate}
+use Rattle.std.proofs.lemmas.List.Elements.{All-from_recursion, recursion_from_All}
+use Rattle.std.proofs.lemmas.Option.{same_Some}
+use Rattle.lexical.specs.declared.place.Place.{Place}
+use Rattle.perform_order.specs.declared.performed.PerformedRange.{PerformedRange}
+use Rattle.perform_order.specs.Order.{Falls, heights}
+use Rattle.source_tree.specs.declared.name.Name.{Name}
+use Rattle.source_tree.specs.declared.program.Program.{Program}
+use Rattle.source_tree.specs.declared.program.Sentence.{Sentence}
+use Rattle.source_tree.specs.declared.program.Paragraph.{Paragraph}
+use Rattle.source_tree.specs.Broken.{Broken, each}
+use Rattle.source_tree.specs.Given.{Given}
+use Rattle.source_tree.specs.PerformRules.{range_rules}
+use Rattle.source_tree.specs.Procedures.{Range, Procedure, range_of}
+use Rattle.source_tree.specs.Recursion.{Performance, each_performs, statement_performs, sentence_performs, paragraph_performs, performed_in, by_paragraph, performs_from, performs, performed, HasOrder}
+use Rattle.source_tree.specs.Rules.{statement_rules, sentence_rules, paragraph_rules, all_permitted, program_rules}
+use Rattle.source_tree.specs.Setting.{Scope, scope, paragraphs}
+use Rattle.source_tree.specs.State.{State}
+use Rattle.source_tree.specs.Storage.{Storage}
+use Rattle.source_tree.specs.Meaning.{start, meaning}
+use Rattle.check_rules.proofs.Permitted.{permitted_kept}
+use Rattle.code_image.specs.declared.code.Code.{Code}
+use Rattle.code_image.specs.Points.{nothing_own, start_state}
+use Rattle.code_image.specs.Table.{exec_code, Runs}
+use Rattle.codegen.specs.Pieces.{nothing, joined, in_order}
+use Rattle.codegen.specs.Layout.{section_piece, paragraph_piece, end_piece, storage_code, code_of}
+use Rattle.codegen.proofs.Codes.{left_none, right_none}
+use Rattle.codegen.proofs.ConditionValues.{conditions_formed}
+use Rattle.codegen.proofs.Demands.{all_front, all_back, paragraph_meets}
+use Rattle.codegen.proofs.Pieces.{joined_assoc, joined_nothing, flat}
+use Rattle.codegen.proofs.Procedures.{Laid, AreBare, laid_out, below, below_is}
+use Rattle.codegen.proofs.ProgramDoes.{range_ends}
+use Rattle.codegen.proofs.Ranges.{EndsWithin, FoundWithin, range_within, procedures_end}
+use Rattle.codegen.proofs.Running.{at}
+use Rattle.codegen.proofs.Standing.{Stands}
+use Rattle.codegen.proofs.Verified.{paragraphs_keep, entries_kept, sections_kept, areas_are, item_entries, order, lies}
+
+-- ---- rules that ask which ranges may be performed
+
+module _ (found : Scope) (permits : Range → Bool) where
+  abbrev MayBe : Performance → Type 0
+  MayBe one = permits one.range ≡ true
+
+  each_permitted : {A : Type 0} (rules others : A → List Broken) (performing : A → List Performance)
+      → ((one : A) → others one ≡ [] → AllByRecursion MayBe (performing one) → rules one ≡ [])
+      → (all : List A) → each others all ≡ [] → AllByRecursion MayBe (each_performs performing all) → each rules all ≡ []
+  each_permitted rules others performing one_is [] e h = refl
+  each_permitted rules others performing one_is (one ∷ more) e h =
+      ap (λ l. l ++ each rules more)
+      (one_is one (left_none (others one) (each others more) e) (all_front MayBe (performing one) (each_performs performing more) h))
+      ∙ each_permitted rules others performing one_is more (right_none (others one) (each others more) e)
+      (all_back MayBe (performing one) (each_performs performing more) h)
+
+  sentence_permitted : (one : Sentence) → sentence_rules found all_permitted one ≡ [] → AllByRecursion MayBe (sentence_performs found.procedures one)
+      → sentence_rules found permits one ≡ []
+  sentence_permitted one =
+      each_permitted (statement_rules found permits) (statement_rules found all_permitted) (statement_performs found.procedures)
+      (λ statement e h. permitted_kept found permits statement e
+      (All-from_recursion MayBe (statement_performs found.procedures statement) h)) one.statements
+
+  paragraph_permitted : (one : Paragraph) → paragraph_rules found all_permitted one ≡ []
+      → AllByRecursion MayBe (paragraph_performs found.procedures one) → paragraph_rules found permits one ≡ []
+  paragraph_permitted one =
+      each_permitted (sentence_rules found permits) (sentence_rules found all_permitted)
+      (sentence_performs found.procedures) sentence_permitted one.sentences
+
+-- ---- heights fall along what a paragraph performs
+
+mapped_all : {A B : Type 0} (P : B → Type 0) (f : A → B) (xs : List A) → AllByRecursion P (map f xs) → AllByRecursion (λ (x : A). P (f x)) xs
+mapped_all P f [] h = tt
+mapped_all P f (x ∷ xs) h = (h.0, mapped_all P f xs h.1)
+
+module _ (height : ℕ → ℕ) where
+  abbrev FallsAt : Place × PerformedRange → Type 0
+  FallsAt one = Falls height one.1
+
+  falls_in : (procedures : List Procedure) (all : List Paragraph) (number n m : ℕ) (one : Paragraph)
+      → AllByRecursion FallsAt (performs_from procedures number all) → slice_get all n ≡ Some one
+      → m ≡ number + n → AllByRecursion (λ (p : Performance). Falls height (performed_in m p)) (paragraph_performs procedures one)
+  falls_in procedures [] number n m one h here is = absurd cc
+  falls_in procedures (first ∷ more) number zero m one h here is =
+      let performing = paragraph_performs procedures first in
+      let front = all_front FallsAt (map (by_paragraph number) performing) (performs_from procedures (number + 1) more) h in
+      let same : number ≡ m = omega arith in
+      subst (λ (x : Paragraph). AllByRecursion (λ (p : Performance). Falls height (performed_in m p)) (paragraph_performs procedures x))
+      (same_Some first one here)
+      (subst (λ (k : ℕ). AllByRecursion (λ (p : Performance). Falls height (performed_in k p)) performing) same
+      (mapped_all FallsAt (by_paragraph number) performing front))
+  falls_in procedures (first ∷ more) number (suc n) m one h here is =
+      falls_in procedures more (number + 1) n m one
+      (all_back FallsAt (map (by_paragraph number) (paragraph_performs procedures first)) (performs_from procedures (number + 1) more) h) here
+      (omega arith)
+
+  all_lower : (m : ℕ) (xs : List Performance) → AllByRecursion (λ (p : Performance). Falls height (performed_in m p)) xs
+      → AllByRecursion (λ (p : Performance). below height (height m) p.range ≡ true) xs
+  all_lower m [] h = tt
+  all_lower m (p ∷ ps) h = (
+    below_is height (height m) p.range.first (p.range.last + 1 - p.range.first) (λ q low up. h.0 q (record { first = low; last = omega arith })),
+    all_lower m ps h.1,
+  )
+
+-- one of a list that breaks no rule
+kept_at : {A : Type 0} (rules : A → List Broken) (all : List A) (n : ℕ) (one : A) → each rules all ≡ [] → slice_get all n ≡ Some one → rules one ≡ []
+kept_at rules [] n one e here = absurd cc
+kept_at rules (first ∷ more) zero one e here = subst (λ x. rules x ≡ []) (same_Some first one here) (left_none (rules first) (each rules more) e)
+kept_at rules (first ∷ more) (suc n) one e here = kept_at rules more n one (right_none (rules first) (each rules more) e) here
+
+nothing_asked : (xs : List Performance) → AllByRecursion (λ (p : Performance). Unit {0}) xs
+nothing_asked [] = tt
+nothing_asked (p ∷ ps) = (tt, nothing_asked ps)
+
+-- ---- the whole program
+
+module _ (program : Program) (keep : program_rules program ≡ []) (ordered : HasOrder program) where
+  abbrev found : Scope
+  found = scope program
+
+  abbrev all : List Paragraph
+  all = paragraphs program
+
+  abbrev count : ℕ
+  count = length all
+
+  abbrev height : ℕ → ℕ
+  height = heights ordered.0
+
+  abbrev code : Code
+  code = code_of program
+
+  abbrev storage : Code
+  storage = storage_code program.storage
+
+  all_keep : each (paragraph_rules found all_permitted) all ≡ []
+  all_keep = paragraphs_keep found all_permitted program.sections (sections_kept program keep)
+
+  all_fall : AllByRecursion (FallsAt height) (performs program)
+  all_fall =
+      mapped_all (Falls height) (λ (one : Place × PerformedRange). one.1) (performs program)
+      (recursion_from_All (Falls height) (performed program) ordered.1.fall)
+
+  -- each paragraph performs lower ones alone
+  lower_keep : (n : ℕ) (one : Paragraph) → slice_get all n ≡ Some one → paragraph_rules found (below height (height n)) one ≡ []
+  lower_keep n one here =
+      paragraph_permitted found (below height (height n)) one (kept_at (paragraph_rules found all_permitted) all n one all_keep here)
+      (all_lower height n (paragraph_performs found.procedures one) (falls_in height found.procedures all 0 n n one all_fall here (omega arith)))
+
+  within : AllByRecursion (EndsWithin count) found.procedures
+  within = procedures_end count 0 program.sections (omega arith)
+
+  there : (permits : Range → Bool) (first : Name) (last : Option Name) (one : Range) → range_rules permits found.procedures first last ≡ []
+      → range_of found.procedures first last ≡ Some one → one.last < count
+  there permits first last one e is = (subst (FoundWithin count) is (range_within count found.procedures within permits first last e)).last
+
+  bare : AreBare found all
+  bare = record {
+    by = λ n one here code.
+        (paragraph_meets found all_permitted
+        (conditions_formed program.storage (entries_kept program keep)) count within (λ (range : Range). Unit {0}) one.sentences
+        (kept_at (paragraph_rules found all_permitted) all n one all_keep here)
+        (nothing_asked (paragraph_performs found.procedures one)) code).starts;
+  }
+
+  stands : Stands code storage (joined (in_order (paragraph_piece found) all storage) end_piece)
+  stands = record {
+    rest = nothing;
+    is = joined_assoc storage (in_order (section_piece found) program.sections storage) end_piece
+        ∙ ap (λ (c : Code). joined storage (joined c end_piece)) (flat found program.sections storage)
+        ∙ sym (joined_nothing (joined storage (joined (in_order (paragraph_piece found) all storage) end_piece)));
+  }
+
+  laid : Laid code found all
+  laid = laid_out code found all storage refl refl bare stands
+
+  -- the code begins with what the program does
+  begins : (given : Given) → start_state code given ≡ start program given
+  begins given =
+      ap (λ (storage : Storage). record { budget = given.budget; line = 0; day = given.day; lines = given.lines; storage = storage; events = [] })
+      (areas_are program keep)
+
+  pub runs : (given : Given) → Runs code given (meaning program given)
+  runs given =
+      let ended = range_ends code found (item_entries program keep) (order program keep) (lies program keep) all laid height lower_keep there
+      (suc given.budget) 0 all (nothing_own code) (start program given)
+      refl (omega arith) refl (omega arith) (record { counters = length-replicate (length code.instructions) 0; line = refl }) in
+      let first = subst (λ (p : ℕ). (j : ℕ) ×
+      (exec_code code j (at p (nothing_own code) (start program given)) ≡ Some (meaning program given))) laid.begins ended in
+      (first.0, ap (λ (s : State). exec_code code first.0 (at 0 (nothing_own code) s)) (begins given) ∙ first.1)
