@@ -7,6 +7,7 @@ use source_tree::{
     Branching, Ending, Moving, Name, Operand, Performed, Performing, Program, Statement, TestTime,
     Text, Turns, Verb,
 };
+use sqlite_items::Items;
 use std::alloc::{AllocError, Global};
 use std::test::Fail;
 use tokens::scan;
@@ -399,23 +400,17 @@ fn push_range(to: &mut String, first: &Name, last: &Option<Name>) -> Result<(), 
     to.push_str("]")
 }
 
-fn push_performed(
-    to: &mut String,
-    alloc: Global,
-    performed: &Performed<Statement>,
-) -> Result<(), AllocError> {
-    match performed {
-        Performed::Procedures { first, last } => push_range(to, first, last),
-        Performed::Statements(inside) => {
-            to.push_str("(")?;
-            for one in inside.as_slice() {
-                push_statement(to, alloc, one)?;
-            }
-            to.push_str(")")
-        }
+/// In parentheses.
+#[cycle(pushed)]
+fn push_inner(to: &mut String, alloc: Global, inside: &Items<Statement>) -> Result<(), AllocError> {
+    to.push_str("(")?;
+    for one in inside.as_slice() {
+        push_statement(to, alloc, one)?;
     }
+    to.push_str(")")
 }
 
+#[cycle(pushed)]
 fn push_statement(to: &mut String, alloc: Global, statement: &Statement) -> Result<(), AllocError> {
     match &statement.verb {
         Verb::Text(
@@ -433,7 +428,10 @@ fn push_statement(to: &mut String, alloc: Global, statement: &Statement) -> Resu
         Verb::Performing(Performing { performed, turns }) => {
             to.push_str("P")?;
             push_turns(to, turns)?;
-            push_performed(to, alloc, performed)?;
+            match performed {
+                Performed::Procedures { first, last } => push_range(to, first, last)?,
+                Performed::Statements(inside) => push_inner(to, alloc, inside)?,
+            }
         }
         // what stands in its ways is shown by tests of `statements`
         Verb::Branching(Branching::If { statements, .. }) => {
