@@ -8,7 +8,7 @@ use pages::{PageMap, PagesError, format};
 use station::Device;
 use std::alloc::Global;
 use std::marker::Model;
-use tree_pages::{Kind, TreeForm, TreePage};
+use tree_pages::{Kind, RowLayout, TreePage};
 
 /// How many sectors the volume has.
 const SECTORS: u32 = 921_600;
@@ -63,7 +63,7 @@ impl Model for TreeVolume {
 
     ghost view = { λ volume. sectors_of volume.pages };
 
-    ghost invariant = { λ volume. IsOpen volume.pages × (length volume.key.items ≡ volume.tree.form.key_length) × (length volume.value.items ≡ volume.tree.form.value_length) };
+    ghost invariant = { λ volume. IsOpen volume.pages × (length volume.key.items ≡ volume.tree.layout.key_length) × (length volume.value.items ≡ volume.tree.layout.value_length) };
 }
 
 /// Writes a number at the end of bytes, if there is room.
@@ -84,10 +84,10 @@ fn has_sectors(pages: &PageMap, device: &SparseDevice) -> bool
 }
 
 impl TreeVolume {
-    /// An empty tree of a form that is possible, in a volume of its own.
-    pub fn empty(alloc: Global, form: TreeForm) -> Result<TreeVolume, PagesError> {
+    /// An empty tree of a layout that is possible, in a volume of its own.
+    pub fn empty(alloc: Global, layout: RowLayout) -> Result<TreeVolume, PagesError> {
         let mut device = SparseDevice::new(alloc, SECTORS);
-        if device.count() != SECTORS || !form.is_possible() {
+        if device.count() != SECTORS || !layout.is_possible() {
             return Err(PagesError::Full);
         }
         format(&mut device)?;
@@ -95,9 +95,9 @@ impl TreeVolume {
         Ok(TreeVolume {
             pages,
             device,
-            tree: Tree::new(alloc, form, 0),
-            key: vec![in alloc; 7; form.key_length]?,
-            value: vec![in alloc; 7; form.value_length]?,
+            tree: Tree::new(alloc, layout, 0),
+            key: vec![in alloc; 7; layout.key_length]?,
+            value: vec![in alloc; 7; layout.value_length]?,
             touched: 0,
         })
     }
@@ -154,7 +154,9 @@ impl TreeVolume {
         if !has_sectors(&self.pages, &self.device) {
             return Err(PagesError::Spent);
         }
-        self.touched = self.touched.saturating_add(self.pages.touched() as u64);
+        self.touched = self
+            .touched
+            .saturating_add(self.pages.changed_pages() as u64);
         self.pages.commit(&mut self.device)
     }
 
@@ -164,7 +166,7 @@ impl TreeVolume {
             return Err(PagesError::Spent);
         }
         match self.pages.read(&mut self.device, number)? {
-            Some(bytes) => Ok(TreePage::read(bytes, self.tree.form())),
+            Some(bytes) => Ok(TreePage::read(bytes, self.tree.layout())),
             None => Ok(None),
         }
     }

@@ -4,7 +4,7 @@ use crate::tree_volume::TreeVolume;
 use pages::PagesError;
 use std::io;
 use std::time::Instant;
-use tree_pages::TreeForm;
+use tree_pages::RowLayout;
 
 /// The entries of each tree.
 const ENTRIES: u32 = 100_000;
@@ -53,17 +53,17 @@ fn fifth_power(n: u32) -> u32 {
     (fourth * one % PRIME) as u32
 }
 
-/// A tree of a form, whose entries come in an order, so many a commit.
+/// A tree of a layout, whose entries come in an order, so many a commit.
 #[derive(Clone, Copy)]
 struct Case {
-    form: TreeForm,
+    layout: RowLayout,
     order: Order,
     at_once: u32,
 }
 
 fn case_of(key_length: usize, value_length: usize, order: Order, at_once: u32) -> Case {
     Case {
-        form: TreeForm {
+        layout: RowLayout {
             key_length,
             value_length,
         },
@@ -231,12 +231,12 @@ fn measure_removals(
 }
 
 fn measure_case(rt: &HostRuntime, case: Case) -> io::Result<()> {
-    let mut volume = match TreeVolume::empty(rt.alloc(), case.form) {
+    let mut volume = match TreeVolume::empty(rt.alloc(), case.layout) {
         Ok(volume) => volume,
         Err(error) => return println!(rt; "{error}"),
     };
-    let key_length = case.form.key_length;
-    let value_length = case.form.value_length;
+    let key_length = case.layout.key_length;
+    let value_length = case.layout.value_length;
     let order = case.order.name();
     let at_once = case.at_once;
     println!(rt; "keys of {key_length}, values of {value_length}, {order}, {at_once} a commit")?;

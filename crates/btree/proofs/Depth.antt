@@ -11,9 +11,9 @@ use Rattle.std.proofs.lemmas.List.Elements.{All-head, All-tail, All-cons, All-we
 use Rattle.std.proofs.lemmas.Map.Made.{IsDistinct-from_AllPairs}
 use Rattle.std.proofs.lemmas.Map.Steps.{length-le_from_distinct_below}
 use Rattle.station.specs.Disk.{Sector}
-use Rattle.tree_pages.specs.declared.form.TreeForm.{TreeForm}
-use Rattle.tree_pages.specs.declared.form.Kind.TheVariants.{Inner}
-use Rattle.btree.specs.Tree.{Part, row_of, rows_of, Stands, Joined, pages_of, IsTree, Holds}
+use Rattle.tree_pages.specs.declared.row_layout.RowLayout.{RowLayout}
+use Rattle.tree_pages.specs.declared.row_layout.Kind.TheVariants.{Inner}
+use Rattle.btree.specs.Tree.{TreeNode, row_of, rows_of, Stands, Joined, pages_of, IsTree, Holds}
 
 -- Numbers below a bound, none of them twice.
 any_tail : (q x : ℕ) (xs : List ℕ) → eqb q x ≡ false → list_any (eqb q) (x ∷ xs) ≡ true → list_any (eqb q) xs ≡ true
@@ -48,48 +48,48 @@ few_numbers_above n (x ∷ xs) once between =
     let count = with_zero n (x ∷ xs) some once between in
     omega arith
 
--- Each level of inner pages has twice as many parts below it.
-pub twice : (form : TreeForm) (pages : List (Option Sector)) (level : List Part) → All (Stands form pages Inner) level → 2 * length level ≤ length (rows_of level)
-twice form pages [] all = omega arith
-twice form pages (part ∷ level) all =
-    let here = All-head (Stands form pages Inner) part level all in
-    let more = twice form pages level (All-tail (Stands form pages Inner) part level all) in
-    let enough : 2 ≤ length part.rows = here.enough in
-    let count = length-append part.rows (rows_of level) in
+-- Each level of inner pages has twice as many nodes below it.
+pub twice : (layout : RowLayout) (pages : List (Option Sector)) (level : List TreeNode) → All (Stands layout pages Inner) level → 2 * length level ≤ length (rows_of level)
+twice layout pages [] all = omega arith
+twice layout pages (node ∷ level) all =
+    let here = All-head (Stands layout pages Inner) node level all in
+    let more = twice layout pages level (All-tail (Stands layout pages Inner) node level all) in
+    let enough : 2 ≤ length node.rows = here.enough in
+    let count = length-append node.rows (rows_of level) in
     omega arith
 
-grown : (power level lower below all next : ℕ) → next ≡ power * 2 → power * lower ≤ below → 2 * level ≤ lower → below ≤ all → next * level ≤ all
-grown power level lower below all next is low double more =
+split : (power level lower below all next : ℕ) → next ≡ power * 2 → power * lower ≤ below → 2 * level ≤ lower → below ≤ all → next * level ≤ all
+split power level lower below all next is low double more =
     let e : next * level ≡ power * (2 * level) = ap (λ (n : ℕ). n * level) is ∙ mul_assoc power 2 level in
     let f : power * (2 * level) ≤ power * lower = mul-le-mul_left power double in
     omega arith
 
-grows : (form : TreeForm) (pages : List (Option Sector)) (level : List Part) (more : List (List Part)) → Joined form pages (level ∷ more) → 2 ^ length more * length level ≤ length (pages_of (level ∷ more))
-grows form pages level [] joined =
-    let count = length-map level (λ (part : Part). part.page) in
-    let end = length-append (map (λ (part : Part). part.page) level) [] in
+grows : (layout : RowLayout) (pages : List (Option Sector)) (level : List TreeNode) (more : List (List TreeNode)) → Joined layout pages (level ∷ more) → 2 ^ length more * length level ≤ length (pages_of (level ∷ more))
+grows layout pages level [] joined =
+    let count = length-map level (λ (node : TreeNode). node.page) in
+    let end = length-append (map (λ (node : TreeNode). node.page) level) [] in
     omega arith
-grows form pages level (lower ∷ more) joined =
-    let below = grows form pages lower more joined.2 in
-    let double = twice form pages level joined.0 in
-    let names : length (rows_of level) ≡ length lower = ap length joined.1 ∙ length-map lower (row_of form) in
-    let count = length-append (map (λ (part : Part). part.page) level) (pages_of (lower ∷ more)) in
-    grown (2 ^ length more) (length level) (length lower) (length (pages_of (lower ∷ more))) (length (pages_of (level ∷ lower ∷ more))) (2 ^ suc (length more)) (pow-suc 2 (length more)) below (omega arith) (omega arith)
+grows layout pages level (lower ∷ more) joined =
+    let below = grows layout pages lower more joined.2 in
+    let double = twice layout pages level joined.0 in
+    let names : length (rows_of level) ≡ length lower = ap length joined.1 ∙ length-map lower (row_of layout) in
+    let count = length-append (map (λ (node : TreeNode). node.page) level) (pages_of (lower ∷ more)) in
+    split (2 ^ length more) (length level) (length lower) (length (pages_of (lower ∷ more))) (length (pages_of (level ∷ lower ∷ more))) (2 ^ suc (length more)) (pow-suc 2 (length more)) below (omega arith) (omega arith)
 
 few_levels_from : (count n : ℕ) → 2 ^ count ≤ n - 1 → n ≤ 2 ^ 20 → count ≤ 19
 few_levels_from count n low high =
     elim (cases_lt 19 count) [ inl more ↦ absurd (let above : 2 ^ 20 ≤ 2 ^ count = pow_mono {i = 20} {j = count} (omega arith) in omega arith) | inr less ↦ omega arith ]
 
-pub few_levels : (form : TreeForm) (pages : List (Option Sector)) (root : ℕ) (levels : List (List Part)) → length pages ≤ 2 ^ 20 → IsTree form pages root levels → length levels ≤ 20
-few_levels form pages root [] small tree = omega arith
-few_levels form pages root (top ∷ more) small tree =
+pub few_levels : (layout : RowLayout) (pages : List (Option Sector)) (root : ℕ) (levels : List (List TreeNode)) → length pages ≤ 2 ^ 20 → IsTree layout pages root levels → length levels ≤ 20
+few_levels layout pages root [] small tree = omega arith
+few_levels layout pages root (top ∷ more) small tree =
     let one : length top ≡ 1 = ap length tree.top.1 in
-    let many = grows form pages top more tree.joined in
+    let many = grows layout pages top more tree.joined in
     let below : length (pages_of (top ∷ more)) ≤ length pages - 1 = few_numbers_above (length pages) (pages_of (top ∷ more)) tree.once tree.numbers in
     let low : 2 ^ length more * 1 ≤ length pages - 1 = subst (λ (n : ℕ). 2 ^ length more * n ≤ length pages - 1) one (omega arith) in
     let few = few_levels_from (length more) (length pages) (omega arith) small in
     omega arith
 
-pub few_levels_held : (form : TreeForm) (pages : List (Option Sector)) (root : ℕ) (levels : List (List Part)) → length pages ≤ 2 ^ 20 → Holds form pages root levels → length levels ≤ 20
-few_levels_held form pages root levels small (inl none) = let count : length levels ≡ 0 = ap length none.1 in omega arith
-few_levels_held form pages root levels small (inr tree) = few_levels form pages root levels small tree.1
+pub few_levels_held : (layout : RowLayout) (pages : List (Option Sector)) (root : ℕ) (levels : List (List TreeNode)) → length pages ≤ 2 ^ 20 → Holds layout pages root levels → length levels ≤ 20
+few_levels_held layout pages root levels small (inl none) = let count : length levels ≡ 0 = ap length none.1 in omega arith
+few_levels_held layout pages root levels small (inr tree) = few_levels layout pages root levels small tree.1

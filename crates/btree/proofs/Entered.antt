@@ -6,71 +6,71 @@ use Rattle.std.specs.declared.cmp.Ordering.{Ordering}
 use Rattle.std.proofs.lemmas.Cmp.{tied_itself}
 use Rattle.std.proofs.lemmas.List.{map-append}
 use Rattle.std.proofs.lemmas.List.Elements.{All-append, All-head, All-tail, All-cons, All-nil}
-use Rattle.tree_pages.specs.declared.form.TreeForm.{TreeForm}
+use Rattle.tree_pages.specs.declared.row_layout.RowLayout.{RowLayout}
 use Rattle.tree_pages.specs.Keys.{key_cmp, key_of, keys_of, Precedes, Ascend, AllBelow, AllAbove}
-use Rattle.btree.specs.Tree.{Part, rows_of}
+use Rattle.btree.specs.Tree.{TreeNode, rows_of}
 use Rattle.btree.specs.Path.{Spot, IsSide}
 use Rattle.btree.specs.Entries.{entry_of, with_entry, with_value, without}
 use Rattle.btree.proofs.Order.{key_order, greater_is, all_left, all_right, Up, up_cons, up_head, up_tail, all_below_first, all_below_weaker}
 
-pub entry_comes : (form : TreeForm) (left right : List (List ℕ)) (row : List ℕ) → AllBelow form (key_of form row) left → AllAbove form (key_of form row) right
-    → map (entry_of form) (left ++ row ∷ right) ≡ with_entry (map (entry_of form) (left ++ right)) (entry_of form row)
-entry_comes form [] [] row below above = refl
-entry_comes form [] (r ∷ right) row below above =
-    sym (ap (λ (o : Ordering). if is_lt o then entry_of form r ∷ with_entry (map (entry_of form) right) (entry_of form row) else entry_of form row ∷ entry_of form r ∷ map (entry_of form) right)
-    (greater_is (key_of form r) (key_of form row) (All-head (λ x. Precedes (key_of form row) (key_of form x)) r right above)))
-entry_comes form (l ∷ left) right row below above =
-    ap (λ x. entry_of form l ∷ x) (entry_comes form left right row (All-tail (λ x. Precedes (key_of form x) (key_of form row)) l left below) above)
-    ∙ sym (ap (λ (o : Ordering). if is_lt o then entry_of form l ∷ with_entry (map (entry_of form) (left ++ right)) (entry_of form row) else entry_of form row ∷ entry_of form l ∷ map (entry_of form) (left ++ right))
-    (All-head (λ x. Precedes (key_of form x) (key_of form row)) l left below))
+pub entry_comes : (layout : RowLayout) (left right : List (List ℕ)) (row : List ℕ) → AllBelow layout (key_of layout row) left → AllAbove layout (key_of layout row) right
+    → map (entry_of layout) (left ++ row ∷ right) ≡ with_entry (map (entry_of layout) (left ++ right)) (entry_of layout row)
+entry_comes layout [] [] row below above = refl
+entry_comes layout [] (r ∷ right) row below above =
+    sym (ap (λ (o : Ordering). if is_lt o then entry_of layout r ∷ with_entry (map (entry_of layout) right) (entry_of layout row) else entry_of layout row ∷ entry_of layout r ∷ map (entry_of layout) right)
+    (greater_is (key_of layout r) (key_of layout row) (All-head (λ x. Precedes (key_of layout row) (key_of layout x)) r right above)))
+entry_comes layout (l ∷ left) right row below above =
+    ap (λ x. entry_of layout l ∷ x) (entry_comes layout left right row (All-tail (λ x. Precedes (key_of layout x) (key_of layout row)) l left below) above)
+    ∙ sym (ap (λ (o : Ordering). if is_lt o then entry_of layout l ∷ with_entry (map (entry_of layout) (left ++ right)) (entry_of layout row) else entry_of layout row ∷ entry_of layout l ∷ map (entry_of layout) (left ++ right))
+    (All-head (λ x. Precedes (key_of layout x) (key_of layout row)) l left below))
 
-pub entry_goes : (form : TreeForm) (left right : List (List ℕ)) (row : List ℕ) → AllBelow form (key_of form row) left
-    → map (entry_of form) (left ++ right) ≡ without (map (entry_of form) (left ++ row ∷ right)) (key_of form row)
-entry_goes form [] right row below =
-    sym (ap (λ (o : Ordering). if is_eq o then map (entry_of form) right else entry_of form row ∷ without (map (entry_of form) right) (key_of form row)) (tied_itself key_order (key_of form row)))
-entry_goes form (l ∷ left) right row below =
-    ap (λ x. entry_of form l ∷ x) (entry_goes form left right row (All-tail (λ x. Precedes (key_of form x) (key_of form row)) l left below))
-    ∙ sym (ap (λ (o : Ordering). if is_eq o then map (entry_of form) (left ++ row ∷ right) else entry_of form l ∷ without (map (entry_of form) (left ++ row ∷ right)) (key_of form row))
-    (All-head (λ x. Precedes (key_of form x) (key_of form row)) l left below))
+pub entry_goes : (layout : RowLayout) (left right : List (List ℕ)) (row : List ℕ) → AllBelow layout (key_of layout row) left
+    → map (entry_of layout) (left ++ right) ≡ without (map (entry_of layout) (left ++ row ∷ right)) (key_of layout row)
+entry_goes layout [] right row below =
+    sym (ap (λ (o : Ordering). if is_eq o then map (entry_of layout) right else entry_of layout row ∷ without (map (entry_of layout) right) (key_of layout row)) (tied_itself key_order (key_of layout row)))
+entry_goes layout (l ∷ left) right row below =
+    ap (λ x. entry_of layout l ∷ x) (entry_goes layout left right row (All-tail (λ x. Precedes (key_of layout x) (key_of layout row)) l left below))
+    ∙ sym (ap (λ (o : Ordering). if is_eq o then map (entry_of layout) (left ++ row ∷ right) else entry_of layout l ∷ without (map (entry_of layout) (left ++ row ∷ right)) (key_of layout row))
+    (All-head (λ x. Precedes (key_of layout x) (key_of layout row)) l left below))
 
-pub entry_changes : (form : TreeForm) (left right : List (List ℕ)) (row new : List ℕ) → key_of form row ≡ key_of form new → AllBelow form (key_of form new) left
-    → map (entry_of form) (left ++ new ∷ right) ≡ with_value (map (entry_of form) (left ++ row ∷ right)) (entry_of form new)
-entry_changes form [] right row new same below =
-    sym (ap (λ (o : Ordering). if is_eq o then entry_of form new ∷ map (entry_of form) right else entry_of form row ∷ with_value (map (entry_of form) right) (entry_of form new))
-    (ap (λ k. key_cmp k (key_of form new)) same ∙ tied_itself key_order (key_of form new)))
-entry_changes form (l ∷ left) right row new same below =
-    ap (λ x. entry_of form l ∷ x) (entry_changes form left right row new same (All-tail (λ x. Precedes (key_of form x) (key_of form new)) l left below))
-    ∙ sym (ap (λ (o : Ordering). if is_eq o then entry_of form new ∷ map (entry_of form) (left ++ row ∷ right) else entry_of form l ∷ with_value (map (entry_of form) (left ++ row ∷ right)) (entry_of form new))
-    (All-head (λ x. Precedes (key_of form x) (key_of form new)) l left below))
+pub entry_changes : (layout : RowLayout) (left right : List (List ℕ)) (row new : List ℕ) → key_of layout row ≡ key_of layout new → AllBelow layout (key_of layout new) left
+    → map (entry_of layout) (left ++ new ∷ right) ≡ with_value (map (entry_of layout) (left ++ row ∷ right)) (entry_of layout new)
+entry_changes layout [] right row new same below =
+    sym (ap (λ (o : Ordering). if is_eq o then entry_of layout new ∷ map (entry_of layout) right else entry_of layout row ∷ with_value (map (entry_of layout) right) (entry_of layout new))
+    (ap (λ k. key_cmp k (key_of layout new)) same ∙ tied_itself key_order (key_of layout new)))
+entry_changes layout (l ∷ left) right row new same below =
+    ap (λ x. entry_of layout l ∷ x) (entry_changes layout left right row new same (All-tail (λ x. Precedes (key_of layout x) (key_of layout new)) l left below))
+    ∙ sym (ap (λ (o : Ordering). if is_eq o then entry_of layout new ∷ map (entry_of layout) (left ++ row ∷ right) else entry_of layout l ∷ with_value (map (entry_of layout) (left ++ row ∷ right)) (entry_of layout new))
+    (All-head (λ x. Precedes (key_of layout x) (key_of layout new)) l left below))
 
-pub up_comes : (form : TreeForm) (left right : List (List ℕ)) (row : List ℕ) → AllBelow form (key_of form row) left → AllAbove form (key_of form row) right → Up form (left ++ right) → Up form (left ++ row ∷ right)
-up_comes form [] right row below above up = up_cons form row right above up
-up_comes form (l ∷ left) right row below above up =
-    let higher = up_head form l (left ++ right) up in
-    up_cons form l (left ++ row ∷ right)
-    (All-append (λ x. Precedes (key_of form l) (key_of form x)) left (row ∷ right) (all_left (λ x. Precedes (key_of form l) (key_of form x)) left right higher)
-    (All-cons (λ x. Precedes (key_of form l) (key_of form x)) row right (All-head (λ x. Precedes (key_of form x) (key_of form row)) l left below) (all_right (λ x. Precedes (key_of form l) (key_of form x)) left right higher)))
-    (up_comes form left right row (All-tail (λ x. Precedes (key_of form x) (key_of form row)) l left below) above (up_tail form l (left ++ right) up))
+pub up_comes : (layout : RowLayout) (left right : List (List ℕ)) (row : List ℕ) → AllBelow layout (key_of layout row) left → AllAbove layout (key_of layout row) right → Up layout (left ++ right) → Up layout (left ++ row ∷ right)
+up_comes layout [] right row below above up = up_cons layout row right above up
+up_comes layout (l ∷ left) right row below above up =
+    let higher = up_head layout l (left ++ right) up in
+    up_cons layout l (left ++ row ∷ right)
+    (All-append (λ x. Precedes (key_of layout l) (key_of layout x)) left (row ∷ right) (all_left (λ x. Precedes (key_of layout l) (key_of layout x)) left right higher)
+    (All-cons (λ x. Precedes (key_of layout l) (key_of layout x)) row right (All-head (λ x. Precedes (key_of layout x) (key_of layout row)) l left below) (all_right (λ x. Precedes (key_of layout l) (key_of layout x)) left right higher)))
+    (up_comes layout left right row (All-tail (λ x. Precedes (key_of layout x) (key_of layout row)) l left below) above (up_tail layout l (left ++ right) up))
 
-pub up_goes : (form : TreeForm) (left right : List (List ℕ)) (row : List ℕ) → Up form (left ++ row ∷ right) → Up form (left ++ right)
-up_goes form [] right row up = up_tail form row right up
-up_goes form (l ∷ left) right row up =
-    let higher = up_head form l (left ++ row ∷ right) up in
-    up_cons form l (left ++ right)
-    (All-append (λ x. Precedes (key_of form l) (key_of form x)) left right (all_left (λ x. Precedes (key_of form l) (key_of form x)) left (row ∷ right) higher)
-    (All-tail (λ x. Precedes (key_of form l) (key_of form x)) row right (all_right (λ x. Precedes (key_of form l) (key_of form x)) left (row ∷ right) higher)))
-    (up_goes form left right row (up_tail form l (left ++ row ∷ right) up))
+pub up_goes : (layout : RowLayout) (left right : List (List ℕ)) (row : List ℕ) → Up layout (left ++ row ∷ right) → Up layout (left ++ right)
+up_goes layout [] right row up = up_tail layout row right up
+up_goes layout (l ∷ left) right row up =
+    let higher = up_head layout l (left ++ row ∷ right) up in
+    up_cons layout l (left ++ right)
+    (All-append (λ x. Precedes (key_of layout l) (key_of layout x)) left right (all_left (λ x. Precedes (key_of layout l) (key_of layout x)) left (row ∷ right) higher)
+    (All-tail (λ x. Precedes (key_of layout l) (key_of layout x)) row right (all_right (λ x. Precedes (key_of layout l) (key_of layout x)) left (row ∷ right) higher)))
+    (up_goes layout left right row (up_tail layout l (left ++ row ∷ right) up))
 
-pub up_changes : (form : TreeForm) (left right : List (List ℕ)) (row new : List ℕ) → key_of form row ≡ key_of form new → Up form (left ++ row ∷ right) → Up form (left ++ new ∷ right)
-up_changes form left right row new same up =
-    subst Ascend (map-append (key_of form) left (row ∷ right) ∙ ap (λ k. keys_of form left ++ k ∷ keys_of form right) same ∙ sym (map-append (key_of form) left (new ∷ right))) up
+pub up_changes : (layout : RowLayout) (left right : List (List ℕ)) (row new : List ℕ) → key_of layout row ≡ key_of layout new → Up layout (left ++ row ∷ right) → Up layout (left ++ new ∷ right)
+up_changes layout left right row new same up =
+    subst Ascend (map-append (key_of layout) left (row ∷ right) ∙ ap (λ k. keys_of layout left ++ k ∷ keys_of layout right) same ∙ sym (map-append (key_of layout) left (new ∷ right))) up
 
 -- All rows to the left of a leaf are below a key that belongs there.
-pub left_below : (form : TreeForm) (key : List ℕ) (spot : Spot) (row : List ℕ) (rows : List (List ℕ)) → IsSide form key spot → spot.part.rows ≡ row ∷ rows → Up form (rows_of spot.before ++ (spot.part.rows ++ rows_of spot.after)) → AllBelow form key (rows_of spot.before)
-left_below form key spot row rows side some up =
+pub left_below : (layout : RowLayout) (key : List ℕ) (spot : Spot) (row : List ℕ) (rows : List (List ℕ)) → IsSide layout key spot → spot.node.rows ≡ row ∷ rows → Up layout (rows_of spot.before ++ (spot.node.rows ++ rows_of spot.after)) → AllBelow layout key (rows_of spot.before)
+left_below layout key spot row rows side some up =
     ⊎_elim
-    (λ none. subst (λ (parts : List Part). AllBelow form key (rows_of parts)) (sym none) (All-nil (λ r. Precedes (key_of form r) key)))
-    (λ not_above. all_below_weaker form (key_of form row) key (rows_of spot.before)
-    (λ above. not_above (subst (λ (x : List (List ℕ)). Precedes key (key_of form (slice_index_or x 0 []))) (sym some) above))
-    (all_below_first form (rows_of spot.before) row (rows ++ rows_of spot.after) (subst (λ x. Up form (rows_of spot.before ++ (x ++ rows_of spot.after))) some up)))
+    (λ none. subst (λ (nodes : List TreeNode). AllBelow layout key (rows_of nodes)) (sym none) (All-nil (λ r. Precedes (key_of layout r) key)))
+    (λ not_above. all_below_weaker layout (key_of layout row) key (rows_of spot.before)
+    (λ above. not_above (subst (λ (x : List (List ℕ)). Precedes key (key_of layout (slice_index_or x 0 []))) (sym some) above))
+    (all_below_first layout (rows_of spot.before) row (rows ++ rows_of spot.after) (subst (λ x. Up layout (rows_of spot.before ++ (x ++ rows_of spot.after))) some up)))
     side.before

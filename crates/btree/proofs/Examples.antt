@@ -6,19 +6,19 @@ use Rattle.std.specs.List.Sorted.{IsStrictlySortedBy}
 use Rattle.std.proofs.lemmas.List.Elements.{All-cons, All-nil}
 use Rattle.std.proofs.lemmas.List.Kept.{AllPairs-cons}
 use Rattle.station.specs.Disk.{Sector}
-use Rattle.tree_pages.specs.declared.form.TreeForm.{TreeForm}
-use Rattle.tree_pages.specs.declared.form.Kind.TheVariants.{Leaf, Inner}
-use Rattle.tree_pages.specs.Form.{row_length}
+use Rattle.tree_pages.specs.declared.row_layout.RowLayout.{RowLayout}
+use Rattle.tree_pages.specs.declared.row_layout.Kind.TheVariants.{Leaf, Inner}
+use Rattle.tree_pages.specs.RowLayouts.{row_length}
 use Rattle.tree_pages.specs.Keys.{Ascend, keys_of}
 use Rattle.btree.specs.Entries.{Entry, entries_of, entry_with, first_after, first_from, with_entry, with_value, without}
 use Rattle.btree.specs.Path.{right_key}
-use Rattle.btree.specs.Tree.{HasTop, Holds, IsTree, Joined, Part, Stands, node_of, pages_of, row_of, rows_in_order}
+use Rattle.btree.specs.Tree.{HasTop, Holds, IsTree, Joined, TreeNode, Stands, node_of, pages_of, row_of, rows_in_order}
 use Rattle.btree.proofs.Runs.{in_none, pairs_from_once}
 use Rattle.btree.proofs.Descents.{along_stands, start}
-use Rattle.btree.proofs.Parts.{read_few, read_none}
+use Rattle.btree.proofs.TreeNodes.{read_few, read_none}
 
 -- keys of two bytes, values of one
-abbrev pairs : TreeForm
+abbrev pairs : RowLayout
 pairs = record { key_length = 2; value_length = 1 }
 
 abbrev entry : ℕ → ℕ → ℕ → Entry
@@ -32,20 +32,20 @@ page_with kind count rows = Some ((kind ∷ 0 ∷ 0 ∷ count ∷ 0 ∷ 0 ∷ 0 
 abbrev pages : List (Option Sector)
 pages = None ∷ page_with 1 2 (1 ∷ 1 ∷ 10 ∷ 1 ∷ 2 ∷ 20 ∷ []) ∷ page_with 1 1 (3 ∷ 0 ∷ 30 ∷ []) ∷ page_with 2 2 (1 ∷ 1 ∷ 0 ∷ 0 ∷ 0 ∷ 1 ∷ 3 ∷ 0 ∷ 0 ∷ 0 ∷ 0 ∷ 2 ∷ []) ∷ page_with 2 1 (3 ∷ 0 ∷ 0 ∷ 0 ∷ 0 ∷ 2 ∷ []) ∷ None ∷ []
 
-abbrev low : Part
+abbrev low : TreeNode
 low = record { page = 1; rows = (1 ∷ 1 ∷ 10 ∷ []) ∷ (1 ∷ 2 ∷ 20 ∷ []) ∷ [] }
 
-abbrev high : Part
+abbrev high : TreeNode
 high = record { page = 2; rows = (3 ∷ 0 ∷ 30 ∷ []) ∷ [] }
 
-abbrev top : Part
+abbrev top : TreeNode
 top = record { page = 3; rows = (1 ∷ 1 ∷ 0 ∷ 0 ∷ 0 ∷ 1 ∷ []) ∷ (3 ∷ 0 ∷ 0 ∷ 0 ∷ 0 ∷ 2 ∷ []) ∷ [] }
 
 -- a tree of one leaf, and one of two levels
-abbrev leaf : List (List Part)
+abbrev leaf : List (List TreeNode)
 leaf = (low ∷ []) ∷ []
 
-abbrev two : List (List Part)
+abbrev two : List (List TreeNode)
 two = (top ∷ []) ∷ (low ∷ high ∷ []) ∷ []
 
 -- the entries of the second one
@@ -106,7 +106,7 @@ first_goes = refl
 none_goes : without three (1 ∷ 3 ∷ []) ≡ three
 none_goes = refl
 
-first_of_the_right_leaf : right_key pairs (record { before = []; part = low; after = high ∷ [] }) ≡ Some (3 ∷ 0 ∷ [])
+first_of_the_right_leaf : right_key pairs (record { before = []; node = low; after = high ∷ [] }) ≡ Some (3 ∷ 0 ∷ [])
 first_of_the_right_leaf = refl
 
 -- Both are trees.
@@ -166,15 +166,15 @@ none_is_held = inl (refl, refl)
 few : length pages ≤ 2 ^ 20
 few = lit≤ tt
 
-one_child : (levels : List (List Part)) → IsTree pairs pages 4 levels → ⊥
+one_child : (levels : List (List TreeNode)) → IsTree pairs pages 4 levels → ⊥
 one_child levels tree =
     let root = along_stands pairs pages levels [] [] 4 None (start pairs pages 4 levels [] few tree) in
-    read_few pairs pages 4 (node_of pairs Inner (row_of pairs high ∷ [])) root.kind root.part refl (lit< tt) root.same root.stands
+    read_few pairs pages 4 (node_of pairs Inner (row_of pairs high ∷ [])) root.kind root.node refl (lit< tt) root.same root.stands
 
-no_page : (levels : List (List Part)) → IsTree pairs pages 5 levels → ⊥
+no_page : (levels : List (List TreeNode)) → IsTree pairs pages 5 levels → ⊥
 no_page levels tree =
     let root = along_stands pairs pages levels [] [] 5 None (start pairs pages 5 levels [] few tree) in
-    read_none pairs pages 5 None root.kind root.part refl refl root.same root.stands
+    read_none pairs pages 5 None root.kind root.node refl refl root.same root.stands
 
 -- two leaves with no page above them, and a page that names a leaf which the level below it hasn't
 no_top : (root : ℕ) → HasTop root ((low ∷ high ∷ []) ∷ []) → ⊥

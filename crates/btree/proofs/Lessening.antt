@@ -5,33 +5,33 @@ use Rattle.std.proofs.lemmas.Bool.{ltb-true}
 use Rattle.std.proofs.lemmas.List.Elements.{All-nil}
 use Rattle.byteorder.specs.Endian.{big_bytes}
 use Rattle.station.specs.Disk.{Sector}
-use Rattle.tree_pages.specs.declared.form.TreeForm.{TreeForm}
-use Rattle.tree_pages.specs.declared.form.Kind.{Kind}
-use Rattle.tree_pages.specs.declared.form.Kind.TheVariants.{Leaf, Inner}
+use Rattle.tree_pages.specs.declared.row_layout.RowLayout.{RowLayout}
+use Rattle.tree_pages.specs.declared.row_layout.Kind.{Kind}
+use Rattle.tree_pages.specs.declared.row_layout.Kind.TheVariants.{Leaf, Inner}
 use Rattle.tree_pages.specs.Keys.{key_of, rest_of}
 use Rattle.tree_pages.specs.Node.{Node}
 use Rattle.tree_pages.specs.Edits.{removed, with_key, with_rows}
-use Rattle.btree.specs.declared.fate.Fate.{Fate}
-use Rattle.btree.specs.declared.fate.Child.{Child}
+use Rattle.btree.specs.declared.removal_outcome.RemovalOutcome.{RemovalOutcome}
+use Rattle.btree.specs.declared.removal_outcome.Child.{Child}
 use Rattle.btree.specs.Tree.{least, row_of, fewest, Stands}
 use Rattle.btree.specs.Moves.{Replaced}
-use Rattle.btree.specs.Rises.{part_of}
+use Rattle.btree.specs.Propagates.{node_with}
 use Rattle.btree.specs.Changes.{IsIn}
-use Rattle.btree.specs.Fates.{Fares}
+use Rattle.btree.specs.Outcomes.{Fares}
 use Rattle.btree.specs.Fills.{IsShort}
 use Rattle.btree.proofs.Runs.{in_none, in_cases, in_head}
 use Rattle.btree.proofs.Writes.{is_low}
-use Rattle.btree.proofs.Lifting.{named_row, first_same}
+use Rattle.btree.proofs.ParentUpdates.{named_row, first_same}
 
 -- a page in the map has a number that the map has room for
 pub has_room : (pages : List (Option Sector)) (count page : ℕ) → length pages ≡ count → 0 < page → IsIn pages page → (0 < page) × (page < count)
 has_room pages count page is some is_in = (some, omega (arith, is_low pages page is_in, is))
 
 -- a page that leaves the map
-pub write_none : (form : TreeForm) (kind : Kind) (pages after : List (Option Sector)) (page : ℕ) (old : List (List ℕ)) → after ≡ set pages page None → page < length pages
-    → Replaced form kind pages (part_of page old ∷ []) after []
-write_none form kind pages after page old is low = record {
-  stand = All-nil (Stands form after kind);
+pub write_none : (layout : RowLayout) (kind : Kind) (pages after : List (Option Sector)) (page : ℕ) (old : List (List ℕ)) → after ≡ set pages page None → page < length pages
+    → Replaced layout kind pages (node_with page old ∷ []) after []
+write_none layout kind pages after page old is low = record {
+  stand = All-nil (Stands layout after kind);
   once = tt;
   moves = record {
     count = ap length is ∙ length-set pages page None;
@@ -45,32 +45,32 @@ write_none form kind pages after page old is low = record {
 }
 
 -- some rows that aren't too few are enough
-pub enough_left : (form : TreeForm) (kind : Kind) (count : ℕ) → count ≢ 0 → (IsShort form kind count → ⊥) → fewest kind ≤ count
-enough_left form Leaf count some more = omega (arith, some)
-enough_left form Inner count some more = omega (arith, more)
+pub enough_left : (layout : RowLayout) (kind : Kind) (count : ℕ) → count ≢ 0 → (IsShort layout kind count → ⊥) → fewest kind ≤ count
+enough_left layout Leaf count some more = omega (arith, some)
+enough_left layout Inner count some more = omega (arith, more)
 
 -- A node's rows became others from a place on. What became of its page, to which it is told whether a row stands before that place.
-pub front_fares : (before after : List (Option Sector)) (page place : ℕ) (node new : Node) (more : List (List ℕ)) (kind : Kind) (fate : Fate) → new ≡ with_rows node (take place node.rows ++ more)
+pub front_fares : (before after : List (Option Sector)) (page place : ℕ) (node new : Node) (more : List (List ℕ)) (kind : Kind) (outcome : RemovalOutcome) → new ≡ with_rows node (take place node.rows ++ more)
     → node.kind ≡ kind → place < length node.rows
-    → ((nat_lt 0 place ≡ true → least new.form (part_of page new.rows) ≡ least new.form (part_of page node.rows)) → Fares new.form new.kind before after page node.rows new.rows fate)
-    → Fares node.form kind before after page node.rows (take place node.rows ++ more) fate
-front_fares before after page place node new more kind fate is kind_is low put =
+    → ((nat_lt 0 place ≡ true → least new.layout (node_with page new.rows) ≡ least new.layout (node_with page node.rows)) → Fares new.layout new.kind before after page node.rows new.rows outcome)
+    → Fares node.layout kind before after page node.rows (take place node.rows ++ more) outcome
+front_fares before after page place node new more kind outcome is kind_is low put =
     let rows = take place node.rows ++ more in
-    let same : nat_lt 0 place ≡ true → least new.form (part_of page new.rows) ≡ least new.form (part_of page node.rows) =
-    λ some. ap (λ (n : Node). key_of new.form (slice_index_or n.rows 0 [])) is ∙ ap (key_of new.form) (first_same place node.rows more (ltb-true 0 place some) low) in
-    subst (λ (k : Kind). Fares node.form k before after page node.rows rows fate) kind_is
-    (subst (λ (n : Node). Fares n.form n.kind before after page node.rows n.rows fate) is (put same))
+    let same : nat_lt 0 place ≡ true → least new.layout (node_with page new.rows) ≡ least new.layout (node_with page node.rows) =
+    λ some. ap (λ (n : Node). key_of new.layout (slice_index_or n.rows 0 [])) is ∙ ap (key_of new.layout) (first_same place node.rows more (ltb-true 0 place some) low) in
+    subst (λ (k : Kind). Fares node.layout k before after page node.rows rows outcome) kind_is
+    (subst (λ (n : Node). Fares n.layout n.kind before after page node.rows n.rows outcome) is (put same))
 
 pub removed_rows : (node new : Node) (place : ℕ) → new ≡ removed node place → new ≡ with_rows node (take place node.rows ++ drop (place + 1) node.rows)
 removed_rows node new place is = let next : suc place ≡ place + 1 = omega arith in is ∙ ap (λ (n : ℕ). with_rows node (take place node.rows ++ drop n node.rows)) next
 
 -- the row of a child got the child's least key
-pub renamed_rows : (node new : Node) (place : ℕ) (key : List ℕ) (child : Child) → new ≡ with_key node place key → place < length node.rows → child.node.form ≡ node.form
-    → key ≡ key_of child.node.form (slice_index_or child.node.rows 0 []) → rest_of node.form (slice_index_or node.rows place []) ≡ big_bytes 4 child.page
-    → new ≡ with_rows node (take place node.rows ++ (row_of node.form (part_of child.page child.node.rows) ∷ drop (place + 1) node.rows))
-renamed_rows node new place key child is low form_is key_is names =
-    is ∙ ap (λ (rows : List (List ℕ)). with_rows node rows) (named_row node.form node.rows place key child.page low names
-    ∙ ap (λ (k : List ℕ). take place node.rows ++ ((k ++ big_bytes 4 child.page) ∷ drop (place + 1) node.rows)) (key_is ∙ ap (λ (form : TreeForm). key_of form (slice_index_or child.node.rows 0 [])) form_is))
+pub renamed_rows : (node new : Node) (place : ℕ) (key : List ℕ) (child : Child) → new ≡ with_key node place key → place < length node.rows → child.node.layout ≡ node.layout
+    → key ≡ key_of child.node.layout (slice_index_or child.node.rows 0 []) → rest_of node.layout (slice_index_or node.rows place []) ≡ big_bytes 4 child.page
+    → new ≡ with_rows node (take place node.rows ++ (row_of node.layout (node_with child.page child.node.rows) ∷ drop (place + 1) node.rows))
+renamed_rows node new place key child is low layout_is key_is names =
+    is ∙ ap (λ (rows : List (List ℕ)). with_rows node rows) (named_row node.layout node.rows place key child.page low names
+    ∙ ap (λ (k : List ℕ). take place node.rows ++ ((k ++ big_bytes 4 child.page) ∷ drop (place + 1) node.rows)) (key_is ∙ ap (λ (layout : RowLayout). key_of layout (slice_index_or child.node.rows 0 [])) layout_is))
 
 pub true_or_false : {b : Bool} → b ≡ true → b ≡ false → ⊥
 true_or_false is other = cc

@@ -7,7 +7,7 @@ pub mod Found
 pub mod Descents
 pub mod Searches
 pub mod Firsts
-pub mod Parts
+pub mod TreeNodes
 pub mod Frames
 pub mod Keyed
 pub mod Runs
@@ -15,12 +15,12 @@ pub mod Shifts
 pub mod Splices
 pub mod Steps
 pub mod Entered
-pub mod Rising
-pub mod Crowns
+pub mod Propagating
+pub mod NewRoots
 pub mod Writes
-pub mod Dividing
-pub mod Touched
-pub mod Lifting
+pub mod SplitNodes
+pub mod ChangedPages
+pub mod ParentUpdates
 pub mod Upward
 pub mod Settling
 pub mod Inserting
@@ -39,9 +39,6 @@ pub mod Rebalanced
 pub mod Downward
 pub mod Collapsing
 pub mod Removing
-pub mod Marking
-pub mod Walking
-pub mod Checking
 pub mod Clearing
 pub mod Stays
 pub mod There

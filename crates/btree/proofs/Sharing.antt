@@ -5,17 +5,17 @@ use Rattle.std.specs.List.{All}
 use Rattle.std.proofs.lemmas.List.{take-append-drop}
 use Rattle.std.proofs.lemmas.List.Elements.{All-nil, All-cons}
 use Rattle.station.specs.Disk.{Sector}
-use Rattle.tree_pages.specs.declared.form.TreeForm.{TreeForm}
-use Rattle.tree_pages.specs.declared.form.Kind.{Kind}
-use Rattle.tree_pages.specs.declared.form.Kind.TheVariants.{Leaf, Inner}
-use Rattle.tree_pages.specs.Form.{row_length, capacity}
+use Rattle.tree_pages.specs.declared.row_layout.RowLayout.{RowLayout}
+use Rattle.tree_pages.specs.declared.row_layout.Kind.{Kind}
+use Rattle.tree_pages.specs.declared.row_layout.Kind.TheVariants.{Leaf, Inner}
+use Rattle.tree_pages.specs.RowLayouts.{row_length, capacity}
 use Rattle.tree_pages.specs.Node.{Node, IsNode, node_in}
 use Rattle.tree_pages.specs.Edits.{with_rows}
-use Rattle.btree.specs.Tree.{Part, node_of, fewest, Stands}
+use Rattle.btree.specs.Tree.{TreeNode, node_of, fewest, Stands}
 use Rattle.btree.specs.Moves.{Replaced}
-use Rattle.btree.specs.Rises.{part_of}
+use Rattle.btree.specs.Propagates.{node_with}
 use Rattle.btree.specs.Changes.{IsIn}
-use Rattle.btree.specs.Fates.{AreTwo}
+use Rattle.btree.specs.Outcomes.{AreTwo}
 use Rattle.btree.specs.Fills.{IsEven}
 use Rattle.btree.proofs.Runs.{in_none, in_cases, in_head, in_tail}
 use Rattle.btree.proofs.Writes.{Spells, stands_on, spells_node, is_low}
@@ -47,10 +47,10 @@ count_same : (pages after : List (Option Sector)) (left right : ℕ) (one : List
 count_same pages after left right one two changed = ap length changed.is ∙ length-set (set pages left (Some one)) right two ∙ length-set pages left (Some one)
 
 -- the left page has the rows of both
-pub write_joined : (form : TreeForm) (kind : Kind) (pages after : List (Option Sector)) (left right : ℕ) (bytes : List ℕ) (old other rows : List (List ℕ)) → Changed pages after left right bytes None → Spells form kind bytes rows
-    → Replaced form kind pages (part_of left old ∷ part_of right other ∷ []) after (part_of left rows ∷ [])
-write_joined form kind pages after left right bytes old other rows changed spells = record {
-  stand = All-cons (Stands form after kind) (part_of left rows) [] (stands_on form kind after left bytes rows (at_left pages after left right bytes None changed) spells) (All-nil (Stands form after kind));
+pub write_joined : (layout : RowLayout) (kind : Kind) (pages after : List (Option Sector)) (left right : ℕ) (bytes : List ℕ) (old other rows : List (List ℕ)) → Changed pages after left right bytes None → Spells layout kind bytes rows
+    → Replaced layout kind pages (node_with left old ∷ node_with right other ∷ []) after (node_with left rows ∷ [])
+write_joined layout kind pages after left right bytes old other rows changed spells = record {
+  stand = All-cons (Stands layout after kind) (node_with left rows) [] (stands_on layout kind after left bytes rows (at_left pages after left right bytes None changed) spells) (All-nil (Stands layout after kind));
   once = ((λ has. in_none left has), tt);
   moves = record {
     count = count_same pages after left right bytes None changed;
@@ -64,13 +64,13 @@ write_joined form kind pages after left right bytes old other rows changed spell
 }
 
 -- both pages have rows of both
-pub write_shared : (form : TreeForm) (kind : Kind) (pages after : List (Option Sector)) (left right : ℕ) (one two : List ℕ) (old other left_rows right_rows : List (List ℕ)) → Changed pages after left right one (Some two)
-    → Spells form kind one left_rows → Spells form kind two right_rows
-    → Replaced form kind pages (part_of left old ∷ part_of right other ∷ []) after (part_of left left_rows ∷ part_of right right_rows ∷ [])
-write_shared form kind pages after left right one two old other left_rows right_rows changed left_spells right_spells = record {
-  stand = All-cons (Stands form after kind) (part_of left left_rows) (part_of right right_rows ∷ [])
-      (stands_on form kind after left one left_rows (at_left pages after left right one (Some two) changed) left_spells)
-      (All-cons (Stands form after kind) (part_of right right_rows) [] (stands_on form kind after right two right_rows (at_right pages after left right one (Some two) changed) right_spells) (All-nil (Stands form after kind)));
+pub write_shared : (layout : RowLayout) (kind : Kind) (pages after : List (Option Sector)) (left right : ℕ) (one two : List ℕ) (old other left_rows right_rows : List (List ℕ)) → Changed pages after left right one (Some two)
+    → Spells layout kind one left_rows → Spells layout kind two right_rows
+    → Replaced layout kind pages (node_with left old ∷ node_with right other ∷ []) after (node_with left left_rows ∷ node_with right right_rows ∷ [])
+write_shared layout kind pages after left right one two old other left_rows right_rows changed left_spells right_spells = record {
+  stand = All-cons (Stands layout after kind) (node_with left left_rows) (node_with right right_rows ∷ [])
+      (stands_on layout kind after left one left_rows (at_left pages after left right one (Some two) changed) left_spells)
+      (All-cons (Stands layout after kind) (node_with right right_rows) [] (stands_on layout kind after right two right_rows (at_right pages after left right one (Some two) changed) right_spells) (All-nil (Stands layout after kind)));
   once = ((λ has. ⊎_elim (λ same. changed.both.apart same) (λ past. in_none left past) (in_cases right [] left has)), ((λ has. in_none right has), tt));
   moves = record {
     count = count_same pages after left right one (Some two) changed;
@@ -81,16 +81,16 @@ write_shared form kind pages after left right one two old other left_rows right_
 }
 
 -- a page apart from the two is in the map as before
-pub still_in : (form : TreeForm) (kind : Kind) (pages after : List (Option Sector)) (left right : Part) (run : List Part) (page : ℕ) → Replaced form kind pages (left ∷ right ∷ []) after run
+pub still_in : (layout : RowLayout) (kind : Kind) (pages after : List (Option Sector)) (left right : TreeNode) (run : List TreeNode) (page : ℕ) → Replaced layout kind pages (left ∷ right ∷ []) after run
     → left.page ≢ page → right.page ≢ page → IsIn pages page → IsIn after page
-still_in form kind pages after left right run page replaced left_apart right_apart is_in =
+still_in layout kind pages after left right run page replaced left_apart right_apart is_in =
     let out : Contains (left.page ∷ right.page ∷ []) page → ⊥ = λ has. ⊎_elim (λ same. left_apart (sym same)) (λ rest. ⊎_elim (λ same. right_apart (sym same)) (λ past. in_none page past) (in_cases right.page [] page rest)) (in_cases left.page (right.page ∷ []) page has) in
     λ none. is_in (sym (replaced.moves.others page out (λ has. ⊎_elim out (λ new. is_in new.1) (replaced.moves.joins page has))) ∙ none)
 
 -- the rows of a node have their lengths
-pub kind_lengths : (form : TreeForm) (kind : Kind) (node : Node) → node.form ≡ form → node.kind ≡ kind → IsNode node → All (λ row. length row ≡ row_length form kind) node.rows
-kind_lengths form kind node form_is kind_is is =
-    subst (λ (f : TreeForm). All (λ row. length row ≡ row_length f kind) node.rows) form_is (subst (λ (k : Kind). All (λ row. length row ≡ row_length node.form k) node.rows) kind_is is.lengths)
+pub kind_lengths : (layout : RowLayout) (kind : Kind) (node : Node) → node.layout ≡ layout → node.kind ≡ kind → IsNode node → All (λ row. length row ≡ row_length layout kind) node.rows
+kind_lengths layout kind node layout_is kind_is is =
+    subst (λ (f : RowLayout). All (λ row. length row ≡ row_length f kind) node.rows) layout_is (subst (λ (k : Kind). All (λ row. length row ≡ row_length node.layout k) node.rows) kind_is is.lengths)
 
 -- two rows are enough
 two_enough : (kind : Kind) (count : ℕ) → 2 ≤ count → fewest kind ≤ count
@@ -98,19 +98,19 @@ two_enough Leaf count two = omega (arith, two)
 two_enough Inner count two = two
 
 -- these bytes spell a node with two rows at least
-pub spells_two : (form : TreeForm) (kind : Kind) (node : Node) (bytes : List ℕ) → node.form ≡ form → node.kind ≡ kind → IsNode node → 2 ≤ length node.rows → node_in node.form bytes ≡ Some node → Spells form kind bytes node.rows
-spells_two form kind node bytes form_is kind_is is two spelled =
-    spells_node (node_of form kind []) node bytes (record { form = form_is; kind = kind_is }) spelled (kind_lengths form kind node form_is kind_is is) (two_enough kind (length node.rows) two)
+pub spells_two : (layout : RowLayout) (kind : Kind) (node : Node) (bytes : List ℕ) → node.layout ≡ layout → node.kind ≡ kind → IsNode node → 2 ≤ length node.rows → node_in node.layout bytes ≡ Some node → Spells layout kind bytes node.rows
+spells_two layout kind node bytes layout_is kind_is is two spelled =
+    spells_node (node_of layout kind []) node bytes (record { layout = layout_is; kind = kind_is }) spelled (kind_lengths layout kind node layout_is kind_is is) (two_enough kind (length node.rows) two)
 
 -- these spell a leaf with a row at least
-pub spells_some : (node : Node) (bytes : List ℕ) → node.kind ≡ Leaf → IsNode node → 0 < length node.rows → node_in node.form bytes ≡ Some node → Spells node.form Leaf bytes node.rows
+pub spells_some : (node : Node) (bytes : List ℕ) → node.kind ≡ Leaf → IsNode node → 0 < length node.rows → node_in node.layout bytes ≡ Some node → Spells node.layout Leaf bytes node.rows
 spells_some node bytes kind_is is some spelled =
-    spells_node (node_of node.form Leaf []) node bytes (record { form = refl; kind = kind_is }) spelled (kind_lengths node.form Leaf node refl kind_is is) (omega (arith, some))
+    spells_node (node_of node.layout Leaf []) node bytes (record { layout = refl; kind = kind_is }) spelled (kind_lengths node.layout Leaf node refl kind_is is) (omega (arith, some))
 
 -- both neighbours have half of the rows that they have room for, where they share more than one page has room for
-pub shared_evenly : (form : TreeForm) (kind : Kind) (one two : Part) → capacity form kind ≤ 2 * length one.rows → capacity form kind ≤ 2 * length two.rows → IsEven form kind (one ∷ two ∷ [])
-shared_evenly form kind one two left right =
-    let halved = λ (part : Part). capacity form kind ≤ 2 * length part.rows in
+pub shared_evenly : (layout : RowLayout) (kind : Kind) (one two : TreeNode) → capacity layout kind ≤ 2 * length one.rows → capacity layout kind ≤ 2 * length two.rows → IsEven layout kind (one ∷ two ∷ [])
+shared_evenly layout kind one two left right =
+    let halved = λ (node : TreeNode). capacity layout kind ≤ 2 * length node.rows in
     inr (All-cons halved one (two ∷ []) left (All-cons halved two [] right (All-nil halved)))
 
 -- rows that were cut in two, of which the upper ones got others behind them

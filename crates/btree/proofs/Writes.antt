@@ -8,37 +8,37 @@ use Rattle.std.proofs.lemmas.List.{get_or_past}
 use Rattle.std.proofs.lemmas.List.Edits.{length-insert}
 use Rattle.std.proofs.lemmas.List.Elements.{All-nil, All-cons, All-append, All-take, All-drop}
 use Rattle.station.specs.Disk.{Sector}
-use Rattle.tree_pages.specs.declared.form.TreeForm.{TreeForm}
-use Rattle.tree_pages.specs.declared.form.Kind.{Kind}
-use Rattle.tree_pages.specs.Form.{rest_length, row_length}
+use Rattle.tree_pages.specs.declared.row_layout.RowLayout.{RowLayout}
+use Rattle.tree_pages.specs.declared.row_layout.Kind.{Kind}
+use Rattle.tree_pages.specs.RowLayouts.{rest_length, row_length}
 use Rattle.tree_pages.specs.Node.{Node, node_in}
 use Rattle.tree_pages.specs.Edits.{inserted}
 use Rattle.btree.specs.Nodes.{SameNode}
 use Rattle.btree.specs.Changes.{IsIn, CanTake}
 use Rattle.btree.specs.Tree.{node_of, node_on, fewest, Stands}
 use Rattle.btree.specs.Moves.{Once, Replaced}
-use Rattle.btree.specs.Rises.{part_of}
+use Rattle.btree.specs.Propagates.{node_with}
 use Rattle.btree.proofs.Runs.{in_none, in_cases, in_head, in_tail}
 use Rattle.btree.proofs.Splices.{all_left, all_right}
 
 -- these bytes are a page of a tree, with enough rows
-pub record Spells (form : TreeForm) (kind : Kind) (bytes : List ℕ) (rows : List (List ℕ)) : Type 0 where
-  pub node : node_in form bytes ≡ Some (node_of form kind rows)
-  pub lengths : All (λ row. length row ≡ row_length form kind) rows
+pub record Spells (layout : RowLayout) (kind : Kind) (bytes : List ℕ) (rows : List (List ℕ)) : Type 0 where
+  pub node : node_in layout bytes ≡ Some (node_of layout kind rows)
+  pub lengths : All (λ row. length row ≡ row_length layout kind) rows
   pub enough : fewest kind ≤ length rows
 
-pub stands_on : (form : TreeForm) (kind : Kind) (pages : List (Option Sector)) (page : ℕ) (bytes : List ℕ) (rows : List (List ℕ)) → slice_index_or pages page None ≡ Some bytes → Spells form kind bytes rows → Stands form pages kind (part_of page rows)
-stands_on form kind pages page bytes rows at spells = record { node = ap (node_on form) at ∙ spells.node; lengths = spells.lengths; enough = spells.enough }
+pub stands_on : (layout : RowLayout) (kind : Kind) (pages : List (Option Sector)) (page : ℕ) (bytes : List ℕ) (rows : List (List ℕ)) → slice_index_or pages page None ≡ Some bytes → Spells layout kind bytes rows → Stands layout pages kind (node_with page rows)
+stands_on layout kind pages page bytes rows at spells = record { node = ap (node_on layout) at ∙ spells.node; lengths = spells.lengths; enough = spells.enough }
 
 one_once : (page : ℕ) → Once (page ∷ [])
 one_once page = ((λ has. in_none page has), tt)
 
-pub write_one : (form : TreeForm) (kind : Kind) (pages after : List (Option Sector)) (page : ℕ) (bytes : List ℕ) (old rows : List (List ℕ))
-    → after ≡ set pages page (Some bytes) → page < length pages → Spells form kind bytes rows → Replaced form kind pages (part_of page old ∷ []) after (part_of page rows ∷ [])
-write_one form kind pages after page bytes old rows is low spells = record {
-  stand = All-cons (Stands form after kind) (part_of page rows) []
-      (stands_on form kind after page bytes rows (ap (λ l. slice_index_or l page None) is ∙ get_or-set_same pages page (Some bytes) None low) spells)
-      (All-nil (Stands form after kind));
+pub write_one : (layout : RowLayout) (kind : Kind) (pages after : List (Option Sector)) (page : ℕ) (bytes : List ℕ) (old rows : List (List ℕ))
+    → after ≡ set pages page (Some bytes) → page < length pages → Spells layout kind bytes rows → Replaced layout kind pages (node_with page old ∷ []) after (node_with page rows ∷ [])
+write_one layout kind pages after page bytes old rows is low spells = record {
+  stand = All-cons (Stands layout after kind) (node_with page rows) []
+      (stands_on layout kind after page bytes rows (ap (λ l. slice_index_or l page None) is ∙ get_or-set_same pages page (Some bytes) None low) spells)
+      (All-nil (Stands layout after kind));
   once = one_once page;
   moves = record {
     count = ap length is ∙ length-set pages page (Some bytes);
@@ -49,15 +49,15 @@ write_one form kind pages after page bytes old rows is low spells = record {
 }
 
 -- a page that wasn't in the map
-pub write_new : (form : TreeForm) (kind : Kind) (pages after : List (Option Sector)) (page : ℕ) (zeros bytes : List ℕ) (rows : List (List ℕ))
-    → after ≡ set (set pages page (Some zeros)) page (Some bytes) → page < length pages → 0 < page → slice_index_or pages page None ≡ None → Spells form kind bytes rows
-    → Replaced form kind pages [] after (part_of page rows ∷ [])
-write_new form kind pages after page zeros bytes rows is low some none spells =
+pub write_new : (layout : RowLayout) (kind : Kind) (pages after : List (Option Sector)) (page : ℕ) (zeros bytes : List ℕ) (rows : List (List ℕ))
+    → after ≡ set (set pages page (Some zeros)) page (Some bytes) → page < length pages → 0 < page → slice_index_or pages page None ≡ None → Spells layout kind bytes rows
+    → Replaced layout kind pages [] after (node_with page rows ∷ [])
+write_new layout kind pages after page zeros bytes rows is low some none spells =
     let wide : page < length (set pages page (Some zeros)) = omega (arith, length-set pages page (Some zeros)) in
     record {
-      stand = All-cons (Stands form after kind) (part_of page rows) []
-          (stands_on form kind after page bytes rows (ap (λ l. slice_index_or l page None) is ∙ get_or-set_same (set pages page (Some zeros)) page (Some bytes) None wide) spells)
-          (All-nil (Stands form after kind));
+      stand = All-cons (Stands layout after kind) (node_with page rows) []
+          (stands_on layout kind after page bytes rows (ap (λ l. slice_index_or l page None) is ∙ get_or-set_same (set pages page (Some zeros)) page (Some bytes) None wide) spells)
+          (All-nil (Stands layout after kind));
       once = one_once page;
       moves = record {
         count = ap length is ∙ length-set (set pages page (Some zeros)) page (Some bytes) ∙ length-set pages page (Some zeros);
@@ -101,13 +101,13 @@ two_others pages after page new left right w q not_page not_new =
     ∙ get_or-set_other (set pages new (Some w.zeros)) page q (Some left) None not_page
     ∙ get_or-set_other pages new q (Some w.zeros) None not_new
 
-pub write_two : (form : TreeForm) (kind : Kind) (pages after : List (Option Sector)) (page new : ℕ) (left right : List ℕ) (old left_rows right_rows : List (List ℕ))
-    → WrittenTwo pages after page new left right → Spells form kind left left_rows → Spells form kind right right_rows
-    → Replaced form kind pages (part_of page old ∷ []) after (part_of page left_rows ∷ part_of new right_rows ∷ [])
-write_two form kind pages after page new left right old left_rows right_rows w one two = record {
-  stand = All-cons (Stands form after kind) (part_of page left_rows) (part_of new right_rows ∷ [])
-      (stands_on form kind after page left left_rows (two_left pages after page new left right w) one)
-      (All-cons (Stands form after kind) (part_of new right_rows) [] (stands_on form kind after new right right_rows (two_right pages after page new left right w) two) (All-nil (Stands form after kind)));
+pub write_two : (layout : RowLayout) (kind : Kind) (pages after : List (Option Sector)) (page new : ℕ) (left right : List ℕ) (old left_rows right_rows : List (List ℕ))
+    → WrittenTwo pages after page new left right → Spells layout kind left left_rows → Spells layout kind right right_rows
+    → Replaced layout kind pages (node_with page old ∷ []) after (node_with page left_rows ∷ node_with new right_rows ∷ [])
+write_two layout kind pages after page new left right old left_rows right_rows w one two = record {
+  stand = All-cons (Stands layout after kind) (node_with page left_rows) (node_with new right_rows ∷ [])
+      (stands_on layout kind after page left left_rows (two_left pages after page new left right w) one)
+      (All-cons (Stands layout after kind) (node_with new right_rows) [] (stands_on layout kind after new right right_rows (two_right pages after page new left right w) two) (All-nil (Stands layout after kind)));
   once = ((λ has. ⊎_elim (λ same. two_apart pages after page new left right w same) (λ past. in_none page past) (in_cases new [] page has)), one_once new);
   moves = record {
     count = ap length w.is ∙ length-set (set (set pages new (Some w.zeros)) page (Some left)) new (Some right) ∙ length-set (set pages new (Some w.zeros)) page (Some left) ∙ length-set pages new (Some w.zeros);
@@ -126,50 +126,50 @@ write_two form kind pages after page new left right old left_rows right_rows w o
 pub is_low : (pages : List (Option Sector)) (page : ℕ) → IsIn pages page → page < length pages
 is_low pages page there = ⊎_elim (λ low. low) (λ past. absurd (there (get_or_past pages page None past))) (cases_lt page (length pages))
 
-node_is : (form : TreeForm) (kind : Kind) (node : Node) → node.form ≡ form → node.kind ≡ kind → node ≡ node_of form kind node.rows
-node_is form kind node same_form same_kind =
-    ap (λ (f : TreeForm). node_of f node.kind node.rows) same_form ∙ ap (λ (k : Kind). node_of form k node.rows) same_kind
+node_is : (layout : RowLayout) (kind : Kind) (node : Node) → node.layout ≡ layout → node.kind ≡ kind → node ≡ node_of layout kind node.rows
+node_is layout kind node same_layout same_kind =
+    ap (λ (f : RowLayout). node_of f node.kind node.rows) same_layout ∙ ap (λ (k : Kind). node_of layout k node.rows) same_kind
 
-pub spells_node : (old new : Node) (bytes : List ℕ) → SameNode old new → node_in new.form bytes ≡ Some new → All (λ row. length row ≡ row_length old.form old.kind) new.rows → fewest old.kind ≤ length new.rows
-    → Spells old.form old.kind bytes new.rows
+pub spells_node : (old new : Node) (bytes : List ℕ) → SameNode old new → node_in new.layout bytes ≡ Some new → All (λ row. length row ≡ row_length old.layout old.kind) new.rows → fewest old.kind ≤ length new.rows
+    → Spells old.layout old.kind bytes new.rows
 spells_node old new bytes same spelled lengths enough = record {
-  node = ap (λ (form : TreeForm). node_in form bytes) (sym same.form) ∙ spelled ∙ ap (λ (node : Node). Some node) (node_is old.form old.kind new same.form same.kind);
+  node = ap (λ (layout : RowLayout). node_in layout bytes) (sym same.layout) ∙ spelled ∙ ap (λ (node : Node). Some node) (node_is old.layout old.kind new same.layout same.kind);
   lengths = lengths;
   enough = enough;
 }
 
-pub insert_lengths : (node : Node) (place : ℕ) (key rest : List ℕ) → length key ≡ node.form.key_length → length rest ≡ rest_length node.form node.kind → All (λ row. length row ≡ row_length node.form node.kind) node.rows
-    → All (λ row. length row ≡ row_length node.form node.kind) (insert node.rows place (key ++ rest))
+pub insert_lengths : (node : Node) (place : ℕ) (key rest : List ℕ) → length key ≡ node.layout.key_length → length rest ≡ rest_length node.layout node.kind → All (λ row. length row ≡ row_length node.layout node.kind) node.rows
+    → All (λ row. length row ≡ row_length node.layout node.kind) (insert node.rows place (key ++ rest))
 insert_lengths node place key rest key_is rest_is all =
-    let P = λ (row : List ℕ). length row ≡ row_length node.form node.kind in
+    let P = λ (row : List ℕ). length row ≡ row_length node.layout node.kind in
     All-append P (take place node.rows) ((key ++ rest) ∷ drop place node.rows) (All-take P place node.rows all)
     (All-cons P (key ++ rest) (drop place node.rows) (omega (arith, length-append key rest, key_is, rest_is)) (All-drop P place node.rows all))
 
 -- a row came into a page with room
 pub spells_inserted : (pages : List (Option Sector)) (page : ℕ) (node new : Node) (place : ℕ) (key rest bytes : List ℕ) → CanTake pages page node → new ≡ inserted node place (key ++ rest) → place ≤ length node.rows
-    → length key ≡ node.form.key_length → length rest ≡ rest_length node.form node.kind → node_in new.form bytes ≡ Some new → Spells node.form node.kind bytes new.rows
+    → length key ≡ node.layout.key_length → length rest ≡ rest_length node.layout node.kind → node_in new.layout bytes ≡ Some new → Spells node.layout node.kind bytes new.rows
 spells_inserted pages page node new place key rest bytes can is low key_is rest_is spelled =
-    let P = λ (row : List ℕ). length row ≡ row_length node.form node.kind in
-    spells_node node new bytes (record { form = ap (λ (n : Node). n.form) is; kind = ap (λ (n : Node). n.kind) is }) spelled
+    let P = λ (row : List ℕ). length row ≡ row_length node.layout node.kind in
+    spells_node node new bytes (record { layout = ap (λ (n : Node). n.layout) is; kind = ap (λ (n : Node). n.kind) is }) spelled
     (subst (λ (n : Node). All P n.rows) (sym is) (insert_lengths node place key rest key_is rest_is can.lengths))
     (subst (λ (n : Node). fewest node.kind ≤ length n.rows) (sym is) (omega (arith, can.enough, length-insert node.rows place (key ++ rest) low)))
 
 -- a row came into a full page, which gave rows to another one
 pub spells_left : (pages : List (Option Sector)) (page : ℕ) (node left right : Node) (place : ℕ) (key rest bytes : List ℕ) → CanTake pages page node → left.rows ++ right.rows ≡ insert node.rows place (key ++ rest)
-    → length key ≡ node.form.key_length → length rest ≡ rest_length node.form node.kind → SameNode node left → fewest node.kind ≤ length left.rows → node_in left.form bytes ≡ Some left → Spells node.form node.kind bytes left.rows
+    → length key ≡ node.layout.key_length → length rest ≡ rest_length node.layout node.kind → SameNode node left → fewest node.kind ≤ length left.rows → node_in left.layout bytes ≡ Some left → Spells node.layout node.kind bytes left.rows
 spells_left pages page node left right place key rest bytes can is key_is rest_is same enough spelled =
-    let P = λ (row : List ℕ). length row ≡ row_length node.form node.kind in
+    let P = λ (row : List ℕ). length row ≡ row_length node.layout node.kind in
     spells_node node left bytes same spelled (all_left P left.rows right.rows (subst (λ rows. All P rows) (sym is) (insert_lengths node place key rest key_is rest_is can.lengths))) enough
 
 pub spells_right : (pages : List (Option Sector)) (page : ℕ) (node left right : Node) (place : ℕ) (key rest bytes : List ℕ) → CanTake pages page node → left.rows ++ right.rows ≡ insert node.rows place (key ++ rest)
-    → length key ≡ node.form.key_length → length rest ≡ rest_length node.form node.kind → SameNode node right → fewest node.kind ≤ length right.rows → node_in right.form bytes ≡ Some right → Spells node.form node.kind bytes right.rows
+    → length key ≡ node.layout.key_length → length rest ≡ rest_length node.layout node.kind → SameNode node right → fewest node.kind ≤ length right.rows → node_in right.layout bytes ≡ Some right → Spells node.layout node.kind bytes right.rows
 spells_right pages page node left right place key rest bytes can is key_is rest_is same enough spelled =
-    let P = λ (row : List ℕ). length row ≡ row_length node.form node.kind in
+    let P = λ (row : List ℕ). length row ≡ row_length node.layout node.kind in
     spells_node node right bytes same spelled (all_right P left.rows right.rows (subst (λ rows. All P rows) (sym is) (insert_lengths node place key rest key_is rest_is can.lengths))) enough
 
 -- a node that was put on a new page
-pub put_node : (form : TreeForm) (kind : Kind) (node : Node) (rows : List (List ℕ)) (page : ℕ) (old new : List (Option Sector)) → node ≡ node_of form kind rows
-    → (All (λ row. length row ≡ row_length node.form node.kind) node.rows → fewest node.kind ≤ length node.rows → Replaced node.form node.kind old [] new (part_of page node.rows ∷ []))
-    → All (λ row. length row ≡ row_length form kind) rows → fewest kind ≤ length rows → Replaced form kind old [] new (part_of page rows ∷ [])
-put_node form kind node rows page old new is put lengths enough =
-    subst (λ (n : Node). All (λ (row : List ℕ). length row ≡ row_length n.form n.kind) n.rows → fewest n.kind ≤ length n.rows → Replaced n.form n.kind old [] new (part_of page n.rows ∷ [])) is put lengths enough
+pub put_node : (layout : RowLayout) (kind : Kind) (node : Node) (rows : List (List ℕ)) (page : ℕ) (old new : List (Option Sector)) → node ≡ node_of layout kind rows
+    → (All (λ row. length row ≡ row_length node.layout node.kind) node.rows → fewest node.kind ≤ length node.rows → Replaced node.layout node.kind old [] new (node_with page node.rows ∷ []))
+    → All (λ row. length row ≡ row_length layout kind) rows → fewest kind ≤ length rows → Replaced layout kind old [] new (node_with page rows ∷ [])
+put_node layout kind node rows page old new is put lengths enough =
+    subst (λ (n : Node). All (λ (row : List ℕ). length row ≡ row_length n.layout n.kind) n.rows → fewest n.kind ≤ length n.rows → Replaced n.layout n.kind old [] new (node_with page n.rows ∷ [])) is put lengths enough

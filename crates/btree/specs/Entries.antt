@@ -1,26 +1,26 @@
 -- The entries of a tree: an ascending list.
 use Rattle.std.specs.Prelude.{◌≡◌, ℕ, List, [], ◌∷◌, map, length, Option, Some, None, if◌then◌else◌}
 use Rattle.std.specs.Ordering.{is_lt, is_gt, is_eq}
-use Rattle.tree_pages.specs.declared.form.TreeForm.{TreeForm}
+use Rattle.tree_pages.specs.declared.row_layout.RowLayout.{RowLayout}
 use Rattle.tree_pages.specs.Keys.{key_cmp, key_of, rest_of}
-use Rattle.btree.specs.Tree.{Part, rows_in_order}
+use Rattle.btree.specs.Tree.{TreeNode, rows_in_order}
 
 pub record Entry : Type 0 where
   pub key : List ℕ
   pub value : List ℕ
 
-abbrev pub entry_of : TreeForm → List ℕ → Entry
-entry_of form row = record { key = key_of form row; value = rest_of form row }
+abbrev pub entry_of : RowLayout → List ℕ → Entry
+entry_of layout row = record { key = key_of layout row; value = rest_of layout row }
 
--- its key and value have the lengths that the form tells
-abbrev pub HasLengths : TreeForm → Entry → Type 0
-HasLengths form entry = (length entry.key ≡ form.key_length) × (length entry.value ≡ form.value_length)
+-- its key and value have the lengths that the layout tells
+abbrev pub HasLengths : RowLayout → Entry → Type 0
+HasLengths layout entry = (length entry.key ≡ layout.key_length) × (length entry.value ≡ layout.value_length)
 
-abbrev pub listed : TreeForm → List (List ℕ) → List Entry
-listed form rows = map (entry_of form) rows
+abbrev pub listed : RowLayout → List (List ℕ) → List Entry
+listed layout rows = map (entry_of layout) rows
 
-abbrev pub entries_of : TreeForm → List (List Part) → List Entry
-entries_of form levels = listed form (rows_in_order levels)
+abbrev pub entries_of : RowLayout → List (List TreeNode) → List Entry
+entries_of layout levels = listed layout (rows_in_order levels)
 
 -- the entry of a key, if it is there, and its value
 abbrev pub entry_with : List Entry → List ℕ → Option Entry

@@ -9,10 +9,12 @@ pub mod Refusals
 pub mod Rooted
 pub mod Moves
 pub mod Nodes
-pub mod Rises
+pub mod Propagates
 pub mod Changes
-pub mod Fates
+pub mod Outcomes
 pub mod Shrinks
+pub mod Told
+pub mod Puts
 pub mod Removals
-pub mod Walks
+pub mod Clears
 pub mod Steps

@@ -2,7 +2,7 @@
 use Rattle.std.specs.Prelude.{◌≡◌}
 use Rattle.tree_pages.specs.Node.{Node}
 
--- pages of the same form and kind
+-- pages of the same layout and kind
 pub record SameNode (one two : Node) : Type 0 where
-  pub form : two.form ≡ one.form
+  pub layout : two.layout ≡ one.layout
   pub kind : two.kind ≡ one.kind

@@ -1,21 +1,12 @@
--- What a call that only reads leaves as it was, and why it is refused.
-use Rattle.std.specs.Prelude.{◌≡◌, ◌<◌, ◌≤◌, ℕ, List, length, Some, ⊤}
+-- What a call that only reads tells, and why it is refused.
+use Rattle.std.specs.Prelude.{◌≡◌, ◌<◌, ◌≤◌, ℕ, List, length, Option, Some, ⊤}
 use Rattle.station.specs.Disk.{Sector}
-use Rattle.pages.specs.Pages.{map_now, touched_of, filled_of, SameCommitted}
-use Rattle.pages.specs.declared.page_map.PageMap.{PageMap}
 use Rattle.pages.specs.declared.error.PagesError.{PagesError}
 use Rattle.pages.specs.declared.error.PagesError.TheVariants.{Device, Full, Damaged, Memory, Spent, ForeignMark}
-use Rattle.tree_pages.specs.declared.form.TreeForm.{TreeForm}
-use Rattle.tree_pages.specs.declared.form.Kind.{Kind}
-use Rattle.tree_pages.specs.Node.{node_in}
-use Rattle.btree.specs.Tree.{node_of, fewest}
-
--- the map of pages, what was changed of it, and what is committed
-pub record Untouched (old new : PageMap) : Type 0 where
-  pub map : (image : List Sector) → map_now new image ≡ map_now old image
-  pub touched : touched_of new ≡ touched_of old
-  pub filled : filled_of new ≡ filled_of old
-  pub committed : SameCommitted old new
+use Rattle.tree_pages.specs.declared.row_layout.RowLayout.{RowLayout}
+use Rattle.tree_pages.specs.declared.row_layout.Kind.{Kind}
+use Rattle.tree_pages.specs.Node.{Node, node_in}
+use Rattle.btree.specs.Tree.{TreeNode, node_of, fewest, Stands, IsTree}
 
 -- a page is refused by the device, by a spent map, or as damaged
 abbrev pub IsReadRefusal : PagesError → Type 0
@@ -27,14 +18,31 @@ IsReadRefusal Memory = ⊥
 IsReadRefusal ForeignMark = ⊥
 
 -- so is a search, and memory may be wanting for a key of more than 128 bytes
-abbrev pub IsRefusal : TreeForm → PagesError → Type 0
-IsRefusal form Device = ⊤
-IsRefusal form Damaged = ⊤
-IsRefusal form Spent = ⊤
-IsRefusal form Full = ⊥
-IsRefusal form Memory = 128 < form.key_length
-IsRefusal form ForeignMark = ⊥
+abbrev pub IsRefusal : RowLayout → PagesError → Type 0
+IsRefusal layout Device = ⊤
+IsRefusal layout Damaged = ⊤
+IsRefusal layout Spent = ⊤
+IsRefusal layout Full = ⊥
+IsRefusal layout Memory = 128 < layout.key_length
+IsRefusal layout ForeignMark = ⊥
 
 -- bytes spell no page of a tree that has enough rows
-abbrev pub SpellsNoPart : TreeForm → Sector → Type 0
-SpellsNoPart form bytes = (kind : Kind) (rows : List (List ℕ)) → node_in form bytes ≡ Some (node_of form kind rows) → fewest kind ≤ length rows → ⊥
+abbrev pub SpellsNoNode : RowLayout → Sector → Type 0
+SpellsNoNode layout bytes = (kind : Kind) (rows : List (List ℕ)) → node_in layout bytes ≡ Some (node_of layout kind rows) → fewest kind ≤ length rows → ⊥
+
+-- a node of this layout, with rows enough, and of this kind besides
+abbrev pub HasShape : RowLayout → Node → Type 0
+HasShape layout node = (node.layout ≡ layout) × (fewest node.kind ≤ length node.rows) × (length node.rows ≤ 4080)
+
+abbrev pub HasKindShape : RowLayout → Kind → Node → Type 0
+HasKindShape layout kind node = (node.layout ≡ layout) × (node.kind ≡ kind) × (fewest kind ≤ length node.rows) × (length node.rows ≤ 4080)
+
+-- where this is told, no node of a tree stands on the page, none of this kind, and the pages under the root are no tree
+abbrev pub NoneStands : RowLayout → ℕ → Type 0 → List (Option Sector) → Type 0
+NoneStands layout page told pages = told → (kind : Kind) (node : TreeNode) → node.page ≡ page → Stands layout pages kind node → ⊥
+
+abbrev pub NoneOfKind : RowLayout → Kind → ℕ → Type 0 → List (Option Sector) → Type 0
+NoneOfKind layout kind page told pages = told → (node : TreeNode) → node.page ≡ page → Stands layout pages kind node → ⊥
+
+abbrev pub NoTree : RowLayout → ℕ → Type 0 → List (Option Sector) → Type 0
+NoTree layout root told pages = told → (levels : List (List TreeNode)) → IsTree layout pages root levels → ⊥

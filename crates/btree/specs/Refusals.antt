@@ -31,13 +31,13 @@ IsWriteRefusal Spent = ⊤
 IsWriteRefusal ForeignMark = ⊥
 
 -- and where it is none of a tree
-abbrev pub IsLiftRefusal : PagesError → Type 0
-IsLiftRefusal Device = ⊥
-IsLiftRefusal Full = ⊤
-IsLiftRefusal Damaged = ⊤
-IsLiftRefusal Memory = ⊤
-IsLiftRefusal Spent = ⊤
-IsLiftRefusal ForeignMark = ⊥
+abbrev pub IsParentRefusal : PagesError → Type 0
+IsParentRefusal Device = ⊥
+IsParentRefusal Full = ⊤
+IsParentRefusal Damaged = ⊤
+IsParentRefusal Memory = ⊤
+IsParentRefusal Spent = ⊤
+IsParentRefusal ForeignMark = ⊥
 
 -- A change of a tree that needs no new page: the device refuses a page, the pages are none of a tree, memory runs out, or the map is spent.
 abbrev pub IsChangeRefusal : PagesError → Type 0

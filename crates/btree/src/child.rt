@@ -15,12 +15,12 @@ pub(crate) struct Child {
 }
 
 /// The place of the last row whose key isn't above this one, or of the first row.
-pub(crate) fn child_place(part: &NodeView, key: &[u8]) -> usize
-    requires { 0 < length part.now.rows }
-    ensures low { result < length part.now.rows }
-    ensures chosen { Ascend (keys_of part.now.form part.now.rows) → IsChosen part.now.form key.now part.now.rows result }
+pub(crate) fn child_place(node: &NodeView, key: &[u8]) -> usize
+    requires { 0 < length node.now.rows }
+    ensures low { result < length node.now.rows }
+    ensures chosen { Ascend (keys_of node.now.layout node.now.rows) → IsChosen node.now.layout key.now node.now.rows result }
 {
-    match part.find(key) {
+    match node.find(key) {
         Ok(place) => place,
         Err(place) => {
             if place == 0 {
@@ -34,17 +34,17 @@ pub(crate) fn child_place(part: &NodeView, key: &[u8]) -> usize
 /// Notes the key behind a place, if the page has one. Else what is to the right of the page stays noted.
 pub(crate) fn note_right(
     alloc: Global,
-    part: &NodeView,
+    node: &NodeView,
     place: usize,
     right: &mut Option<Key>,
 ) -> Result<(), AllocError>
-    requires { place < length part.now.rows }
-    ensures within { place + 1 < length part.now.rows → OnOk result (right.new ≡ Some (key_of part.now.form (slice_index_or part.now.rows (place + 1) []))) }
-    ensures beyond { length part.now.rows ≤ place + 1 → OnOk result (right.new ≡ right.old) }
-    ensures succeeds { part.now.form.key_length ≤ 128 → IsOk result }
+    requires { place < length node.now.rows }
+    ensures within { place + 1 < length node.now.rows → OnOk result (right.new ≡ Some (key_of node.now.layout (slice_index_or node.now.rows (place + 1) []))) }
+    ensures beyond { length node.now.rows ≤ place + 1 → OnOk result (right.new ≡ right.old) }
+    ensures succeeds { node.now.layout.key_length ≤ 128 → IsOk result }
 {
-    if part.count() - place > 1 {
-        *right = Some(Key::copy(alloc, part.key(place + 1))?);
+    if node.count() - place > 1 {
+        *right = Some(Key::copy(alloc, node.key(place + 1))?);
     }
     Ok(())
 }

@@ -1,27 +1,27 @@
 //! A tree gives up its pages.
-ghost use Rattle.std.specs.Prelude.{◌≡◌, ◌≢◌, ◌≤◌, ◌<◌, ◌++◌, ◌↔◌, Err, true, ℕ, List, [], length, map, IfOk, IfErr, OnOk, OnErr};
+ghost use Rattle.std.specs.Prelude.{◌≡◌, ◌≢◌, ◌≤◌, ◌<◌, ◌++◌, Err, true, List, [], length, map, IfOk, IfErr, OnOk, OnErr};
 ghost use Rattle.std.specs.List.{All};
 ghost use Rattle.station.specs.Disk.{Sector};
 ghost use Rattle.station.specs.Calls.{OnlyReads};
-ghost use Rattle.pages.specs.Pages.{is_spent, sectors_of, catalog_of, page_count, filled_of, Agrees, IsOpen, SameCommitted};
-ghost use Rattle.tree_pages.specs.Form.{IsForm};
+ghost use Rattle.pages.specs.Pages.{is_spent, sectors_of, catalog_of, page_count, filled_of, Agrees, IsOpen, SameCommitted, Keeps, Unchanged};
+ghost use Rattle.tree_pages.specs.RowLayouts.{IsRowLayout};
 ghost use Rattle.tree_pages.specs.Keys.{child_of};
-ghost use Rattle.btree.specs.Tree.{Part, rows_of, pages_of, Stands};
+ghost use Rattle.btree.specs.Tree.{TreeNode, rows_of, pages_of, Stands};
 ghost use Rattle.btree.specs.Laws.{IsSmall};
 ghost use Rattle.btree.specs.Moves.{Moves, numbers_of};
-ghost use Rattle.btree.specs.Changes.{pages_of_map, Keeps};
-ghost use Rattle.btree.specs.Reading.{Untouched};
-ghost use Rattle.btree.specs.Walks.{HasPages, IsDown, levels_below};
+ghost use Rattle.btree.specs.Changes.{pages_of_map};
+ghost use Rattle.btree.specs.Clears.{HasPages, IsDown, levels_below};
 ghost use Rattle.btree.specs.Refusals.{IsRestRefusal, IsChangeRefusal};
-ghost use Rattle.btree.specs.Calls.{Agreed, OnNoTree, OnTree, pages_on};
+ghost use Rattle.btree.specs.Calls.{Agreed, OnNoTree, OnPages, OnChange, OnTreeChange};
+ghost use Rattle.btree.specs.Told.{TellsDamaged, OnlyIfSpent, ExactlyIfSpent};
 
 use crate::descend::LEVELS;
-use crate::part::read_part;
+use crate::node::read_node;
 use crate::tree::Tree;
 use pages::{PageMap, PagesError};
 use station::Device;
 use std::alloc::Global;
-use tree_pages::{Kind, TreeForm, TreePage};
+use tree_pages::{Kind, RowLayout, TreePage};
 
 /// Takes these pages out of the map. `Damaged` tells that one of the numbers is no page's.
 fn release_pages(pages: &mut PageMap, numbers: &[u32]) -> Result<(), PagesError>
@@ -31,8 +31,7 @@ fn release_pages(pages: &mut PageMap, numbers: &[u32]) -> Result<(), PagesError>
         All (λ page. (0 < page) × (page < length (pages_of_map pages.old image))) numbers.now → ⊥ }
     ensures filled { filled_of pages.new ≤ filled_of pages.old }
     ensures keeps { Keeps pages.old pages.new }
-    ensures open { IsOpen pages.new }
-    ensures spent { result ≡ Err PagesError.Spent → is_spent pages.old ≡ true }
+    ensures spent { OnlyIfSpent pages.old result }
     ensures cause { IfErr result IsRestRefusal }
 {
     for place in 0..numbers.len() {
@@ -49,13 +48,13 @@ fn release_pages(pages: &mut PageMap, numbers: &[u32]) -> Result<(), PagesError>
 }
 
 /// Puts the children of an inner page behind the page numbers.
-fn push_children(numbers: &mut Vec<u32>, part: &TreePage) -> Result<(), PagesError>
-    requires { part.now.kind ≡ Kind.Inner }
-    ensures numbers { OnOk result (numbers.new.items ≡ numbers.old.items ++ map (child_of part.now.form) part.now.rows) }
+fn push_children(numbers: &mut Vec<u32>, node: &TreePage) -> Result<(), PagesError>
+    requires { node.now.kind ≡ Kind.Inner }
+    ensures numbers { OnOk result (numbers.new.items ≡ numbers.old.items ++ map (child_of node.now.layout) node.now.rows) }
     ensures cause { IfErr result (λ error. error ≡ PagesError.Memory) }
 {
-    for place in 0..part.count() {
-        numbers.push(part.child(place))?;
+    for place in 0..node.count() {
+        numbers.push(node.child(place))?;
     }
     Ok(())
 }
@@ -66,34 +65,32 @@ fn children_of<D: Device>(
     alloc: Global,
     pages: &mut PageMap,
     device: &mut D,
-    form: TreeForm,
+    layout: RowLayout,
     numbers: &[u32],
 ) -> Result<Vec<u32>, PagesError>
     requires open { IsOpen pages.old }
     requires sectors { sectors_of pages.old ≤ D.sectors device.old }
-    requires form { IsForm form }
+    requires layout { IsRowLayout layout }
     ensures only { OnlyReads D.Device (result ≡ Err PagesError.Device) device.old device.new }
-    ensures untouched { Untouched pages.old pages.new }
+    ensures unchanged { Unchanged pages.old pages.new }
     ensures agrees { Agreed D.Device pages.old device.old (Agrees pages.new (D.state device.new).disk) }
     ensures open { IsOpen pages.new }
-    ensures children { Agreed D.Device pages.old device.old
-        ((level : List Part) → All (Stands form (pages_on D.Device pages.old device.old) Kind.Inner) level → numbers_of level ≡ numbers.now →
-        IfOk result (λ children. children.items ≡ map (child_of form) (rows_of level))) }
-    ensures damaged { Agreed D.Device pages.old device.old
-        (result ≡ Err PagesError.Damaged → (level : List Part) → All (Stands form (pages_on D.Device pages.old device.old) Kind.Inner) level →
-        numbers_of level ≡ numbers.now → length (rows_of level) ≤ length (pages_on D.Device pages.old device.old) → ⊥) }
+    ensures children { OnPages D.Device pages.old device.old
+        (λ before. (level : List TreeNode) → All (Stands layout before Kind.Inner) level → numbers_of level ≡ numbers.now → IfOk result (λ children. children.items ≡ map (child_of layout) (rows_of level))) }
+    ensures damaged { OnPages D.Device pages.old device.old
+        (λ before. result ≡ Err PagesError.Damaged → (level : List TreeNode) → All (Stands layout before Kind.Inner) level → numbers_of level ≡ numbers.now → length (rows_of level) ≤ length before → ⊥) }
     ensures few { IfOk result (λ children. length children.items ≤ page_count pages.old) }
-    ensures spent { result ≡ Err PagesError.Spent → is_spent pages.old ≡ true }
+    ensures spent { OnlyIfSpent pages.old result }
     ensures cause { IfErr result IsChangeRefusal }
 {
     let room = pages.page_count();
     let mut children = Vec::new(alloc);
     for place in 0..numbers.len() {
-        let part = read_part(pages, device, form, numbers[place])?;
-        if part.kind() != Kind::Inner {
+        let node = read_node(pages, device, layout, numbers[place])?;
+        if node.kind() != Kind::Inner {
             return Err(PagesError::Damaged);
         }
-        push_children(&mut children, &part)?;
+        push_children(&mut children, &node)?;
         if room < children.len() {
             return Err(PagesError::Damaged);
         }
@@ -107,32 +104,29 @@ fn below<D: Device>(
     alloc: Global,
     pages: &mut PageMap,
     device: &mut D,
-    form: TreeForm,
+    layout: RowLayout,
     numbers: &[u32],
 ) -> Result<Vec<u32>, PagesError>
     requires open { IsOpen pages.old }
     requires sectors { sectors_of pages.old ≤ D.sectors device.old }
-    requires form { IsForm form }
+    requires layout { IsRowLayout layout }
     requires some { 0 < length numbers.now }
     ensures only { OnlyReads D.Device (result ≡ Err PagesError.Device) device.old device.new }
-    ensures untouched { Untouched pages.old pages.new }
+    ensures unchanged { Unchanged pages.old pages.new }
     ensures agrees { Agreed D.Device pages.old device.old (Agrees pages.new (D.state device.new).disk) }
     ensures open { IsOpen pages.new }
-    ensures below { Agreed D.Device pages.old device.old
-        ((levels : List (List Part)) → IsSmall (pages_on D.Device pages.old device.old) →
-        IsDown form (pages_on D.Device pages.old device.old) numbers.now levels →
-        IfOk result (λ children. HasPages children.items (levels_below levels))) }
-    ensures damaged { Agreed D.Device pages.old device.old
-        (result ≡ Err PagesError.Damaged → (levels : List (List Part)) → IsDown form (pages_on D.Device pages.old device.old) numbers.now levels →
-        ⊥) }
+    ensures below { OnPages D.Device pages.old device.old
+        (λ before. (levels : List (List TreeNode)) → IsSmall before → IsDown layout before numbers.now levels → IfOk result (λ children. HasPages children.items (levels_below levels))) }
+    ensures damaged { OnPages D.Device pages.old device.old
+        (λ before. result ≡ Err PagesError.Damaged → (levels : List (List TreeNode)) → IsDown layout before numbers.now levels → ⊥) }
     ensures few { IfOk result (λ children. length children.items ≤ page_count pages.old) }
-    ensures spent { result ≡ Err PagesError.Spent ↔ is_spent pages.old ≡ true }
+    ensures spent { ExactlyIfSpent pages.old result }
     ensures cause { IfErr result IsChangeRefusal }
 {
-    let first = read_part(pages, device, form, numbers[0])?;
+    let first = read_node(pages, device, layout, numbers[0])?;
     match first.kind() {
         Kind::Leaf => Ok(Vec::new(alloc)),
-        Kind::Inner => children_of(alloc, pages, device, form, numbers),
+        Kind::Inner => children_of(alloc, pages, device, layout, numbers),
     }
 }
 
@@ -141,27 +135,24 @@ fn clear_levels<D: Device>(
     alloc: Global,
     pages: &mut PageMap,
     device: &mut D,
-    form: TreeForm,
+    layout: RowLayout,
     numbers: Vec<u32>,
     depth: usize,
 ) -> Result<(), PagesError>
     requires open { IsOpen pages.old }
     requires sectors { sectors_of pages.old ≤ D.sectors device.old }
-    requires form { IsForm form }
+    requires layout { IsRowLayout layout }
     ensures only { OnlyReads D.Device (result ≡ Err PagesError.Device) device.old device.new }
-    ensures cleared { Agreed D.Device pages.old device.old
-        ((levels : List (List Part)) → IsSmall (pages_on D.Device pages.old device.old) →
-        IsDown form (pages_on D.Device pages.old device.old) numbers.items levels →
-        OnOk result (Moves (pages_on D.Device pages.old device.old) (pages_of levels) (pages_on D.Device pages.new device.old) [])) }
-    ensures damaged { Agreed D.Device pages.old device.old
-        (result ≡ Err PagesError.Damaged → (levels : List (List Part)) → IsSmall (pages_on D.Device pages.old device.old) →
-        IsDown form (pages_on D.Device pages.old device.old) numbers.items levels → length levels ≤ depth → ⊥) }
+    ensures cleared { OnChange D.Device pages.old pages.new device.old
+        (λ before after. (levels : List (List TreeNode)) → IsSmall before → IsDown layout before numbers.items levels → OnOk result (Moves before (pages_of levels) after [])) }
+    ensures damaged { OnPages D.Device pages.old device.old
+        (λ before. result ≡ Err PagesError.Damaged → (levels : List (List TreeNode)) → IsSmall before → IsDown layout before numbers.items levels → length levels ≤ depth → ⊥) }
     ensures filled { filled_of pages.new ≤ filled_of pages.old }
     ensures committed { SameCommitted pages.old pages.new }
     ensures catalog { catalog_of pages.new ≡ catalog_of pages.old }
     ensures agrees { Agreed D.Device pages.old device.old (Agrees pages.new (D.state device.new).disk) }
     ensures open { IsOpen pages.new }
-    ensures spent { result ≡ Err PagesError.Spent → is_spent pages.old ≡ true }
+    ensures spent { OnlyIfSpent pages.old result }
     ensures told { is_spent pages.old ≡ true → 0 < length numbers.items → 0 < depth → result ≡ Err PagesError.Spent }
     ensures cause { IfErr result IsChangeRefusal }
 {
@@ -171,9 +162,9 @@ fn clear_levels<D: Device>(
     if depth == 0 {
         return Err(PagesError::Damaged);
     }
-    let children = below(alloc, pages, device, form, numbers.as_slice())?;
+    let children = below(alloc, pages, device, layout, numbers.as_slice())?;
     release_pages(pages, numbers.as_slice())?;
-    clear_levels(alloc, pages, device, form, children, depth - 1)
+    clear_levels(alloc, pages, device, layout, children, depth - 1)
 }
 
 impl Tree {
@@ -191,10 +182,10 @@ impl Tree {
         ensures only { OnlyReads D.Device (result ≡ Err PagesError.Device) device.old device.new }
 
         // Each page of the tree leaves the map, and the others stay as they are.
-        ensures cleared { OnTree D.Device self.old.form self.old.root pages.old device.old
-            (λ levels. OnOk result (Moves (pages_on D.Device pages.old device.old) (pages_of levels) (pages_on D.Device pages.new device.old) [])) }
-        ensures damaged { OnNoTree D.Device self.old.form self.old.root pages.old device.old (result ≡ Err PagesError.Damaged) }
-        ensures form { self.new.form ≡ self.old.form }
+        ensures cleared { OnTreeChange D.Device self.old.layout self.old.root pages.old pages.new device.old
+            (λ before levels after. OnOk result (Moves before (pages_of levels) after [])) }
+        ensures damaged { OnNoTree D.Device self.old.layout self.old.root pages.old device.old (TellsDamaged result) }
+        ensures layout { self.new.layout ≡ self.old.layout }
         ensures root { OnOk result (self.new.root ≡ 0) }
         ensures same { OnErr result (self.new ≡ self.old) }
         ensures filled { filled_of pages.new ≤ filled_of pages.old }
@@ -206,7 +197,7 @@ impl Tree {
         ensures cause { IfErr result IsChangeRefusal }
     {
         let alloc = self.alloc;
-        let form = self.form();
+        let layout = self.layout();
         let top = self.root();
         if top == 0 {
             return Ok(());
@@ -215,7 +206,7 @@ impl Tree {
         let _page_count = pages.page_count();
         let mut numbers = Vec::new(alloc);
         numbers.push(top)?;
-        clear_levels(alloc, pages, device, form, numbers, LEVELS)?;
+        clear_levels(alloc, pages, device, layout, numbers, LEVELS)?;
         self.set_root(0);
         Ok(())
     }

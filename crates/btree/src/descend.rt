@@ -1,41 +1,42 @@
 //! The way of a key down a tree.
-ghost use Rattle.std.specs.Prelude.{true, ◌≡◌, ◌≤◌, ◌↔◌, Err, List, length, IfOk, IfErr};
+ghost use Rattle.std.specs.Prelude.{◌≡◌, ◌≤◌, Err, List, length, IfOk, IfErr};
 ghost use Rattle.station.specs.Calls.{OnlyReads};
-ghost use Rattle.pages.specs.Pages.{is_spent, sectors_of, Agrees, IsOpen};
-ghost use Rattle.tree_pages.specs.Form.{IsForm};
+ghost use Rattle.pages.specs.Pages.{sectors_of, Agrees, IsOpen, Unchanged};
+ghost use Rattle.tree_pages.specs.RowLayouts.{IsRowLayout};
 ghost use Rattle.tree_pages.specs.Node.{IsNode};
-ghost use Rattle.btree.specs.Tree.{Part, IsTree};
+ghost use Rattle.btree.specs.Tree.{TreeNode, IsTree};
 ghost use Rattle.btree.specs.Path.{EndsAt};
 ghost use Rattle.btree.specs.Steps.{LeadsTo};
-ghost use Rattle.btree.specs.Reading.{Untouched, IsRefusal};
-ghost use Rattle.btree.specs.Calls.{Agreed, pages_on};
+ghost use Rattle.btree.specs.Reading.{IsRefusal, NoTree};
+ghost use Rattle.btree.specs.Calls.{Agreed, OnPages};
+ghost use Rattle.btree.specs.Told.{TellsDamaged, ExactlyIfSpent};
 
 use crate::key::Key;
-use crate::part::read_part;
+use crate::node::read_node;
+use crate::path_step::PathStep;
 use crate::step::step_at;
-use crate::turn::Turn;
 use pages::{PageMap, PagesError};
 use smallvec::SmallVec;
 use station::Device;
 use std::alloc::Global;
-use tree_pages::{Kind, TreeForm, TreePage};
+use tree_pages::{Kind, RowLayout, TreePage};
 
 /// How many levels a tree has at most.
-pub(crate) const LEVELS: usize = 21;
+pub const LEVELS: usize = 21;
 
-/// The leaf that a key leads to, with the turns on the way, and the first key to the right of the leaf.
+/// The leaf that a key leads to, with the steps on the way, and the first key to the right of the leaf.
 #[derive(Drop)]
 pub(crate) struct Descent {
-    pub path: SmallVec<Turn, LEVELS>,
+    pub path: SmallVec<PathStep, LEVELS>,
     pub page: u32,
     pub leaf: TreePage,
     pub right: Option<Key>,
 }
 
-/// The page of the leaf that a key leads to, with the turns on the way, and the first key to the right of the leaf.
+/// The page of the leaf that a key leads to, with the steps on the way, and the first key to the right of the leaf.
 #[derive(Drop)]
 struct Way {
-    path: SmallVec<Turn, LEVELS>,
+    path: SmallVec<PathStep, LEVELS>,
     page: u32,
     right: Option<Key>,
 }
@@ -45,24 +46,22 @@ fn follow<D: Device>(
     alloc: Global,
     pages: &mut PageMap,
     device: &mut D,
-    form: TreeForm,
+    layout: RowLayout,
     root: u32,
     key: &[u8],
 ) -> Result<Way, PagesError>
     requires open { IsOpen pages.old }
     requires sectors { sectors_of pages.old ≤ D.sectors device.old }
-    requires form { IsForm form }
+    requires layout { IsRowLayout layout }
     ensures only { OnlyReads D.Device (result ≡ Err PagesError.Device) device.old device.new }
-    ensures untouched { Untouched pages.old pages.new }
+    ensures unchanged { Unchanged pages.old pages.new }
     ensures agrees { Agreed D.Device pages.old device.old (Agrees pages.new (D.state device.new).disk) }
     ensures open { IsOpen pages.new }
-    ensures way { Agreed D.Device pages.old device.old
-        ((levels : List (List Part)) → IsTree form (pages_on D.Device pages.old device.old) root levels →
-        IfOk result (λ way. LeadsTo form (pages_on D.Device pages.old device.old) key.now levels way.path.items way.page way.right)) }
-    ensures damaged { Agreed D.Device pages.old device.old
-        (result ≡ Err PagesError.Damaged → (levels : List (List Part)) → IsTree form (pages_on D.Device pages.old device.old) root levels → ⊥) }
-    ensures spent { result ≡ Err PagesError.Spent ↔ is_spent pages.old ≡ true }
-    ensures cause { IfErr result (IsRefusal form) }
+    ensures way { OnPages D.Device pages.old device.old
+        (λ before. (levels : List (List TreeNode)) → IsTree layout before root levels → IfOk result (λ way. LeadsTo layout before key.now levels way.path.items way.page way.right)) }
+    ensures damaged { OnPages D.Device pages.old device.old (NoTree layout root (TellsDamaged result)) }
+    ensures spent { ExactlyIfSpent pages.old result }
+    ensures cause { IfErr result (IsRefusal layout) }
 {
     // How many page numbers there are is needed below.
     let _page_count = pages.page_count();
@@ -70,9 +69,9 @@ fn follow<D: Device>(
     let mut right = None;
     let mut page = root;
     for _depth in 0..LEVELS {
-        match step_at(alloc, pages, device, form, page, key, &mut right)? {
+        match step_at(alloc, pages, device, layout, page, key, &mut right)? {
             Some(child) => {
-                path.push_reserved(Turn {
+                path.push_reserved(PathStep {
                     page,
                     place: child.place,
                 });
@@ -90,29 +89,27 @@ pub(crate) fn descend<D: Device>(
     alloc: Global,
     pages: &mut PageMap,
     device: &mut D,
-    form: TreeForm,
+    layout: RowLayout,
     root: u32,
     key: &[u8],
 ) -> Result<Descent, PagesError>
     requires open { IsOpen pages.old }
     requires sectors { sectors_of pages.old ≤ D.sectors device.old }
-    requires form { IsForm form }
+    requires layout { IsRowLayout layout }
     ensures only { OnlyReads D.Device (result ≡ Err PagesError.Device) device.old device.new }
-    ensures untouched { Untouched pages.old pages.new }
+    ensures unchanged { Unchanged pages.old pages.new }
     ensures agrees { Agreed D.Device pages.old device.old (Agrees pages.new (D.state device.new).disk) }
     ensures open { IsOpen pages.new }
-    ensures way { Agreed D.Device pages.old device.old
-        ((levels : List (List Part)) → IsTree form (pages_on D.Device pages.old device.old) root levels →
-        IfOk result (λ descent. EndsAt form key.now levels descent.path.items descent.page descent.leaf.rows descent.right)) }
-    ensures damaged { Agreed D.Device pages.old device.old
-        (result ≡ Err PagesError.Damaged → (levels : List (List Part)) → IsTree form (pages_on D.Device pages.old device.old) root levels → ⊥) }
-    ensures leaf { IfOk result (λ descent. (descent.leaf.form ≡ form) × (descent.leaf.kind ≡ Kind.Leaf) × (length descent.leaf.rows ≤ 4080)) }
+    ensures way { OnPages D.Device pages.old device.old
+        (λ before. (levels : List (List TreeNode)) → IsTree layout before root levels → IfOk result (λ descent. EndsAt layout key.now levels descent.path.items descent.page descent.leaf.rows descent.right)) }
+    ensures damaged { OnPages D.Device pages.old device.old (NoTree layout root (TellsDamaged result)) }
+    ensures leaf { IfOk result (λ descent. (descent.leaf.layout ≡ layout) × (descent.leaf.kind ≡ Kind.Leaf) × (length descent.leaf.rows ≤ 4080)) }
     ensures node { IfOk result (λ descent. IsNode descent.leaf) }
-    ensures spent { result ≡ Err PagesError.Spent ↔ is_spent pages.old ≡ true }
-    ensures cause { IfErr result (IsRefusal form) }
+    ensures spent { ExactlyIfSpent pages.old result }
+    ensures cause { IfErr result (IsRefusal layout) }
 {
-    let Way { path, page, right } = follow(alloc, pages, device, form, root, key)?;
-    let leaf = read_part(pages, device, form, page)?;
+    let Way { path, page, right } = follow(alloc, pages, device, layout, root, key)?;
+    let leaf = read_node(pages, device, layout, page)?;
     if leaf.kind() != Kind::Leaf {
         return Err(PagesError::Damaged);
     }

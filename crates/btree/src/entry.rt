@@ -17,7 +17,7 @@ impl Model for Entry {
 
     ghost Value = { Listed };
 
-    ghost view = { λ entry. entry_of entry.leaf.form (slice_index_or entry.leaf.rows entry.place []) };
+    ghost view = { λ entry. entry_of entry.leaf.layout (slice_index_or entry.leaf.rows entry.place []) };
 
     ghost invariant = { λ entry. entry.place < length entry.leaf.rows };
 }
@@ -32,8 +32,8 @@ impl Entry {
         requires place { place < length leaf.rows }
         requires node { IsNode leaf }
         requires kind { leaf.kind ≡ Kind.Leaf }
-        ensures is { result ≡ entry_of leaf.form (slice_index_or leaf.rows place []) }
-        ensures lengths { HasLengths leaf.form result }
+        ensures is { result ≡ entry_of leaf.layout (slice_index_or leaf.rows place []) }
+        ensures lengths { HasLengths leaf.layout result }
     {
         Entry { leaf, place }
     }

@@ -1,23 +1,23 @@
 //! A new entry.
-ghost use Rattle.std.specs.Prelude.{◌≡◌, ◌≤◌, ◌<◌, ◌+◌, ◌↔◌, Err, Ok, Some, None, length, true, false, IsSome, IfOk, IfErr, OnErr};
+ghost use Rattle.std.specs.Prelude.{◌≡◌, ◌≤◌, ◌<◌, ◌+◌, Err, Ok, Some, None, length, true, false, IsSome, IfOk, IfErr, OnErr};
 ghost use Rattle.station.specs.Calls.{OnlyReads};
-ghost use Rattle.pages.specs.Pages.{IsOpen, Agrees, SameCommitted, HasEachPage, is_spent, committed_of, catalog_of, sectors_of, touched_of, filled_of};
+ghost use Rattle.pages.specs.Pages.{IsOpen, Agrees, SameCommitted, committed_of, catalog_of, sectors_of, changed_pages_of, Unchanged};
 ghost use Rattle.pages.specs.Use.{free_count};
-ghost use Rattle.tree_pages.specs.Form.{IsForm};
+ghost use Rattle.tree_pages.specs.RowLayouts.{IsRowLayout};
 ghost use Rattle.btree.specs.Entries.{entries_of, entry_with};
-ghost use Rattle.btree.specs.Reading.{Untouched};
 ghost use Rattle.btree.specs.Changes.{Inserts};
 ghost use Rattle.btree.specs.Refusals.{IsInsertRefusal};
-ghost use Rattle.btree.specs.Calls.{Agreed, OnNoTree, OnTree, pages_on};
+ghost use Rattle.btree.specs.Calls.{Agreed, OnNoTree, OnTree, OnTreeChange};
+ghost use Rattle.btree.specs.Told.{TellsDamaged, ExactlyIfSpent, FullIfUsed, FewChanged, FewFilled};
 
 use crate::descend::descend;
-use crate::enter::enter;
-use crate::put_new::plant;
+use crate::insert_into_leaf::insert_into_leaf;
+use crate::put_new::first_leaf;
 use crate::tree::Tree;
 use pages::{PageMap, PagesError, few_free};
 use station::Device;
 use std::alloc::Global;
-use tree_pages::TreeForm;
+use tree_pages::RowLayout;
 
 /// Puts a new entry into the tree under a root. The answer is the root's page then, or `None` where the key is there, and then
 /// nothing was changed.
@@ -25,50 +25,50 @@ fn insert_entry<D: Device>(
     alloc: Global,
     pages: &mut PageMap,
     device: &mut D,
-    form: TreeForm,
+    layout: RowLayout,
     root: u32,
     key: &[u8],
     value: &[u8],
 ) -> Result<Option<u32>, PagesError>
     requires open { IsOpen pages.old }
     requires sectors { sectors_of pages.old ≤ D.sectors device.old }
-    requires form { IsForm form }
-    requires key { length key.now ≡ form.key_length }
-    requires value { length value.now ≡ form.value_length }
+    requires layout { IsRowLayout layout }
+    requires key { length key.now ≡ layout.key_length }
+    requires value { length value.now ≡ layout.value_length }
     ensures only { OnlyReads D.Device (result ≡ Err PagesError.Device) device.old device.new }
-    ensures inserted { OnTree D.Device form root pages.old device.old
-        (λ levels. IfOk result (Inserts form (pages_on D.Device pages.old device.old) levels (pages_on D.Device pages.new device.old) key.now value.now)) }
-    ensures damaged { OnNoTree D.Device form root pages.old device.old (result ≡ Err PagesError.Damaged) }
-    ensures there { result ≡ Ok None → Untouched pages.old pages.new }
-    ensures touched { OnTree D.Device form root pages.old device.old (λ levels. length (touched_of pages.new) ≤ length (touched_of pages.old) + 42) }
-    ensures filled { OnTree D.Device form root pages.old device.old (λ levels. filled_of pages.new ≤ filled_of pages.old + 42) }
+    ensures inserted { OnTreeChange D.Device layout root pages.old pages.new device.old
+        (λ before levels after. IfOk result (Inserts layout before levels after key.now value.now)) }
+    ensures damaged { OnNoTree D.Device layout root pages.old device.old (TellsDamaged result) }
+    ensures there { result ≡ Ok None → Unchanged pages.old pages.new }
+    ensures changed_pages { OnTree D.Device layout root pages.old device.old (λ levels. FewChanged 42 pages.old pages.new) }
+    ensures filled { OnTree D.Device layout root pages.old device.old (λ levels. FewFilled 42 pages.old pages.new) }
     ensures committed { SameCommitted pages.old pages.new }
     ensures catalog { catalog_of pages.new ≡ catalog_of pages.old }
     ensures agrees { Agreed D.Device pages.old device.old (Agrees pages.new (D.state device.new).disk) }
     ensures open { IsOpen pages.new }
-    ensures full { result ≡ Err PagesError.Full → HasEachPage pages.new }
-    ensures spent { result ≡ Err PagesError.Spent ↔ is_spent pages.old ≡ true }
+    ensures full { FullIfUsed pages.new result }
+    ensures spent { ExactlyIfSpent pages.old result }
     ensures cause { IfErr result IsInsertRefusal }
 {
     if root == 0 {
-        let new = plant(pages, form, key, value)?;
+        let new = first_leaf(pages, layout, key, value)?;
         return Ok(Some(new));
     }
     // How many page numbers there are is needed below.
     let _page_count = pages.page_count();
-    let descent = descend(alloc, pages, device, form, root, key)?;
+    let descent = descend(alloc, pages, device, layout, root, key)?;
     let place = match descent.leaf.find(key) {
         Ok(_) => return Ok(None),
         Err(place) => place,
     };
-    let entered = enter(pages, device, form, root, descent, place, key, value)?;
+    let entered = insert_into_leaf(pages, device, layout, root, descent, place, key, value)?;
     Ok(Some(entered))
 }
 
 impl Tree {
     /// The root is another page from now on.
     pub(crate) fn set_root(&mut self, root: u32)
-        ensures form { self.new.form ≡ self.old.form }
+        ensures layout { self.new.layout ≡ self.old.layout }
         ensures root { self.new.root ≡ root }
     {
         self.root = root;
@@ -86,44 +86,41 @@ impl Tree {
     ) -> Result<bool, PagesError>
         requires open { IsOpen pages.old }
         requires sectors { sectors_of pages.old ≤ D.sectors device.old }
-        requires key { length key.now ≡ self.old.form.key_length }
-        requires value { length value.now ≡ self.old.form.value_length }
+        requires key { length key.now ≡ self.old.layout.key_length }
+        requires value { length value.now ≡ self.old.layout.value_length }
         ensures only { OnlyReads D.Device (result ≡ Err PagesError.Device) device.old device.new }
 
         // The list of entries has the new one at its place, and the pages around the tree stay.
-        ensures inserted { OnTree D.Device self.old.form self.old.root pages.old device.old
-            (λ levels. result ≡ Ok true →
-            Inserts self.old.form (pages_on D.Device pages.old device.old) levels (pages_on D.Device pages.new device.old)
-            key.now value.now (Some self.new.root)) }
-        ensures there { OnTree D.Device self.old.form self.old.root pages.old device.old
-            (λ levels. result ≡ Ok false → IsSome (entry_with (entries_of self.old.form levels) key.now)) }
-        ensures same { result ≡ Ok false → Untouched pages.old pages.new × (self.new ≡ self.old) }
-        ensures damaged { OnNoTree D.Device self.old.form self.old.root pages.old device.old (result ≡ Err PagesError.Damaged) }
-        ensures form { self.new.form ≡ self.old.form }
+        ensures inserted { OnTreeChange D.Device self.old.layout self.old.root pages.old pages.new device.old
+            (λ before levels after. result ≡ Ok true → Inserts self.old.layout before levels after key.now value.now (Some self.new.root)) }
+        ensures there { OnTree D.Device self.old.layout self.old.root pages.old device.old
+            (λ levels. result ≡ Ok false → IsSome (entry_with (entries_of self.old.layout levels) key.now)) }
+        ensures same { result ≡ Ok false → Unchanged pages.old pages.new × (self.new ≡ self.old) }
+        ensures damaged { OnNoTree D.Device self.old.layout self.old.root pages.old device.old (TellsDamaged result) }
+        ensures layout { self.new.layout ≡ self.old.layout }
         ensures refused { OnErr result (self.new ≡ self.old) }
 
         // At most so many pages are changed, whatever the answer.
-        ensures touched { OnTree D.Device self.old.form self.old.root pages.old device.old
-            (λ levels. length (touched_of pages.new) ≤ length (touched_of pages.old) + 42) }
-        ensures filled { OnTree D.Device self.old.form self.old.root pages.old device.old (λ levels. filled_of pages.new ≤ filled_of pages.old + 42) }
+        ensures changed_pages { OnTree D.Device self.old.layout self.old.root pages.old device.old (λ levels. FewChanged 42 pages.old pages.new) }
+        ensures filled { OnTree D.Device self.old.layout self.old.root pages.old device.old (λ levels. FewFilled 42 pages.old pages.new) }
         ensures committed { SameCommitted pages.old pages.new }
         ensures catalog { catalog_of pages.new ≡ catalog_of pages.old }
         ensures agrees { Agreed D.Device pages.old device.old (Agrees pages.new (D.state device.new).disk) }
         ensures open { IsOpen pages.new }
 
         // `Full` tells that each page number is used, and so that few sectors were free. `Spent` comes exactly where the map is spent.
-        ensures full { result ≡ Err PagesError.Full → HasEachPage pages.new }
-        ensures room { OnTree D.Device self.old.form self.old.root pages.old device.old
-            (λ levels. result ≡ Err PagesError.Full → free_count (committed_of pages.old) < length (touched_of pages.old) + 42) }
-        ensures spent { result ≡ Err PagesError.Spent ↔ is_spent pages.old ≡ true }
+        ensures full { FullIfUsed pages.new result }
+        ensures room { OnTree D.Device self.old.layout self.old.root pages.old device.old
+            (λ levels. result ≡ Err PagesError.Full → free_count (committed_of pages.old) < length (changed_pages_of pages.old) + 42) }
+        ensures spent { ExactlyIfSpent pages.old result }
         ensures cause { IfErr result IsInsertRefusal }
     {
         let alloc = self.alloc;
-        let form = self.form();
+        let layout = self.layout();
         let top = self.root();
         // What `Full` tells of the free sectors.
         few_free();
-        let added = insert_entry(alloc, pages, device, form, top, key, value)?;
+        let added = insert_entry(alloc, pages, device, layout, top, key, value)?;
         match added {
             Some(root) => {
                 self.set_root(root);

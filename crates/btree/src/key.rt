@@ -7,7 +7,7 @@ use std::marker::Model;
 
 /// The bytes of a key. Up to 128 of them take no allocation.
 #[derive(Drop)]
-pub(crate) struct Key {
+pub struct Key {
     bytes: SmallVec<u8, 128>,
 }
 
@@ -20,7 +20,8 @@ impl Model for Key {
 }
 
 impl Key {
-    pub(crate) fn copy(alloc: Global, bytes: &[u8]) -> Result<Key, AllocError>
+    /// A copy of these bytes.
+    pub fn copy(alloc: Global, bytes: &[u8]) -> Result<Key, AllocError>
         ensures is { IfOk result (λ key. key ≡ bytes.now) }
         ensures succeeds { length bytes.now ≤ 128 → IsOk result }
     {
@@ -29,7 +30,8 @@ impl Key {
         })
     }
 
-    pub(crate) fn bytes(&self) -> &[u8]
+    /// Its bytes.
+    pub fn bytes(&self) -> &[u8]
         ensures { result.now ≡ self.now }
     {
         self.bytes.as_slice()

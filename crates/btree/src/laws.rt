@@ -34,7 +34,7 @@ pub fn tree_stays()
 /// No page stands in a tree twice; and where no page stands twice in the pages of some trees, each has its own.
 pub fn pages_once()
     ensures tree { PagesOnce }
-    ensures parts { OnceInParts }
+    ensures nodes { OnceInParts }
 {}
 
 /// The keys of a tree's entries ascend.

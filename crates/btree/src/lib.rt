@@ -3,36 +3,37 @@
 //! Promise: each call is the operation on the ascending list of entries, and pages outside the tree stay as they are.
 #![tactic(auto)]
 
-mod check;
 mod child;
 mod clear;
 mod descend;
-mod divide;
-mod enter;
 mod entry;
-mod fate;
-mod grown;
 mod insert;
+mod insert_into_leaf;
 mod key;
 mod laws;
-mod lift;
-mod name;
-mod part;
+mod node;
+mod path_step;
+mod propagate_split;
 mod put_new;
 mod put_row;
 mod rebalance;
+mod removal_outcome;
 mod remove;
 mod replace;
-mod rise;
 mod shrink;
 mod shrink_page;
+mod split_node;
+mod split_result;
 mod step;
 mod tree;
-mod turn;
+mod update_parent;
 
+pub use descend::LEVELS;
 pub use entry::Entry;
+pub use key::Key;
 pub use laws::{
     entries_ascend, entry_of_key, entry_there, few_leaves, few_levels, levels_ascend, one_tree,
     pages_once, tree_stays,
 };
+pub use node::read_node;
 pub use tree::Tree;

@@ -1,32 +1,26 @@
 //! A new page of a tree.
-ghost use Rattle.std.specs.Prelude.{true, ◌≡◌, ◌≤◌, ◌<◌, ◌+◌, ◌++◌, ◌↔◌, Err, List, [], ◌∷◌, length, IfOk, IfErr};
-ghost use Rattle.std.specs.List.{All};
-ghost use Rattle.station.specs.Disk.{Sector};
-ghost use Rattle.pages.specs.Pages.{IsOpen, HasEachPage, is_spent, touched_of, filled_of};
-ghost use Rattle.tree_pages.specs.Form.{IsForm, row_length};
-ghost use Rattle.btree.specs.Tree.{fewest, row_of};
-ghost use Rattle.btree.specs.Moves.{Replaced};
-ghost use Rattle.btree.specs.Rises.{part_of};
-ghost use Rattle.btree.specs.Changes.{pages_of_map, Keeps};
+ghost use Rattle.std.specs.Prelude.{◌≡◌, ◌<◌, ◌+◌, ◌++◌, [], ◌∷◌, length, IfOk, IfErr};
+ghost use Rattle.pages.specs.Pages.{IsOpen, Keeps};
+ghost use Rattle.tree_pages.specs.RowLayouts.{IsRowLayout};
 ghost use Rattle.btree.specs.Refusals.{IsWriteRefusal};
+ghost use Rattle.btree.specs.Told.{ExactlyIfSpent, FullIfUsed, FewChanged, FewFilled};
+ghost use Rattle.btree.specs.Puts.{PutsNew, PutsRows, two_rows};
 
-use crate::grown::{Grown, Right};
+use crate::split_result::{Right, SplitResult};
 use pages::{PageMap, PagesError};
-use tree_pages::{Kind, TreeForm, TreePage};
+use tree_pages::{Kind, RowLayout, TreePage};
 
 /// Puts a node on a page that wasn't in the map.
 fn put_new(pages: &mut PageMap, node: TreePage) -> Result<u32, PagesError>
     requires open { IsOpen pages.old }
     ensures some { IfOk result (λ page. 0 < page) }
-    ensures pages { IfOk result (λ page. (image : List Sector) → All (λ row. length row ≡ row_length node.form node.kind) node.rows → fewest node.kind ≤ length node.rows →
-        Replaced node.form node.kind (pages_of_map pages.old image) [] (pages_of_map pages.new image) (part_of page node.rows ∷ [])) }
-    ensures touched { length (touched_of pages.new) ≤ length (touched_of pages.old) + 1 }
-    ensures filled { filled_of pages.new ≤ filled_of pages.old + 1 }
+    ensures pages { IfOk result (PutsNew pages.old pages.new node) }
+    ensures changed_pages { FewChanged 1 pages.old pages.new }
+    ensures filled { FewFilled 1 pages.old pages.new }
     ensures keeps { Keeps pages.old pages.new }
-    ensures open { IsOpen pages.new }
     ensures cause { IfErr result IsWriteRefusal }
-    ensures full { result ≡ Err PagesError.Full → HasEachPage pages.new }
-    ensures spent { (result ≡ Err PagesError.Spent) ↔ (is_spent pages.old ≡ true) }
+    ensures full { FullIfUsed pages.new result }
+    ensures spent { ExactlyIfSpent pages.old result }
 {
     // How many page numbers there are is needed below.
     let _page_count = pages.page_count();
@@ -37,62 +31,57 @@ fn put_new(pages: &mut PageMap, node: TreePage) -> Result<u32, PagesError>
 }
 
 /// The first page of a tree: a leaf with one row.
-#[tactic(auto, using(crate::proofs::Dividing::three_fit))]
-pub(crate) fn plant(
+#[tactic(auto, using(crate::proofs::SplitNodes::three_fit))]
+pub(crate) fn first_leaf(
     pages: &mut PageMap,
-    form: TreeForm,
+    layout: RowLayout,
     key: &[u8],
     value: &[u8],
 ) -> Result<u32, PagesError>
     requires open { IsOpen pages.old }
-    requires form { IsForm form }
-    requires key { length key.now ≡ form.key_length }
-    requires value { length value.now ≡ form.value_length }
+    requires layout { IsRowLayout layout }
+    requires key { length key.now ≡ layout.key_length }
+    requires value { length value.now ≡ layout.value_length }
     ensures some { IfOk result (λ page. 0 < page) }
-    ensures pages { IfOk result (λ page. (image : List Sector) →
-        Replaced form Kind.Leaf (pages_of_map pages.old image) [] (pages_of_map pages.new image) (part_of page ((key.now ++ value.now) ∷ []) ∷ [])) }
-    ensures touched { length (touched_of pages.new) ≤ length (touched_of pages.old) + 1 }
-    ensures filled { filled_of pages.new ≤ filled_of pages.old + 1 }
+    ensures pages { IfOk result (PutsRows layout Kind.Leaf pages.old pages.new ((key.now ++ value.now) ∷ [])) }
+    ensures changed_pages { FewChanged 1 pages.old pages.new }
+    ensures filled { FewFilled 1 pages.old pages.new }
     ensures keeps { Keeps pages.old pages.new }
-    ensures open { IsOpen pages.new }
     ensures cause { IfErr result IsWriteRefusal }
-    ensures full { result ≡ Err PagesError.Full → HasEachPage pages.new }
-    ensures spent { (result ≡ Err PagesError.Spent) ↔ (is_spent pages.old ≡ true) }
+    ensures full { FullIfUsed pages.new result }
+    ensures spent { ExactlyIfSpent pages.old result }
 {
-    let mut leaf = TreePage::new(form, Kind::Leaf);
+    let mut leaf = TreePage::new(layout, Kind::Leaf);
     leaf.insert(0, key, value);
     let page = put_new(pages, leaf)?;
     Ok(page)
 }
 
 /// A page above a page and its new neighbour, which names both.
-#[tactic(auto, using(crate::proofs::Dividing::three_fit))]
-pub(crate) fn crown(
+#[tactic(auto, using(crate::proofs::SplitNodes::three_fit))]
+pub(crate) fn new_root(
     pages: &mut PageMap,
-    form: TreeForm,
-    grown: &Grown,
+    layout: RowLayout,
+    split: &SplitResult,
     right: &Right,
 ) -> Result<u32, PagesError>
     requires open { IsOpen pages.old }
-    requires form { IsForm form }
-    requires left_form { grown.now.left.form ≡ form }
-    requires left_some { 0 < length grown.now.left.rows }
-    requires right_form { right.now.node.form ≡ form }
+    requires layout { IsRowLayout layout }
+    requires left_layout { split.now.left.layout ≡ layout }
+    requires left_some { 0 < length split.now.left.rows }
+    requires right_layout { right.now.node.layout ≡ layout }
     requires right_some { 0 < length right.now.node.rows }
     ensures some { IfOk result (λ page. 0 < page) }
-    ensures pages { IfOk result (λ page. (image : List Sector) →
-        Replaced form Kind.Inner (pages_of_map pages.old image) [] (pages_of_map pages.new image)
-        (part_of page (row_of form (part_of grown.now.page grown.now.left.rows) ∷ row_of form (part_of right.now.page right.now.node.rows) ∷ []) ∷ [])) }
-    ensures touched { length (touched_of pages.new) ≤ length (touched_of pages.old) + 1 }
-    ensures filled { filled_of pages.new ≤ filled_of pages.old + 1 }
+    ensures pages { IfOk result (PutsRows layout Kind.Inner pages.old pages.new (two_rows layout split.now right.now)) }
+    ensures changed_pages { FewChanged 1 pages.old pages.new }
+    ensures filled { FewFilled 1 pages.old pages.new }
     ensures keeps { Keeps pages.old pages.new }
-    ensures open { IsOpen pages.new }
     ensures cause { IfErr result IsWriteRefusal }
-    ensures full { result ≡ Err PagesError.Full → HasEachPage pages.new }
-    ensures spent { (result ≡ Err PagesError.Spent) ↔ (is_spent pages.old ≡ true) }
+    ensures full { FullIfUsed pages.new result }
+    ensures spent { ExactlyIfSpent pages.old result }
 {
-    let mut top = TreePage::new(form, Kind::Inner);
-    top.insert_child(0, grown.left.key(0), grown.page);
+    let mut top = TreePage::new(layout, Kind::Inner);
+    top.insert_child(0, split.left.key(0), split.page);
     top.insert_child(1, right.node.key(0), right.page);
     let page = put_new(pages, top)?;
     Ok(page)

@@ -1,17 +1,15 @@
 //! A row comes into a page.
-ghost use Rattle.std.specs.Prelude.{true, ◌≡◌, ◌≤◌, ◌<◌, ◌+◌, ◌++◌, ◌↔◌, Err, List, [], ◌∷◌, length, IfOk, IfErr};
+ghost use Rattle.std.specs.Prelude.{◌≡◌, ◌≤◌, ◌<◌, ◌+◌, ◌++◌, length, IfOk, IfErr};
 ghost use Rattle.std.specs.List.{insert};
-ghost use Rattle.station.specs.Disk.{Sector};
-ghost use Rattle.pages.specs.Pages.{IsOpen, IsPage, HasEachPage, is_spent, touched_of, filled_of};
-ghost use Rattle.tree_pages.specs.Form.{rest_length, capacity};
-ghost use Rattle.btree.specs.Tree.{rows_of};
-ghost use Rattle.btree.specs.Moves.{Replaced};
-ghost use Rattle.btree.specs.Rises.{part_of, run_of};
-ghost use Rattle.btree.specs.Changes.{pages_of_map, CanTake, Keeps, IsGrown};
+ghost use Rattle.pages.specs.Pages.{IsOpen, IsPage, Keeps};
+ghost use Rattle.tree_pages.specs.RowLayouts.{rest_length, capacity};
+ghost use Rattle.btree.specs.Changes.{CanTake, IsSplit};
 ghost use Rattle.btree.specs.Refusals.{IsPutRefusal, IsWriteRefusal};
+ghost use Rattle.btree.specs.Told.{ExactlyIfSpent, FullIfUsed, FewChanged, FewFilled};
+ghost use Rattle.btree.specs.Puts.{PutsWhere, HasInserted};
 
-use crate::divide::divide;
-use crate::grown::{Grown, Right};
+use crate::split_node::split_node;
+use crate::split_result::{Right, SplitResult};
 use pages::{PageMap, PagesError};
 use tree_pages::TreePage;
 
@@ -23,23 +21,21 @@ pub(crate) fn put_row(
     place: usize,
     key: &[u8],
     rest: &[u8],
-) -> Result<Grown, PagesError>
+) -> Result<SplitResult, PagesError>
     requires open { IsOpen pages.old }
     requires page { IsPage pages.old page }
     requires place { place ≤ length node.rows }
-    requires key { length key.now ≡ node.form.key_length }
-    requires rest { length rest.now ≡ rest_length node.form node.kind }
-    ensures rows { IfOk result (λ grown. rows_of (run_of grown) ≡ insert node.rows place (key.now ++ rest.now)) }
-    ensures pages { IfOk result (λ grown. (image : List Sector) → CanTake (pages_of_map pages.old image) page node →
-        Replaced node.form node.kind (pages_of_map pages.old image) (part_of page node.rows ∷ []) (pages_of_map pages.new image) (run_of grown)) }
-    ensures grown { IfOk result (λ grown. IsGrown page node grown) }
-    ensures touched { length (touched_of pages.new) ≤ length (touched_of pages.old) + 2 }
-    ensures filled { filled_of pages.new ≤ filled_of pages.old + 2 }
+    requires key { length key.now ≡ node.layout.key_length }
+    requires rest { length rest.now ≡ rest_length node.layout node.kind }
+    ensures rows { IfOk result (HasInserted node.rows place (key.now ++ rest.now)) }
+    ensures pages { IfOk result (PutsWhere CanTake pages.old pages.new page node) }
+    ensures split { IfOk result (λ split. IsSplit page node split) }
+    ensures changed_pages { FewChanged 2 pages.old pages.new }
+    ensures filled { FewFilled 2 pages.old pages.new }
     ensures keeps { Keeps pages.old pages.new }
-    ensures open { IsOpen pages.new }
     ensures cause { IfErr result IsWriteRefusal }
-    ensures full { result ≡ Err PagesError.Full → HasEachPage pages.new }
-    ensures spent { (result ≡ Err PagesError.Spent) ↔ (is_spent pages.old ≡ true) }
+    ensures full { FullIfUsed pages.new result }
+    ensures spent { ExactlyIfSpent pages.old result }
 {
     if node.is_full() {
         put_in_two(pages, page, node, place, key, rest)
@@ -56,28 +52,26 @@ fn put_in_one(
     place: usize,
     key: &[u8],
     rest: &[u8],
-) -> Result<Grown, PagesError>
+) -> Result<SplitResult, PagesError>
     requires open { IsOpen pages.old }
     requires page { IsPage pages.old page }
-    requires room { length node.rows < capacity node.form node.kind }
+    requires room { length node.rows < capacity node.layout node.kind }
     requires place { place ≤ length node.rows }
-    requires key { length key.now ≡ node.form.key_length }
-    requires rest { length rest.now ≡ rest_length node.form node.kind }
-    ensures rows { IfOk result (λ grown. rows_of (run_of grown) ≡ insert node.rows place (key.now ++ rest.now)) }
-    ensures pages { IfOk result (λ grown. (image : List Sector) → CanTake (pages_of_map pages.old image) page node →
-        Replaced node.form node.kind (pages_of_map pages.old image) (part_of page node.rows ∷ []) (pages_of_map pages.new image) (run_of grown)) }
-    ensures grown { IfOk result (λ grown. IsGrown page node grown) }
-    ensures touched { length (touched_of pages.new) ≤ length (touched_of pages.old) + 1 }
-    ensures filled { filled_of pages.new ≤ filled_of pages.old + 1 }
+    requires key { length key.now ≡ node.layout.key_length }
+    requires rest { length rest.now ≡ rest_length node.layout node.kind }
+    ensures rows { IfOk result (HasInserted node.rows place (key.now ++ rest.now)) }
+    ensures pages { IfOk result (PutsWhere CanTake pages.old pages.new page node) }
+    ensures split { IfOk result (λ split. IsSplit page node split) }
+    ensures changed_pages { FewChanged 1 pages.old pages.new }
+    ensures filled { FewFilled 1 pages.old pages.new }
     ensures keeps { Keeps pages.old pages.new }
-    ensures open { IsOpen pages.new }
     ensures cause { IfErr result IsPutRefusal }
-    ensures spent { (result ≡ Err PagesError.Spent) ↔ (is_spent pages.old ≡ true) }
+    ensures spent { ExactlyIfSpent pages.old result }
 {
     node.insert(place, key, rest);
     let spelled = node.bytes();
     pages.edit(page, &spelled)?;
-    Ok(Grown {
+    Ok(SplitResult {
         page,
         left: node,
         right: None,
@@ -92,35 +86,33 @@ fn put_in_two(
     place: usize,
     key: &[u8],
     rest: &[u8],
-) -> Result<Grown, PagesError>
+) -> Result<SplitResult, PagesError>
     requires open { IsOpen pages.old }
     requires page { IsPage pages.old page }
-    requires full { capacity node.form node.kind ≤ length node.rows }
+    requires full { capacity node.layout node.kind ≤ length node.rows }
     requires place { place ≤ length node.rows }
-    requires key { length key.now ≡ node.form.key_length }
-    requires rest { length rest.now ≡ rest_length node.form node.kind }
-    ensures rows { IfOk result (λ grown. rows_of (run_of grown) ≡ insert node.rows place (key.now ++ rest.now)) }
-    ensures pages { IfOk result (λ grown. (image : List Sector) → CanTake (pages_of_map pages.old image) page node →
-        Replaced node.form node.kind (pages_of_map pages.old image) (part_of page node.rows ∷ []) (pages_of_map pages.new image) (run_of grown)) }
-    ensures grown { IfOk result (λ grown. IsGrown page node grown) }
-    ensures touched { length (touched_of pages.new) ≤ length (touched_of pages.old) + 2 }
-    ensures filled { filled_of pages.new ≤ filled_of pages.old + 2 }
+    requires key { length key.now ≡ node.layout.key_length }
+    requires rest { length rest.now ≡ rest_length node.layout node.kind }
+    ensures rows { IfOk result (HasInserted node.rows place (key.now ++ rest.now)) }
+    ensures pages { IfOk result (PutsWhere CanTake pages.old pages.new page node) }
+    ensures split { IfOk result (λ split. IsSplit page node split) }
+    ensures changed_pages { FewChanged 2 pages.old pages.new }
+    ensures filled { FewFilled 2 pages.old pages.new }
     ensures keeps { Keeps pages.old pages.new }
-    ensures open { IsOpen pages.new }
     ensures cause { IfErr result IsWriteRefusal }
-    ensures full { result ≡ Err PagesError.Full → HasEachPage pages.new }
-    ensures spent { (result ≡ Err PagesError.Spent) ↔ (is_spent pages.old ≡ true) }
+    ensures full { FullIfUsed pages.new result }
+    ensures spent { ExactlyIfSpent pages.old result }
 {
-    // What these two tell is needed below: the page's form is sound, and how many page numbers there are.
+    // What these two tell is needed below: the page's layout is sound, and how many page numbers there are.
     let _count = node.count();
     let _page_count = pages.page_count();
     let new = pages.allocate()?;
-    let right = divide(&mut node, place, key, rest);
+    let right = split_node(&mut node, place, key, rest);
     let lower = node.bytes();
     pages.edit(page, &lower)?;
     let upper = right.bytes();
     pages.edit(new, &upper)?;
-    Ok(Grown {
+    Ok(SplitResult {
         page,
         left: node,
         right: Some(Right {

@@ -1,21 +1,18 @@
 //! Another value for an entry.
-ghost use Rattle.std.specs.Prelude.{◌≡◌, ◌≢◌, ◌≤◌, ◌<◌, ◌+◌, ◌++◌, ◌↔◌, Err, Ok, true, false, None, List, [], ◌∷◌, length, slice_index_or, slice_set, IsSome, IfErr, OnOk};
-ghost use Rattle.station.specs.Disk.{Sector};
+ghost use Rattle.std.specs.Prelude.{◌≡◌, ◌≤◌, ◌<◌, Err, Ok, true, false, None, length, IsSome, IfErr, OnOk};
 ghost use Rattle.station.specs.Calls.{OnlyReads};
-ghost use Rattle.pages.specs.Pages.{IsOpen, Agrees, SameCommitted, is_spent, catalog_of, sectors_of, touched_of, filled_of};
-ghost use Rattle.tree_pages.specs.Form.{rest_length};
-ghost use Rattle.tree_pages.specs.Keys.{key_of};
+ghost use Rattle.pages.specs.Pages.{IsOpen, Agrees, SameCommitted, catalog_of, sectors_of, Keeps, Unchanged};
+ghost use Rattle.tree_pages.specs.RowLayouts.{rest_length};
 ghost use Rattle.btree.specs.Entries.{entries_of, entry_with, with_value};
-ghost use Rattle.btree.specs.Reading.{Untouched};
-ghost use Rattle.btree.specs.Moves.{Replaced};
-ghost use Rattle.btree.specs.Rises.{part_of};
-ghost use Rattle.btree.specs.Changes.{pages_of_map, IsIn, CanStand, Keeps, Becomes};
+ghost use Rattle.btree.specs.Changes.{Becomes};
 ghost use Rattle.btree.specs.Refusals.{IsRestRefusal, IsChangeRefusal};
-ghost use Rattle.btree.specs.Calls.{Agreed, OnNoTree, OnTree, pages_on};
+ghost use Rattle.btree.specs.Calls.{Agreed, OnNoTree, OnTree, OnTreeChange};
+ghost use Rattle.btree.specs.Told.{TellsDamaged, OnlyIfSpent, ExactlyIfSpentAt, FewChanged, FewFilled};
+ghost use Rattle.btree.specs.Puts.{PutsRest, NeverIn};
 
 use crate::descend::descend;
-use crate::lift::put_back;
 use crate::tree::Tree;
+use crate::update_parent::put_back;
 use pages::{PageMap, PagesError};
 use station::Device;
 use tree_pages::TreePage;
@@ -30,17 +27,14 @@ fn put_rest(
 ) -> Result<(), PagesError>
     requires open { IsOpen pages.old }
     requires place { place < length node.rows }
-    requires rest { length rest.now ≡ rest_length node.form node.kind }
-    ensures pages { OnOk result ((image : List Sector) → CanStand (pages_of_map pages.old image) page node →
-        Replaced node.form node.kind (pages_of_map pages.old image) (part_of page node.rows ∷ []) (pages_of_map pages.new image)
-        (part_of page (slice_set node.rows place (key_of node.form (slice_index_or node.rows place []) ++ rest.now)) ∷ [])) }
-    ensures touched { length (touched_of pages.new) ≤ length (touched_of pages.old) + 1 }
-    ensures filled { filled_of pages.new ≤ filled_of pages.old + 1 }
+    requires rest { length rest.now ≡ rest_length node.layout node.kind }
+    ensures pages { OnOk result (PutsRest pages.old pages.new page node place rest.now) }
+    ensures changed_pages { FewChanged 1 pages.old pages.new }
+    ensures filled { FewFilled 1 pages.old pages.new }
     ensures keeps { Keeps pages.old pages.new }
-    ensures open { IsOpen pages.new }
-    ensures damaged { result ≡ Err PagesError.Damaged → (image : List Sector) → 0 < page → IsIn (pages_of_map pages.old image) page → ⊥ }
+    ensures damaged { NeverIn pages.old page (TellsDamaged result) }
     ensures cause { IfErr result IsRestRefusal }
-    ensures spent { result ≡ Err PagesError.Spent → is_spent pages.old ≡ true }
+    ensures spent { OnlyIfSpent pages.old result }
 {
     if page == 0 {
         return Err(PagesError::Damaged);
@@ -65,36 +59,33 @@ impl Tree {
     ) -> Result<bool, PagesError>
         requires open { IsOpen pages.old }
         requires sectors { sectors_of pages.old ≤ D.sectors device.old }
-        requires value { length value.now ≡ self.old.form.value_length }
+        requires value { length value.now ≡ self.old.layout.value_length }
         ensures only { OnlyReads D.Device (result ≡ Err PagesError.Device) device.old device.new }
 
         // The entry of the key has the new value, and the pages around the tree stay.
-        ensures replaced { OnTree D.Device self.old.form self.old.root pages.old device.old
-            (λ levels. result ≡ Ok true →
-            IsSome (entry_with (entries_of self.old.form levels) key.now) ×
-            Becomes self.old.form (pages_on D.Device pages.old device.old) levels (pages_on D.Device pages.new device.old) self.old.root
-            (with_value (entries_of self.old.form levels) (record { key = key.now; value = value.now }))) }
-        ensures missing { OnTree D.Device self.old.form self.old.root pages.old device.old
-            (λ levels. result ≡ Ok false → entry_with (entries_of self.old.form levels) key.now ≡ None) }
-        ensures same { result ≡ Ok false → Untouched pages.old pages.new }
-        ensures damaged { OnNoTree D.Device self.old.form self.old.root pages.old device.old (result ≡ Err PagesError.Damaged) }
+        ensures replaced { OnTreeChange D.Device self.old.layout self.old.root pages.old pages.new device.old
+            (λ before levels after. result ≡ Ok true → IsSome (entry_with (entries_of self.old.layout levels) key.now) × Becomes self.old.layout before levels after self.old.root (with_value (entries_of self.old.layout levels) (record { key = key.now; value = value.now }))) }
+        ensures missing { OnTree D.Device self.old.layout self.old.root pages.old device.old
+            (λ levels. result ≡ Ok false → entry_with (entries_of self.old.layout levels) key.now ≡ None) }
+        ensures same { result ≡ Ok false → Unchanged pages.old pages.new }
+        ensures damaged { OnNoTree D.Device self.old.layout self.old.root pages.old device.old (TellsDamaged result) }
         ensures tree { self.new ≡ self.old }
-        ensures touched { length (touched_of pages.new) ≤ length (touched_of pages.old) + 1 }
-        ensures filled { filled_of pages.new ≤ filled_of pages.old + 1 }
+        ensures changed_pages { FewChanged 1 pages.old pages.new }
+        ensures filled { FewFilled 1 pages.old pages.new }
         ensures committed { SameCommitted pages.old pages.new }
         ensures catalog { catalog_of pages.new ≡ catalog_of pages.old }
         ensures agrees { Agreed D.Device pages.old device.old (Agrees pages.new (D.state device.new).disk) }
         ensures open { IsOpen pages.new }
-        ensures spent { result ≡ Err PagesError.Spent ↔ ((is_spent pages.old ≡ true) × (self.old.root ≢ 0)) }
+        ensures spent { ExactlyIfSpentAt self.old.root pages.old result }
         ensures cause { IfErr result IsChangeRefusal }
     {
         let alloc = self.alloc;
-        let form = self.form();
+        let layout = self.layout();
         let top = self.root();
         if top == 0 {
             return Ok(false);
         }
-        let descent = descend(alloc, pages, device, form, top, key)?;
+        let descent = descend(alloc, pages, device, layout, top, key)?;
         let place = match descent.leaf.find(key) {
             Ok(place) => place,
             Err(_) => return Ok(false),

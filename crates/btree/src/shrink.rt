@@ -1,92 +1,89 @@
 //! A removal goes up from a leaf, along the way that led down to it.
-ghost use Rattle.std.specs.Prelude.{true, ◌≡◌, ◌≤◌, ◌+◌, ◌*◌, ◌↔◌, Err, length, IfOk, IfErr};
+ghost use Rattle.std.specs.Prelude.{◌≡◌, ◌≤◌, ◌+◌, ◌*◌, Err, length, IfOk, IfErr};
 ghost use Rattle.station.specs.Calls.{OnlyReads};
-ghost use Rattle.pages.specs.Pages.{IsOpen, Agrees, SameCommitted, is_spent, catalog_of, sectors_of, touched_of, filled_of};
-ghost use Rattle.tree_pages.specs.Form.{IsForm};
-ghost use Rattle.btree.specs.Fates.{Fits, spare};
+ghost use Rattle.pages.specs.Pages.{IsOpen, Agrees, SameCommitted, catalog_of, sectors_of, changed_pages_of, filled_of};
+ghost use Rattle.tree_pages.specs.RowLayouts.{IsRowLayout};
+ghost use Rattle.btree.specs.Outcomes.{Fits, spare};
 ghost use Rattle.btree.specs.Shrinks.{ShrinksBy, NeverShrinks, ShrinksOn, NeverShrinksOn};
 ghost use Rattle.btree.specs.Refusals.{IsChangeRefusal};
-ghost use Rattle.btree.specs.Calls.{Agreed, pages_on};
+ghost use Rattle.btree.specs.Calls.{Agreed, OnPages, OnChange};
+ghost use Rattle.btree.specs.Told.{OnlyIfSpent};
 
-use crate::fate::Fate;
-use crate::part::read_part;
+use crate::node::read_node;
+use crate::path_step::PathStep;
 use crate::rebalance::rebalance_at;
+use crate::removal_outcome::RemovalOutcome;
 use crate::shrink_page::{lose_at, rename_at};
-use crate::turn::Turn;
 use pages::{PageMap, PagesError};
 use station::Device;
-use tree_pages::TreeForm;
+use tree_pages::RowLayout;
 
-/// Tells the pages on the way, from its end on, what became of the page below each: of the leaf at the end became `fate`. The answer
+/// Tells the pages on the way, from its end on, what became of the page below each: of the leaf at the end became `outcome`. The answer
 /// is what became of the page at the beginning.
 pub(crate) fn shrink<D: Device>(
     pages: &mut PageMap,
     device: &mut D,
-    form: TreeForm,
-    path: &[Turn],
-    fate: Fate,
-) -> Result<Fate, PagesError>
+    layout: RowLayout,
+    path: &[PathStep],
+    outcome: RemovalOutcome,
+) -> Result<RemovalOutcome, PagesError>
     requires open { IsOpen pages.old }
     requires sectors { sectors_of pages.old ≤ D.sectors device.old }
-    requires form { IsForm form }
-    requires fits { Fits form fate }
+    requires layout { IsRowLayout layout }
+    requires fits { Fits layout outcome }
     ensures only { OnlyReads D.Device (result ≡ Err PagesError.Device) device.old device.new }
-    ensures shrinks { Agreed D.Device pages.old device.old
-        (IfOk result (ShrinksBy form path.now (pages_on D.Device pages.old device.old) (pages_on D.Device pages.new device.old) fate)) }
-    ensures damaged { Agreed D.Device pages.old device.old
-        (result ≡ Err PagesError.Damaged → NeverShrinks form path.now (pages_on D.Device pages.old device.old) fate) }
-    ensures fits { IfOk result (Fits form) }
-    ensures touched { IfOk result (λ up. length (touched_of pages.new) + spare up ≤ length (touched_of pages.old) + spare fate + 2 * length path.now) }
-    ensures filled { IfOk result (λ up. filled_of pages.new + spare up ≤ filled_of pages.old + spare fate + 2 * length path.now) }
+    ensures shrinks { OnChange D.Device pages.old pages.new device.old (λ before after. IfOk result (ShrinksBy layout path.now before after outcome)) }
+    ensures damaged { OnPages D.Device pages.old device.old (λ before. result ≡ Err PagesError.Damaged → NeverShrinks layout path.now before outcome) }
+    ensures fits { IfOk result (Fits layout) }
+    ensures changed_pages { IfOk result (λ up. length (changed_pages_of pages.new) + spare up ≤ length (changed_pages_of pages.old) + spare outcome + 2 * length path.now) }
+    ensures filled { IfOk result (λ up. filled_of pages.new + spare up ≤ filled_of pages.old + spare outcome + 2 * length path.now) }
     ensures committed { SameCommitted pages.old pages.new }
     ensures catalog { catalog_of pages.new ≡ catalog_of pages.old }
     ensures agrees { Agreed D.Device pages.old device.old (Agrees pages.new (D.state device.new).disk) }
     ensures open { IsOpen pages.new }
-    ensures spent { result ≡ Err PagesError.Spent → is_spent pages.old ≡ true }
+    ensures spent { OnlyIfSpent pages.old result }
     ensures cause { IfErr result IsChangeRefusal }
 {
-    let (turn, rest) = match path.split_first() {
+    let (step, rest) = match path.split_first() {
         Some(pair) => pair,
-        None => return Ok(fate),
+        None => return Ok(outcome),
     };
-    match shrink(pages, device, form, rest, fate)? {
-        Fate::Kept => Ok(Fate::Kept),
-        below => shrink_at(pages, device, form, *turn, below),
+    match shrink(pages, device, layout, rest, outcome)? {
+        RemovalOutcome::Kept => Ok(RemovalOutcome::Kept),
+        below => shrink_at(pages, device, layout, *step, below),
     }
 }
 
-/// The page at a turn learns what became of the child that the turn led to.
+/// The page at a step learns what became of the child that the step led to.
 fn shrink_at<D: Device>(
     pages: &mut PageMap,
     device: &mut D,
-    form: TreeForm,
-    turn: Turn,
-    below: Fate,
-) -> Result<Fate, PagesError>
+    layout: RowLayout,
+    step: PathStep,
+    below: RemovalOutcome,
+) -> Result<RemovalOutcome, PagesError>
     requires open { IsOpen pages.old }
     requires sectors { sectors_of pages.old ≤ D.sectors device.old }
-    requires form { IsForm form }
-    requires fits { Fits form below }
+    requires layout { IsRowLayout layout }
+    requires fits { Fits layout below }
     ensures only { OnlyReads D.Device (result ≡ Err PagesError.Device) device.old device.new }
-    ensures shrinks { Agreed D.Device pages.old device.old
-        (IfOk result (ShrinksOn form turn (pages_on D.Device pages.old device.old) (pages_on D.Device pages.new device.old) below)) }
-    ensures damaged { Agreed D.Device pages.old device.old
-        (result ≡ Err PagesError.Damaged → NeverShrinksOn form turn (pages_on D.Device pages.old device.old) below) }
-    ensures fits { IfOk result (Fits form) }
-    ensures touched { IfOk result (λ up. length (touched_of pages.new) + spare up ≤ length (touched_of pages.old) + spare below + 2) }
+    ensures shrinks { OnChange D.Device pages.old pages.new device.old (λ before after. IfOk result (ShrinksOn layout step before after below)) }
+    ensures damaged { OnPages D.Device pages.old device.old (λ before. result ≡ Err PagesError.Damaged → NeverShrinksOn layout step before below) }
+    ensures fits { IfOk result (Fits layout) }
+    ensures changed_pages { IfOk result (λ up. length (changed_pages_of pages.new) + spare up ≤ length (changed_pages_of pages.old) + spare below + 2) }
     ensures filled { IfOk result (λ up. filled_of pages.new + spare up ≤ filled_of pages.old + spare below + 2) }
     ensures committed { SameCommitted pages.old pages.new }
     ensures catalog { catalog_of pages.new ≡ catalog_of pages.old }
     ensures agrees { Agreed D.Device pages.old device.old (Agrees pages.new (D.state device.new).disk) }
     ensures open { IsOpen pages.new }
-    ensures spent { result ≡ Err PagesError.Spent → is_spent pages.old ≡ true }
+    ensures spent { OnlyIfSpent pages.old result }
     ensures cause { IfErr result IsChangeRefusal }
 {
-    let node = read_part(pages, device, form, turn.page)?;
+    let node = read_node(pages, device, layout, step.page)?;
     match below {
-        Fate::Kept => Ok(Fate::Kept),
-        Fate::Renamed(child) => rename_at(pages, turn, node, &child),
-        Fate::Gone => lose_at(pages, turn, node),
-        Fate::Underfull(child) => rebalance_at(pages, device, form, turn, node, child),
+        RemovalOutcome::Kept => Ok(RemovalOutcome::Kept),
+        RemovalOutcome::Renamed(child) => rename_at(pages, step, node, &child),
+        RemovalOutcome::Gone => lose_at(pages, step, node),
+        RemovalOutcome::Underfull(child) => rebalance_at(pages, device, layout, step, node, child),
     }
 }

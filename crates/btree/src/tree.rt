@@ -1,14 +1,15 @@
 //! A tree, and what is read of it.
-ghost use Rattle.std.specs.Prelude.{true, ◌≡◌, ◌≢◌, ◌≤◌, ◌↔◌, ◌++◌, Err, Some, None, ℕ, List, [], drop, IfOk, IfErr, IfSome};
+ghost use Rattle.std.specs.Prelude.{◌≡◌, ◌≤◌, ◌++◌, Err, Some, None, ℕ, List, drop, IfOk, IfErr, IfSome};
 ghost use Rattle.station.specs.Calls.{OnlyReads};
-ghost use Rattle.pages.specs.Pages.{is_spent, sectors_of, Agrees, IsOpen};
-ghost use Rattle.tree_pages.specs.Form.{IsForm};
+ghost use Rattle.pages.specs.Pages.{sectors_of, Agrees, IsOpen, Unchanged};
+ghost use Rattle.tree_pages.specs.RowLayouts.{IsRowLayout};
 ghost use Rattle.tree_pages.specs.Node.{IsNode};
-ghost use Rattle.btree.specs.Tree.{Part, IsTree, rows_in_order};
+ghost use Rattle.btree.specs.Tree.{TreeNode, IsTree, rows_in_order};
 ghost use Rattle.btree.specs.Path.{first_key};
-ghost use Rattle.btree.specs.Entries.{HasLengths, entries_of, entry_with, first_from, first_after, first_entry, listed};
-ghost use Rattle.btree.specs.Reading.{Untouched, IsRefusal};
-ghost use Rattle.btree.specs.Calls.{Agreed, OnNoTree, OnTree, pages_on};
+ghost use Rattle.btree.specs.Entries.{HasLengths, entry_with, first_from, first_after, first_entry, listed};
+ghost use Rattle.btree.specs.Reading.{IsRefusal};
+ghost use Rattle.btree.specs.Calls.{Agreed, OnNoTree, OnPages, AnswersEntry};
+ghost use Rattle.btree.specs.Told.{TellsDamaged, OnlyIfSpent, ExactlyIfSpentAt};
 
 use crate::descend::{Descent, descend};
 use crate::entry::Entry;
@@ -16,7 +17,7 @@ use pages::{PageMap, PagesError};
 use station::Device;
 use std::alloc::Global;
 use std::marker::Model;
-use tree_pages::{Kind, MOST_ROW_BYTES, TreeForm};
+use tree_pages::{Kind, MOST_ROW_BYTES, RowLayout};
 
 /// A key of zeros, which is below each other one.
 const ZEROS: [u8; MOST_ROW_BYTES] = [0; MOST_ROW_BYTES];
@@ -26,37 +27,41 @@ const ZEROS: [u8; MOST_ROW_BYTES] = [0; MOST_ROW_BYTES];
 #[derive(Drop)]
 pub struct Tree {
     pub(crate) alloc: Global,
-    pub(crate) form: TreeForm,
+    pub(crate) layout: RowLayout,
     pub(crate) root: u32,
 }
 
 impl Model for Tree {
-    ghost use Rattle.tree_pages.specs.Form.{IsForm};
+    ghost use Rattle.tree_pages.specs.RowLayouts.{IsRowLayout};
     ghost use Rattle.btree.specs.Rooted.{Rooted};
 
     ghost Value = { Rooted };
 
-    ghost view = { λ tree. record { form = tree.form; root = tree.root } };
+    ghost view = { λ tree. record { layout = tree.layout; root = tree.root } };
 
-    ghost invariant = { λ tree. IsForm tree.form };
+    ghost invariant = { λ tree. IsRowLayout tree.layout };
 }
 
 impl Tree {
     /// The tree with that root page. Nothing is read.
-    pub fn new(alloc: Global, form: TreeForm, root: u32) -> Tree
-        requires { IsForm form }
-        ensures form { result.form ≡ form }
+    pub fn new(alloc: Global, layout: RowLayout, root: u32) -> Tree
+        requires { IsRowLayout layout }
+        ensures layout { result.layout ≡ layout }
         ensures root { result.root ≡ root }
     {
-        Tree { alloc, form, root }
+        Tree {
+            alloc,
+            layout,
+            root,
+        }
     }
 
     /// The lengths of its keys and values, in bytes.
-    pub fn form(&self) -> TreeForm
-        ensures is { result ≡ self.now.form }
-        ensures form { IsForm result }
+    pub fn layout(&self) -> RowLayout
+        ensures is { result ≡ self.now.layout }
+        ensures layout { IsRowLayout result }
     {
-        self.form
+        self.layout
     }
 
     /// The page of its root, 0 where it has no entries.
@@ -66,7 +71,7 @@ impl Tree {
         self.root
     }
 
-    /// The entry of a key, if it is there. Whatever the pages hold, its key and value have the lengths of the form. `Damaged` tells
+    /// The entry of a key, if it is there. Whatever the pages hold, its key and value have the lengths of the layout. `Damaged` tells
     /// that the pages under the root are no tree, `Memory` comes only where keys are longer than 128 bytes.
     pub fn get<D: Device>(
         &self,
@@ -77,20 +82,19 @@ impl Tree {
         requires open { IsOpen pages.old }
         requires sectors { sectors_of pages.old ≤ D.sectors device.old }
         ensures only { OnlyReads D.Device (result ≡ Err PagesError.Device) device.old device.new }
-        ensures untouched { Untouched pages.old pages.new }
+        ensures unchanged { Unchanged pages.old pages.new }
         ensures agrees { Agreed D.Device pages.old device.old (Agrees pages.new (D.state device.new).disk) }
         ensures open { IsOpen pages.new }
-        ensures entry { OnTree D.Device self.now.form self.now.root pages.old device.old
-            (λ levels. IfOk result (λ entry. entry ≡ entry_with (entries_of self.now.form levels) key.now)) }
-        ensures damaged { OnNoTree D.Device self.now.form self.now.root pages.old device.old (result ≡ Err PagesError.Damaged) }
-        ensures spent { result ≡ Err PagesError.Spent ↔ ((is_spent pages.old ≡ true) × (self.now.root ≢ 0)) }
-        ensures lengths { IfOk result (λ entry. IfSome entry (HasLengths self.now.form)) }
-        ensures cause { IfErr result (IsRefusal self.now.form) }
+        ensures entry { AnswersEntry D.Device self.now pages.old device.old (λ entries. entry_with entries key.now) result }
+        ensures damaged { OnNoTree D.Device self.now.layout self.now.root pages.old device.old (TellsDamaged result) }
+        ensures spent { ExactlyIfSpentAt self.now.root pages.old result }
+        ensures lengths { IfOk result (λ entry. IfSome entry (HasLengths self.now.layout)) }
+        ensures cause { IfErr result (IsRefusal self.now.layout) }
     {
         if self.root == 0 {
             return Ok(None);
         }
-        let descent = descend(self.alloc, pages, device, self.form, self.root, key)?;
+        let descent = descend(self.alloc, pages, device, self.layout, self.root, key)?;
         match descent.leaf.find(key) {
             Ok(place) => Ok(Some(Entry::at(descent.leaf, place))),
             Err(_) => Ok(None),
@@ -107,20 +111,19 @@ impl Tree {
         requires open { IsOpen pages.old }
         requires sectors { sectors_of pages.old ≤ D.sectors device.old }
         ensures only { OnlyReads D.Device (result ≡ Err PagesError.Device) device.old device.new }
-        ensures untouched { Untouched pages.old pages.new }
+        ensures unchanged { Unchanged pages.old pages.new }
         ensures agrees { Agreed D.Device pages.old device.old (Agrees pages.new (D.state device.new).disk) }
         ensures open { IsOpen pages.new }
-        ensures entry { OnTree D.Device self.now.form self.now.root pages.old device.old
-            (λ levels. IfOk result (λ entry. entry ≡ first_from (entries_of self.now.form levels) key.now)) }
-        ensures damaged { OnNoTree D.Device self.now.form self.now.root pages.old device.old (result ≡ Err PagesError.Damaged) }
-        ensures spent { result ≡ Err PagesError.Spent ↔ ((is_spent pages.old ≡ true) × (self.now.root ≢ 0)) }
-        ensures lengths { IfOk result (λ entry. IfSome entry (HasLengths self.now.form)) }
-        ensures cause { IfErr result (IsRefusal self.now.form) }
+        ensures entry { AnswersEntry D.Device self.now pages.old device.old (λ entries. first_from entries key.now) result }
+        ensures damaged { OnNoTree D.Device self.now.layout self.now.root pages.old device.old (TellsDamaged result) }
+        ensures spent { ExactlyIfSpentAt self.now.root pages.old result }
+        ensures lengths { IfOk result (λ entry. IfSome entry (HasLengths self.now.layout)) }
+        ensures cause { IfErr result (IsRefusal self.now.layout) }
     {
         if self.root == 0 {
             return Ok(None);
         }
-        let descent = descend(self.alloc, pages, device, self.form, self.root, key)?;
+        let descent = descend(self.alloc, pages, device, self.layout, self.root, key)?;
         let place = match descent.leaf.find(key) {
             Ok(place) => place,
             Err(place) => place,
@@ -138,20 +141,19 @@ impl Tree {
         requires open { IsOpen pages.old }
         requires sectors { sectors_of pages.old ≤ D.sectors device.old }
         ensures only { OnlyReads D.Device (result ≡ Err PagesError.Device) device.old device.new }
-        ensures untouched { Untouched pages.old pages.new }
+        ensures unchanged { Unchanged pages.old pages.new }
         ensures agrees { Agreed D.Device pages.old device.old (Agrees pages.new (D.state device.new).disk) }
         ensures open { IsOpen pages.new }
-        ensures entry { OnTree D.Device self.now.form self.now.root pages.old device.old
-            (λ levels. IfOk result (λ entry. entry ≡ first_after (entries_of self.now.form levels) key.now)) }
-        ensures damaged { OnNoTree D.Device self.now.form self.now.root pages.old device.old (result ≡ Err PagesError.Damaged) }
-        ensures spent { result ≡ Err PagesError.Spent ↔ ((is_spent pages.old ≡ true) × (self.now.root ≢ 0)) }
-        ensures lengths { IfOk result (λ entry. IfSome entry (HasLengths self.now.form)) }
-        ensures cause { IfErr result (IsRefusal self.now.form) }
+        ensures entry { AnswersEntry D.Device self.now pages.old device.old (λ entries. first_after entries key.now) result }
+        ensures damaged { OnNoTree D.Device self.now.layout self.now.root pages.old device.old (TellsDamaged result) }
+        ensures spent { ExactlyIfSpentAt self.now.root pages.old result }
+        ensures lengths { IfOk result (λ entry. IfSome entry (HasLengths self.now.layout)) }
+        ensures cause { IfErr result (IsRefusal self.now.layout) }
     {
         if self.root == 0 {
             return Ok(None);
         }
-        let descent = descend(self.alloc, pages, device, self.form, self.root, key)?;
+        let descent = descend(self.alloc, pages, device, self.layout, self.root, key)?;
         let place = match descent.leaf.find(key) {
             Ok(place) => place + 1,
             Err(place) => place,
@@ -168,17 +170,16 @@ impl Tree {
         requires open { IsOpen pages.old }
         requires sectors { sectors_of pages.old ≤ D.sectors device.old }
         ensures only { OnlyReads D.Device (result ≡ Err PagesError.Device) device.old device.new }
-        ensures untouched { Untouched pages.old pages.new }
+        ensures unchanged { Unchanged pages.old pages.new }
         ensures agrees { Agreed D.Device pages.old device.old (Agrees pages.new (D.state device.new).disk) }
         ensures open { IsOpen pages.new }
-        ensures entry { OnTree D.Device self.now.form self.now.root pages.old device.old
-            (λ levels. IfOk result (λ entry. entry ≡ first_entry (entries_of self.now.form levels))) }
-        ensures damaged { OnNoTree D.Device self.now.form self.now.root pages.old device.old (result ≡ Err PagesError.Damaged) }
-        ensures spent { result ≡ Err PagesError.Spent ↔ ((is_spent pages.old ≡ true) × (self.now.root ≢ 0)) }
-        ensures lengths { IfOk result (λ entry. IfSome entry (HasLengths self.now.form)) }
-        ensures cause { IfErr result (IsRefusal self.now.form) }
+        ensures entry { AnswersEntry D.Device self.now pages.old device.old first_entry result }
+        ensures damaged { OnNoTree D.Device self.now.layout self.now.root pages.old device.old (TellsDamaged result) }
+        ensures spent { ExactlyIfSpentAt self.now.root pages.old result }
+        ensures lengths { IfOk result (λ entry. IfSome entry (HasLengths self.now.layout)) }
+        ensures cause { IfErr result (IsRefusal self.now.layout) }
     {
-        self.seek(pages, device, &ZEROS[..self.form.key_length])
+        self.seek(pages, device, &ZEROS[..self.layout.key_length])
     }
 
     /// The entry from a place of the leaf on that a descent ended at.
@@ -191,24 +192,19 @@ impl Tree {
     ) -> Result<Option<Entry>, PagesError>
         requires open { IsOpen pages.old }
         requires sectors { sectors_of pages.old ≤ D.sectors device.old }
-        requires form { descent.leaf.form ≡ self.now.form }
+        requires layout { descent.leaf.layout ≡ self.now.layout }
         requires leaf { IsNode descent.leaf × (descent.leaf.kind ≡ Kind.Leaf) }
         ensures only { OnlyReads D.Device (result ≡ Err PagesError.Device) device.old device.new }
-        ensures untouched { Untouched pages.old pages.new }
+        ensures unchanged { Unchanged pages.old pages.new }
         ensures agrees { Agreed D.Device pages.old device.old (Agrees pages.new (D.state device.new).disk) }
         ensures open { IsOpen pages.new }
-        ensures entry { Agreed D.Device pages.old device.old
-            ((levels : List (List Part)) → IsTree self.now.form (pages_on D.Device pages.old device.old) self.now.root levels →
-            (before after : List (List ℕ)) → rows_in_order levels ≡ before ++ (descent.leaf.rows ++ after) →
-            descent.right ≡ first_key self.now.form after →
-            IfOk result (λ entry. entry ≡ first_entry (listed self.now.form (drop place descent.leaf.rows ++ after)))) }
-        ensures damaged { Agreed D.Device pages.old device.old
-            (result ≡ Err PagesError.Damaged → (levels : List (List Part)) →
-            IsTree self.now.form (pages_on D.Device pages.old device.old) self.now.root levels → (before after : List (List ℕ)) →
-            rows_in_order levels ≡ before ++ (descent.leaf.rows ++ after) → descent.right ≡ first_key self.now.form after → ⊥) }
-        ensures spent { result ≡ Err PagesError.Spent → is_spent pages.old ≡ true }
-        ensures lengths { IfOk result (λ entry. IfSome entry (HasLengths self.now.form)) }
-        ensures cause { IfErr result (IsRefusal self.now.form) }
+        ensures entry { OnPages D.Device pages.old device.old
+            (λ before. (levels : List (List TreeNode)) → IsTree self.now.layout before self.now.root levels → (before after : List (List ℕ)) → rows_in_order levels ≡ before ++ (descent.leaf.rows ++ after) → descent.right ≡ first_key self.now.layout after → IfOk result (λ entry. entry ≡ first_entry (listed self.now.layout (drop place descent.leaf.rows ++ after)))) }
+        ensures damaged { OnPages D.Device pages.old device.old
+            (λ before. result ≡ Err PagesError.Damaged → (levels : List (List TreeNode)) → IsTree self.now.layout before self.now.root levels → (before after : List (List ℕ)) → rows_in_order levels ≡ before ++ (descent.leaf.rows ++ after) → descent.right ≡ first_key self.now.layout after → ⊥) }
+        ensures spent { OnlyIfSpent pages.old result }
+        ensures lengths { IfOk result (λ entry. IfSome entry (HasLengths self.now.layout)) }
+        ensures cause { IfErr result (IsRefusal self.now.layout) }
     {
         let Descent { leaf, right, .. } = descent;
         if place < leaf.count() {

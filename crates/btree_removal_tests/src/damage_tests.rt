@@ -5,10 +5,10 @@ use crate::volume::{Volume, tree_of};
 use pages::PagesError;
 use std::alloc::Global;
 use std::process::Abort;
-use tree_pages::TreeForm;
+use tree_pages::RowLayout;
 
 /// Leaves with room for 582 rows, and inner pages for 510.
-const FORM: TreeForm = TreeForm {
+const LAYOUT: RowLayout = RowLayout {
     key_length: 4,
     value_length: 3,
 };
@@ -33,13 +33,13 @@ enum Clear {
 
 // The check is refused, and changes and writes nothing.
 fn is_refused(rt: &impl Abort, alloc: Global, volume: &mut Volume, root: u32) {
-    let tree = tree_of(rt, alloc, FORM, root);
+    let tree = tree_of(rt, alloc, LAYOUT, root);
     let (_, writes) = volume.calls();
     let answer = volume.check(rt, &tree, &mut [false; 1024]);
     assert!(rt; answer == Err(PagesError::Damaged), "{answer:?}");
     let (_, now) = volume.calls();
     assert!(rt; now == writes);
-    assert!(rt; volume.touched() == 0);
+    assert!(rt; volume.changed_pages() == 0);
 }
 
 // A removal ends, with this answer.
@@ -51,7 +51,7 @@ fn removes(
     number: u32,
     expected: Answer,
 ) {
-    let mut tree = tree_of(rt, alloc, FORM, root);
+    let mut tree = tree_of(rt, alloc, LAYOUT, root);
     let answer = volume.remove(rt, &mut tree, number);
     assert!(rt;
         expected.is_none() || expected == Some(answer),
@@ -60,7 +60,7 @@ fn removes(
 }
 
 fn clears(rt: &impl Abort, alloc: Global, volume: &mut Volume, root: u32, expected: Clear) {
-    let mut tree = tree_of(rt, alloc, FORM, root);
+    let mut tree = tree_of(rt, alloc, LAYOUT, root);
     let answer = match volume.clear(rt, &mut tree) {
         Ok(()) => Clear::Done,
         Err(error) => {
@@ -91,11 +91,11 @@ fn meets(
 }
 
 fn leaf(rt: &impl Abort, volume: &mut Volume, numbers: &[u32]) -> Planted {
-    plant_leaf(rt, volume, FORM, numbers)
+    plant_leaf(rt, volume, LAYOUT, numbers)
 }
 
 fn inner(rt: &impl Abort, volume: &mut Volume, children: &[Planted]) -> Planted {
-    plant_inner(rt, volume, FORM, children)
+    plant_inner(rt, volume, LAYOUT, children)
 }
 
 // A child, by another key than its least one.
@@ -323,7 +323,7 @@ fn children_of_themselves(rt: HostRuntime) {
     let mut volume = Volume::empty(&rt, rt.alloc());
     let page = volume.allocate(&rt);
     let own = [Planted { least: 10, page }, Planted { least: 20, page }];
-    plant_on(&rt, &mut volume, FORM, page, &own);
+    plant_on(&rt, &mut volume, LAYOUT, page, &own);
     meets(
         &rt,
         rt.alloc(),
@@ -336,7 +336,7 @@ fn children_of_themselves(rt: HostRuntime) {
     let page = volume.allocate(&rt);
     let own = [Planted { least: 10, page }, Planted { least: 20, page }];
     let above = inner(&rt, &mut volume, &own);
-    plant_on(&rt, &mut volume, FORM, page, &[above, named(20, above)]);
+    plant_on(&rt, &mut volume, LAYOUT, page, &[above, named(20, above)]);
     meets(
         &rt,
         rt.alloc(),

@@ -1,7 +1,7 @@
 //! Entries by their number: its key, and its value. The entries of the trees of these rows are some of 10, 20, 30 and so on.
 use btree::Entry;
 use std::process::Abort;
-use tree_pages::TreeForm;
+use tree_pages::RowLayout;
 
 /// The bytes of the longest key and value of these rows.
 const LONGEST: usize = 1356;
@@ -34,7 +34,7 @@ pub fn last<'a>(rt: &impl Abort, bytes: &'a [u8; 1356], length: usize) -> &'a [u
 /// Asserts that this is the entry of a number, if that is to be there, and else none.
 pub fn is_entry(
     rt: &impl Abort,
-    form: TreeForm,
+    layout: RowLayout,
     entry: &Option<Entry>,
     number: u32,
     is_there: bool,
@@ -43,9 +43,12 @@ pub fn is_entry(
     if let Some(entry) = entry {
         let key = key_bytes(number);
         let value = value_bytes(number);
-        assert!(rt; entry.key() == last(rt, &key, form.key_length), "{number}");
         assert!(rt;
-            entry.value() == last(rt, &value, form.value_length),
+            entry.key() == last(rt, &key, layout.key_length),
+            "{number}"
+        );
+        assert!(rt;
+            entry.value() == last(rt, &value, layout.value_length),
             "{number}"
         );
     }

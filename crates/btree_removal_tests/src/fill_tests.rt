@@ -2,10 +2,10 @@
 use crate::sample::{Order, Sample};
 use std::alloc::Global;
 use std::process::Abort;
-use tree_pages::TreeForm;
+use tree_pages::RowLayout;
 
 /// Leaves of 39 rows of 104 bytes.
-const FORM: TreeForm = TreeForm {
+const LAYOUT: RowLayout = RowLayout {
     key_length: 4,
     value_length: 100,
 };
@@ -16,7 +16,7 @@ const LEAST: usize = 10;
 /// The tree of 5,000 entries that came in an order, of which 500 are left. Leaves that have ten entries are 50 at most then, and no
 /// more leaves have fewer than before: so many, which the answer tells.
 fn thinned(rt: &impl Abort, alloc: Global, coming: Order) -> usize {
-    let mut sample = Sample::grown(rt, alloc, FORM, 5000, coming);
+    let mut sample = Sample::grown(rt, alloc, LAYOUT, 5000, coming);
     let (_, thin_before) = sample.leaves(rt, LEAST);
     for round in 0..45 {
         sample.remove_hundred(rt, round);
@@ -50,7 +50,7 @@ fn after_other_orders(rt: HostRuntime) {
 // All go but one in a hundred, and then the others: ten entries are one leaf, since two have twenty.
 #[test]
 fn down_to_one_leaf(rt: HostRuntime) {
-    let mut sample = Sample::grown(&rt, rt.alloc(), FORM, 1000, Order::Descending);
+    let mut sample = Sample::grown(&rt, rt.alloc(), LAYOUT, 1000, Order::Descending);
     for round in 0..10 {
         let left = sample.leaves(&rt, LEAST);
         assert!(&rt; left.1 == 0, "{left:?}");

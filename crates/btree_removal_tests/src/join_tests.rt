@@ -3,19 +3,19 @@ use crate::planted::pages_in;
 use crate::sample::Sample;
 use std::alloc::Global;
 use std::process::Abort;
-use tree_pages::TreeForm;
+use tree_pages::RowLayout;
 
 /// A drawing, the number of an entry that goes, the drawing then, and how many pages were changed.
 type Row = (&'static str, u32, &'static str, usize);
 
 /// The longest keys: leaves and inner pages of 3 rows.
-const THREE: TreeForm = TreeForm {
+const THREE: RowLayout = RowLayout {
     key_length: 1356,
     value_length: 4,
 };
 
 /// Leaves of 3 rows, and inner pages of 39.
-const LONG: TreeForm = TreeForm {
+const LONG: RowLayout = RowLayout {
     key_length: 100,
     value_length: 1060,
 };
@@ -29,12 +29,12 @@ fn free_beside(pages: usize) -> usize {
     }
 }
 
-fn loses(rt: &impl Abort, alloc: Global, form: TreeForm, row: Row) {
-    let (drawing, number, left, touched) = row;
-    let mut sample = Sample::planted(rt, alloc, form, drawing.as_bytes());
+fn loses(rt: &impl Abort, alloc: Global, layout: RowLayout, row: Row) {
+    let (drawing, number, left, changed_pages) = row;
+    let mut sample = Sample::planted(rt, alloc, layout, drawing.as_bytes());
     sample.remove(rt, (number / 10).wrapping_sub(1) as usize);
     assert!(rt;
-        sample.volume.touched() == touched,
+        sample.volume.changed_pages() == changed_pages,
         "{drawing} without {number}"
     );
     sample.is_drawn(rt, left.as_bytes());
@@ -45,14 +45,14 @@ fn loses(rt: &impl Abort, alloc: Global, form: TreeForm, row: Row) {
     assert!(rt; free == free_beside(pages), "{drawing} without {number}");
 }
 
-fn lose(rt: &impl Abort, alloc: Global, form: TreeForm, rows: &[Row]) {
+fn lose(rt: &impl Abort, alloc: Global, layout: RowLayout, rows: &[Row]) {
     for row in rows {
-        loses(rt, alloc, form, *row);
+        loses(rt, alloc, layout, *row);
     }
 }
 
 /// Leaves of 8 rows, of which one row is less than a quarter, and inner pages of 39.
-const EIGHT: TreeForm = TreeForm {
+const EIGHT: RowLayout = RowLayout {
     key_length: 100,
     value_length: 410,
 };
@@ -259,7 +259,7 @@ fn nine_levels(rt: HostRuntime) {
     assert!(rt; pages_in(&drawing) == 511);
     let mut sample = Sample::planted(&rt, rt.alloc(), THREE, &drawing);
     sample.remove(&rt, 0);
-    assert!(rt; sample.volume.touched() == 16);
+    assert!(rt; sample.volume.changed_pages() == 16);
     assert!(rt; sample.is_right(&rt) == 502);
     for place in 1..256 {
         sample.remove(&rt, place);

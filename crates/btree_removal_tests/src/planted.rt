@@ -6,7 +6,7 @@ use crate::volume::{Volume, tree_of};
 use btree::Tree;
 use std::alloc::Global;
 use std::process::Abort;
-use tree_pages::{Kind, TreeForm, TreePage};
+use tree_pages::{Kind, RowLayout, TreePage};
 
 /// A page of a tree, and the number of the least key below it.
 #[derive(Clone, Copy)]
@@ -16,40 +16,40 @@ pub struct Planted {
 }
 
 /// A page without rows.
-fn new_page(rt: &impl Abort, form: TreeForm, kind: Kind) -> TreePage {
-    assert!(rt; form.is_possible());
-    TreePage::new(form, kind)
+fn new_page(rt: &impl Abort, layout: RowLayout, kind: Kind) -> TreePage {
+    assert!(rt; layout.is_possible());
+    TreePage::new(layout, kind)
 }
 
 /// A row comes behind the last one of a page.
 fn push_row(rt: &impl Abort, page: &mut TreePage, number: u32, rest: &[u8]) {
     let key = key_bytes(number);
-    let key = last(rt, &key, page.form().key_length);
+    let key = last(rt, &key, page.layout().key_length);
     let rest_length = match page.kind() {
-        Kind::Leaf => page.form().value_length,
+        Kind::Leaf => page.layout().value_length,
         Kind::Inner => 4,
     };
     assert!(rt; !page.is_full());
-    assert!(rt; key.len() == page.form().key_length);
+    assert!(rt; key.len() == page.layout().key_length);
     assert!(rt; rest.len() == rest_length);
     let place = page.count();
     page.insert(place, key, rest);
 }
 
 /// A leaf with the entries of these numbers.
-fn leaf_page(rt: &impl Abort, form: TreeForm, numbers: &[u32]) -> TreePage {
-    let mut leaf = new_page(rt, form, Kind::Leaf);
+fn leaf_page(rt: &impl Abort, layout: RowLayout, numbers: &[u32]) -> TreePage {
+    let mut leaf = new_page(rt, layout, Kind::Leaf);
     for number in numbers {
         let value = value_bytes(*number);
-        let value = last(rt, &value, form.value_length);
+        let value = last(rt, &value, layout.value_length);
         push_row(rt, &mut leaf, *number, value);
     }
     leaf
 }
 
 /// An inner page with these children.
-fn inner_page(rt: &impl Abort, form: TreeForm, children: &[Planted]) -> TreePage {
-    let mut page = new_page(rt, form, Kind::Inner);
+fn inner_page(rt: &impl Abort, layout: RowLayout, children: &[Planted]) -> TreePage {
+    let mut page = new_page(rt, layout, Kind::Inner);
     for child in children {
         push_row(rt, &mut page, child.least, &child.page.to_be_bytes());
     }
@@ -60,12 +60,12 @@ fn inner_page(rt: &impl Abort, form: TreeForm, children: &[Planted]) -> TreePage
 pub fn plant_leaf(
     rt: &impl Abort,
     volume: &mut Volume,
-    form: TreeForm,
+    layout: RowLayout,
     numbers: &[u32],
 ) -> Planted {
     assert!(rt; !numbers.is_empty());
     let page = volume.allocate(rt);
-    volume.edit(rt, page, &leaf_page(rt, form, numbers).bytes());
+    volume.edit(rt, page, &leaf_page(rt, layout, numbers).bytes());
     Planted {
         least: numbers[0],
         page,
@@ -76,12 +76,12 @@ pub fn plant_leaf(
 pub fn plant_on(
     rt: &impl Abort,
     volume: &mut Volume,
-    form: TreeForm,
+    layout: RowLayout,
     page: u32,
     children: &[Planted],
 ) -> Planted {
     assert!(rt; !children.is_empty());
-    volume.edit(rt, page, &inner_page(rt, form, children).bytes());
+    volume.edit(rt, page, &inner_page(rt, layout, children).bytes());
     Planted {
         least: children[0].least,
         page,
@@ -92,11 +92,11 @@ pub fn plant_on(
 pub fn plant_inner(
     rt: &impl Abort,
     volume: &mut Volume,
-    form: TreeForm,
+    layout: RowLayout,
     children: &[Planted],
 ) -> Planted {
     let page = volume.allocate(rt);
-    plant_on(rt, volume, form, page, children)
+    plant_on(rt, volume, layout, page, children)
 }
 
 /// The numbers of the entries from one place on, up to but without another.
@@ -113,18 +113,18 @@ fn plant_page(
     rt: &impl Abort,
     alloc: Global,
     volume: &mut Volume,
-    form: TreeForm,
+    layout: RowLayout,
     below: &[Planted],
     first: usize,
     end: usize,
 ) -> Planted {
     if below.is_empty() {
         let numbers = numbers_of(rt, alloc, first, end);
-        return plant_leaf(rt, volume, form, &numbers);
+        return plant_leaf(rt, volume, layout, &numbers);
     }
     assert!(rt; first <= end);
     assert!(rt; end <= below.len());
-    plant_inner(rt, volume, form, &below[first..end])
+    plant_inner(rt, volume, layout, &below[first..end])
 }
 
 /// Puts the tree of a drawing on pages.
@@ -132,7 +132,7 @@ pub fn plant(
     rt: &impl Abort,
     alloc: Global,
     volume: &mut Volume,
-    form: TreeForm,
+    layout: RowLayout,
     drawing: &[u8],
 ) -> Tree {
     let mut below = Vec::new(alloc);
@@ -145,13 +145,13 @@ pub fn plant(
             taken = 0;
         } else {
             let end = taken.wrapping_add(rows_in(*byte));
-            let page = plant_page(rt, alloc, volume, form, &below, taken, end);
+            let page = plant_page(rt, alloc, volume, layout, &below, taken, end);
             level.push(page).expect(rt, "memory");
             taken = end;
         }
     }
     assert!(rt; level.len() == 1);
-    tree_of(rt, alloc, form, level[0].page)
+    tree_of(rt, alloc, layout, level[0].page)
 }
 
 /// The rows of a page of a drawing.
@@ -212,7 +212,7 @@ pub fn drawn(
     rt: &impl Abort,
     alloc: Global,
     volume: &mut Volume,
-    form: TreeForm,
+    layout: RowLayout,
     root: u32,
 ) -> Vec<u8> {
     let mut drawing = Vec::new(alloc);
@@ -227,7 +227,7 @@ pub fn drawn(
             drawing.push(b'/').expect(rt, "memory");
             end = pages.len();
         }
-        let page = volume.page(rt, form, pages[place]);
+        let page = volume.page(rt, layout, pages[place]);
         let rows = b'0'.wrapping_add((page.count() % 256) as u8);
         drawing.push(rows).expect(rt, "memory");
         push_children(rt, &mut pages, &page);

@@ -3,10 +3,10 @@
 use crate::sample::Sample;
 use pages::PagesError;
 use std::process::Abort;
-use tree_pages::TreeForm;
+use tree_pages::RowLayout;
 
 /// The longest keys: leaves and inner pages of 3 rows.
-const THREE: TreeForm = TreeForm {
+const THREE: RowLayout = RowLayout {
     key_length: 1356,
     value_length: 4,
 };

@@ -3,10 +3,10 @@
 use crate::sample::{Order, Sample};
 use std::alloc::Global;
 use std::process::Abort;
-use tree_pages::TreeForm;
+use tree_pages::RowLayout;
 
-fn form_of(key_length: usize, value_length: usize) -> TreeForm {
-    TreeForm {
+fn layout_of(key_length: usize, value_length: usize) -> RowLayout {
+    RowLayout {
         key_length,
         value_length,
     }
@@ -21,9 +21,9 @@ const ORDERS: [(Order, Order); 4] = [
 ];
 
 // Each second entry goes, then the others; then they come again.
-fn halves(rt: &impl Abort, alloc: Global, form: TreeForm, count: usize) {
+fn halves(rt: &impl Abort, alloc: Global, layout: RowLayout, count: usize) {
     for (coming, going) in ORDERS {
-        let mut sample = Sample::grown(rt, alloc, form, count, coming);
+        let mut sample = Sample::grown(rt, alloc, layout, count, coming);
         sample.halve(rt, going, 1);
         sample.is_right(rt);
         sample.halve(rt, going, 0);
@@ -36,27 +36,27 @@ fn halves(rt: &impl Abort, alloc: Global, form: TreeForm, count: usize) {
 // Leaves of 39 rows of 104 bytes.
 #[test]
 fn five_thousand_entries(rt: HostRuntime) {
-    halves(&rt, rt.alloc(), form_of(4, 100), 5000);
+    halves(&rt, rt.alloc(), layout_of(4, 100), 5000);
 }
 
 // Leaves of 3 rows and inner pages of 39: trees of three levels.
 #[test]
 fn long_entries(rt: HostRuntime) {
-    halves(&rt, rt.alloc(), form_of(100, 1060), 400);
+    halves(&rt, rt.alloc(), layout_of(100, 1060), 400);
 }
 
 // A key of one byte tells 25 of the numbers apart.
 #[test]
 fn short_entries(rt: HostRuntime) {
-    halves(&rt, rt.alloc(), form_of(1, 0), 24);
-    halves(&rt, rt.alloc(), form_of(1, 1060), 24);
-    halves(&rt, rt.alloc(), form_of(100, 0), 200);
+    halves(&rt, rt.alloc(), layout_of(1, 0), 24);
+    halves(&rt, rt.alloc(), layout_of(1, 1060), 24);
+    halves(&rt, rt.alloc(), layout_of(100, 0), 200);
 }
 
 // A small tree loses its entries one by one, in each order.
-fn shrinks(rt: &impl Abort, alloc: Global, form: TreeForm, count: usize, coming: Order) {
+fn shrinks(rt: &impl Abort, alloc: Global, layout: RowLayout, count: usize, coming: Order) {
     for (_, going) in ORDERS {
-        let mut sample = Sample::grown(rt, alloc, form, count, coming);
+        let mut sample = Sample::grown(rt, alloc, layout, count, coming);
         sample.shrink(rt, going);
         sample.is_gone(rt);
     }
@@ -67,7 +67,7 @@ fn shrinks(rt: &impl Abort, alloc: Global, form: TreeForm, count: usize, coming:
 fn small_trees(rt: HostRuntime) {
     for count in [1, 3, 4, 7, 10, 13] {
         for (coming, _) in ORDERS {
-            shrinks(&rt, rt.alloc(), form_of(1356, 4), count, coming);
+            shrinks(&rt, rt.alloc(), layout_of(1356, 4), count, coming);
         }
     }
 }
@@ -75,8 +75,8 @@ fn small_trees(rt: HostRuntime) {
 // Of sixty entries one comes or goes at each step, after the numbers of a generator, and some thirty are there.
 #[test]
 fn entries_that_come_and_go(rt: HostRuntime) {
-    for form in [form_of(1356, 4), form_of(100, 1060)] {
-        let mut sample = Sample::empty(&rt, rt.alloc(), form, 60);
+    for layout in [layout_of(1356, 4), layout_of(100, 1060)] {
+        let mut sample = Sample::empty(&rt, rt.alloc(), layout, 60);
         let mut number = 1u32;
         for step in 0..600u32 {
             number = number.wrapping_mul(1_103_515_245).wrapping_add(12_345);
@@ -94,12 +94,12 @@ fn entries_that_come_and_go(rt: HostRuntime) {
 #[test]
 fn keys_that_are_not_there(rt: HostRuntime) {
     for count in [0, 1, 3, 30, 200] {
-        let form = form_of(100, 1060);
-        let mut sample = Sample::grown(&rt, rt.alloc(), form, count, Order::Ascending);
+        let layout = layout_of(100, 1060);
+        let mut sample = Sample::grown(&rt, rt.alloc(), layout, count, Order::Ascending);
         for number in [0, 5, 9, 15, 35, 295, 1995, 2001, 2005, 4_000_000_000] {
             sample.misses(&rt, number);
         }
-        assert!(rt; sample.volume.touched() == 0);
+        assert!(rt; sample.volume.changed_pages() == 0);
         sample.is_right(&rt);
     }
 }

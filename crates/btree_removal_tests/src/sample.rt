@@ -7,7 +7,7 @@ use btree::Tree;
 use pages::PagesError;
 use std::alloc::Global;
 use std::process::Abort;
-use tree_pages::TreeForm;
+use tree_pages::RowLayout;
 
 /// A tree in a volume, what it is to have, and what it was to have at the last commit.
 #[derive(Drop)]
@@ -62,20 +62,20 @@ fn copy(rt: &impl Abort, to: &mut [bool], from: &[bool]) {
 
 impl Sample {
     /// A tree without entries, for so many.
-    pub fn empty(rt: &impl Abort, alloc: Global, form: TreeForm, count: usize) -> Sample {
+    pub fn empty(rt: &impl Abort, alloc: Global, layout: RowLayout, count: usize) -> Sample {
         Sample {
             alloc,
             volume: Volume::empty(rt, alloc),
-            tree: tree_of(rt, alloc, form, 0),
+            tree: tree_of(rt, alloc, layout, 0),
             there: vec![in alloc; false; count].expect(rt, "memory"),
             committed: vec![in alloc; false; count].expect(rt, "memory"),
         }
     }
 
     /// A tree by its drawing, committed.
-    pub fn planted(rt: &impl Abort, alloc: Global, form: TreeForm, drawing: &[u8]) -> Sample {
+    pub fn planted(rt: &impl Abort, alloc: Global, layout: RowLayout, drawing: &[u8]) -> Sample {
         let mut volume = Volume::empty(rt, alloc);
-        let tree = plant(rt, alloc, &mut volume, form, drawing);
+        let tree = plant(rt, alloc, &mut volume, layout, drawing);
         volume.commit(rt, tree.root()).expect(rt, "commit");
         let count = entries_in(drawing);
         Sample {
@@ -91,11 +91,11 @@ impl Sample {
     pub fn grown(
         rt: &impl Abort,
         alloc: Global,
-        form: TreeForm,
+        layout: RowLayout,
         count: usize,
         order: Order,
     ) -> Sample {
-        let mut sample = Sample::empty(rt, alloc, form, count);
+        let mut sample = Sample::empty(rt, alloc, layout, count);
         sample.grow(rt, order);
         sample
     }
@@ -137,10 +137,10 @@ impl Sample {
 
     /// No entry has this number: nothing goes, and nothing is changed.
     pub fn misses(&mut self, rt: &impl Abort, number: u32) {
-        let before = (self.volume.touched(), self.tree.root());
+        let before = (self.volume.changed_pages(), self.tree.root());
         let went = self.volume.remove(rt, &mut self.tree, number);
         assert!(rt; went == Ok(false), "{number}");
-        let now = (self.volume.touched(), self.tree.root());
+        let now = (self.volume.changed_pages(), self.tree.root());
         assert!(rt; now == before, "{number}");
     }
 
@@ -210,7 +210,7 @@ impl Sample {
         if root == 0 {
             return (0, 0);
         }
-        let now = drawn(rt, self.alloc, &mut self.volume, self.tree.form(), root);
+        let now = drawn(rt, self.alloc, &mut self.volume, self.tree.layout(), root);
         leaves_in(&now, least)
     }
 
@@ -233,12 +233,12 @@ impl Sample {
 
     /// Asserts that the entries from the first one on are those that are to be there.
     pub fn walks(&mut self, rt: &impl Abort) {
-        let form = self.tree.form();
+        let layout = self.tree.layout();
         let mut entry = None;
         for place in 0..self.there.len() {
             if self.is_there(rt, place) {
                 entry = self.volume.next(rt, &self.tree, &entry);
-                is_entry(rt, form, &entry, number_of(place), true);
+                is_entry(rt, layout, &entry, number_of(place), true);
             }
         }
         let behind = self.volume.next(rt, &self.tree, &entry);
@@ -247,12 +247,12 @@ impl Sample {
 
     /// Asserts that each entry is there that is to be there, and no other.
     pub fn gets(&mut self, rt: &impl Abort) {
-        let form = self.tree.form();
+        let layout = self.tree.layout();
         for place in 0..self.there.len() {
             let number = number_of(place);
             let entry = self.volume.get(rt, &self.tree, number);
             let is_there = self.is_there(rt, place);
-            is_entry(rt, form, &entry, number, is_there);
+            is_entry(rt, layout, &entry, number, is_there);
         }
     }
 
@@ -287,7 +287,7 @@ impl Sample {
             assert!(rt; drawing.is_empty());
             return;
         }
-        let now = drawn(rt, self.alloc, &mut self.volume, self.tree.form(), root);
+        let now = drawn(rt, self.alloc, &mut self.volume, self.tree.layout(), root);
         assert!(rt; now.as_slice() == drawing, "{now:?}");
     }
 
@@ -304,7 +304,7 @@ impl Sample {
         copy(rt, &mut there, &committed);
         Sample {
             alloc,
-            tree: tree_of(rt, alloc, tree.form(), volume.catalog()),
+            tree: tree_of(rt, alloc, tree.layout(), volume.catalog()),
             volume,
             there,
             committed,
@@ -322,7 +322,7 @@ impl Sample {
             committed,
         } = self;
         let mut volume = volume.crashed(rt, alloc, choice);
-        let tree = tree_of(rt, alloc, tree.form(), volume.catalog());
+        let tree = tree_of(rt, alloc, tree.layout(), volume.catalog());
         let is_new = volume.get(rt, &tree, number_of(place)).is_none();
         if !is_new {
             copy(rt, &mut there, &committed);

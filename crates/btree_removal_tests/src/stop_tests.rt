@@ -3,10 +3,10 @@
 use crate::sample::{Order, Sample};
 use pages::PagesError;
 use std::process::Abort;
-use tree_pages::TreeForm;
+use tree_pages::RowLayout;
 
 /// Leaves of 39 rows.
-const FORM: TreeForm = TreeForm {
+const LAYOUT: RowLayout = RowLayout {
     key_length: 4,
     value_length: 100,
 };
@@ -14,7 +14,7 @@ const FORM: TreeForm = TreeForm {
 // 5,000 entries go, a hundred with each commit, and the volume is opened again after each.
 #[test]
 fn a_volume_opened_after_each_hundred(rt: HostRuntime) {
-    let mut sample = Sample::grown(&rt, rt.alloc(), FORM, 5000, Order::Alternating);
+    let mut sample = Sample::grown(&rt, rt.alloc(), LAYOUT, 5000, Order::Alternating);
     for round in 0..50usize {
         sample.remove_hundred(&rt, round);
         sample.commit(&rt);
@@ -49,7 +49,7 @@ fn cut(
 #[test]
 fn power_cut_at_each_call(rt: HostRuntime) {
     for (choice, first_new) in [(0, 19), (1, 17)] {
-        let mut sample = Sample::grown(&rt, rt.alloc(), FORM, 500, Order::Ascending);
+        let mut sample = Sample::grown(&rt, rt.alloc(), LAYOUT, 500, Order::Ascending);
         for call in 1..=first_new {
             let (left, is_new) = cut(&rt, sample, 0, call, choice);
             sample = left;
@@ -63,7 +63,7 @@ fn power_cut_at_each_call(rt: HostRuntime) {
 // nothing comes again.
 #[test]
 fn power_cut_in_each_commit(rt: HostRuntime) {
-    let mut sample = Sample::grown(&rt, rt.alloc(), FORM, 5000, Order::Alternating);
+    let mut sample = Sample::grown(&rt, rt.alloc(), LAYOUT, 5000, Order::Alternating);
     for round in 0..50usize {
         let call = (round as u64).wrapping_mul(3).wrapping_add(1);
         let (left, is_new) = cut(&rt, sample, round, call, (round % 2) as u32);

@@ -7,11 +7,13 @@ use station::{Device, MemoryStation};
 use std::alloc::Global;
 use std::marker::Model;
 use std::process::Abort;
-use tree_pages::{TreeForm, TreePage};
+use tree_check::check_tree;
+use tree_pages::{RowLayout, TreePage};
 
 /// An opened volume on its station.
 #[derive(Drop)]
 pub struct Volume {
+    alloc: Global,
     pages: PageMap,
     station: MemoryStation,
 }
@@ -48,7 +50,11 @@ impl Volume {
         assert!(rt; 1 <= capacity);
         assert!(rt; capacity <= 4096);
         let pages = PageMap::open(alloc, &mut station, capacity).expect(rt, "open");
-        Volume { pages, station }
+        Volume {
+            alloc,
+            pages,
+            station,
+        }
     }
 
     /// The volume opened again, with a cache of so many pages. What wasn't committed is gone.
@@ -80,8 +86,8 @@ impl Volume {
     }
 
     /// How many pages were changed since the last commit.
-    pub fn touched(&self) -> usize {
-        self.pages.touched()
+    pub fn changed_pages(&self) -> usize {
+        self.pages.changed_pages()
     }
 
     /// How many sectors are free.
@@ -114,27 +120,27 @@ impl Volume {
     }
 
     /// A page of a tree.
-    pub fn page(&mut self, rt: &impl Abort, form: TreeForm, number: u32) -> TreePage {
+    pub fn page(&mut self, rt: &impl Abort, layout: RowLayout, number: u32) -> TreePage {
         assert!(rt; self.pages.sectors() <= self.station.count());
-        assert!(rt; form.is_possible());
+        assert!(rt; layout.is_possible());
         let read = self
             .pages
             .read(&mut self.station, number)
             .expect(rt, "read");
         let bytes = read.expect(rt, "a page");
-        TreePage::read(bytes, form).expect(rt, "a page of a tree")
+        TreePage::read(bytes, layout).expect(rt, "a page of a tree")
     }
 
     /// Puts the entry of a number into a tree. It is false where that is there.
     pub fn insert(&mut self, rt: &impl Abort, tree: &mut Tree, number: u32) -> bool {
         assert!(rt; self.pages.sectors() <= self.station.count());
-        let form = tree.form();
+        let layout = tree.layout();
         let key = key_bytes(number);
-        let key = last(rt, &key, form.key_length);
+        let key = last(rt, &key, layout.key_length);
         let value = value_bytes(number);
-        let value = last(rt, &value, form.value_length);
-        assert!(rt; key.len() == form.key_length);
-        assert!(rt; value.len() == form.value_length);
+        let value = last(rt, &value, layout.value_length);
+        assert!(rt; key.len() == layout.key_length);
+        assert!(rt; value.len() == layout.value_length);
         tree.insert(&mut self.pages, &mut self.station, key, value)
             .expect(rt, "insert")
     }
@@ -148,7 +154,7 @@ impl Volume {
     ) -> Result<bool, PagesError> {
         assert!(rt; self.pages.sectors() <= self.station.count());
         let key = key_bytes(number);
-        let key = last(rt, &key, tree.form().key_length);
+        let key = last(rt, &key, tree.layout().key_length);
         tree.remove(&mut self.pages, &mut self.station, key)
     }
 
@@ -156,7 +162,7 @@ impl Volume {
     pub fn get(&mut self, rt: &impl Abort, tree: &Tree, number: u32) -> Option<Entry> {
         assert!(rt; self.pages.sectors() <= self.station.count());
         let key = key_bytes(number);
-        let key = last(rt, &key, tree.form().key_length);
+        let key = last(rt, &key, tree.layout().key_length);
         tree.get(&mut self.pages, &mut self.station, key)
             .expect(rt, "get")
     }
@@ -179,7 +185,7 @@ impl Volume {
         seen: &mut [bool],
     ) -> Result<(), PagesError> {
         assert!(rt; self.pages.sectors() <= self.station.count());
-        tree.check(&mut self.pages, &mut self.station, seen)
+        check_tree(self.alloc, tree, &mut self.pages, &mut self.station, seen)
     }
 
     /// Gives up all pages of a tree.
@@ -189,10 +195,10 @@ impl Volume {
     }
 }
 
-/// The tree of this form below a root.
-pub fn tree_of(rt: &impl Abort, alloc: Global, form: TreeForm, root: u32) -> Tree {
-    assert!(rt; form.is_possible());
-    Tree::new(alloc, form, root)
+/// The tree of this layout below a root.
+pub fn tree_of(rt: &impl Abort, alloc: Global, layout: RowLayout, root: u32) -> Tree {
+    assert!(rt; layout.is_possible());
+    Tree::new(alloc, layout, root)
 }
 
 /// How many pages are marked.

@@ -5,18 +5,18 @@ use crate::volume::marked;
 use pages::PagesError;
 use std::alloc::Global;
 use std::process::Abort;
-use tree_pages::TreeForm;
+use tree_pages::RowLayout;
 
 const DAMAGED: Result<(), PagesError> = Err(PagesError::Damaged);
 
 /// The longest keys: leaves and inner pages of 3 rows.
-const THREE: TreeForm = TreeForm {
+const THREE: RowLayout = RowLayout {
     key_length: 1356,
     value_length: 4,
 };
 
 /// Leaves of 39 rows.
-const SHORT: TreeForm = TreeForm {
+const SHORT: RowLayout = RowLayout {
     key_length: 4,
     value_length: 100,
 };
@@ -43,9 +43,9 @@ fn clears(rt: &impl Abort, alloc: Global, drawing: &[u8]) {
     assert!(rt; sample.checks(rt) == pages_in(drawing));
     let (_, now) = sample.volume.calls();
     assert!(rt; now == writes);
-    assert!(rt; sample.volume.touched() == 0);
+    assert!(rt; sample.volume.changed_pages() == 0);
     sample.clear(rt);
-    assert!(rt; sample.volume.touched() == pages_in(drawing));
+    assert!(rt; sample.volume.changed_pages() == pages_in(drawing));
     sample.is_gone(rt);
 }
 
@@ -66,7 +66,7 @@ fn no_root(rt: HostRuntime) {
     let mut sample = Sample::empty(&rt, rt.alloc(), SHORT, 3);
     assert!(rt; sample.checks(&rt) == 0);
     sample.clear(&rt);
-    assert!(rt; sample.volume.touched() == 0);
+    assert!(rt; sample.volume.changed_pages() == 0);
     sample.is_gone(&rt);
 }
 

@@ -4,11 +4,11 @@
 //! A call of an assertion is proved at once. A macro in a test makes a path of its own there, on which everything that the test holds has
 //! to be accounted for.
 ghost use Rattle.std.specs.Prelude.{◌≡◌};
-ghost use Rattle.tree_pages.specs.Form.{rest_length};
+ghost use Rattle.tree_pages.specs.RowLayouts.{rest_length};
 
 use std::fmt::Debug;
 use std::process::Abort;
-use tree_pages::{Kind, TreeForm, TreePage};
+use tree_pages::{Kind, RowLayout, TreePage};
 
 /// Asserts that this is so.
 pub fn holds(rt: &impl Abort, fact: bool) {
@@ -30,32 +30,32 @@ pub fn same_in<T: PartialEq + Debug + Drop>(
     assert_eq!(rt; told, expected, "{row:?}");
 }
 
-/// The form of these lengths in bytes.
-pub fn form_of(key_length: usize, value_length: usize) -> TreeForm {
-    TreeForm {
+/// The layout of these lengths in bytes.
+pub fn layout_of(key_length: usize, value_length: usize) -> RowLayout {
+    RowLayout {
         key_length,
         value_length,
     }
 }
 
 /// A page without rows.
-pub fn new_page(rt: &impl Abort, form: TreeForm, kind: Kind) -> TreePage {
-    assert!(rt; form.is_possible());
-    TreePage::new(form, kind)
+pub fn new_page(rt: &impl Abort, layout: RowLayout, kind: Kind) -> TreePage {
+    assert!(rt; layout.is_possible());
+    TreePage::new(layout, kind)
 }
 
 /// The page that these bytes spell, if they spell one.
-pub fn read_page(rt: &impl Abort, bytes: [u8; 4096], form: TreeForm) -> Option<TreePage> {
-    assert!(rt; form.is_possible());
-    TreePage::read(bytes, form)
+pub fn read_page(rt: &impl Abort, bytes: [u8; 4096], layout: RowLayout) -> Option<TreePage> {
+    assert!(rt; layout.is_possible());
+    TreePage::read(bytes, layout)
 }
 
 /// The bytes of a row behind its key.
 fn rest_length(page: &TreePage) -> usize
-    ensures { result ≡ rest_length page.now.form page.now.kind }
+    ensures { result ≡ rest_length page.now.layout page.now.kind }
 {
     match page.kind() {
-        Kind::Leaf => page.form().value_length,
+        Kind::Leaf => page.layout().value_length,
         Kind::Inner => 4,
     }
 }
@@ -64,7 +64,7 @@ fn rest_length(page: &TreePage) -> usize
 pub fn insert(rt: &impl Abort, page: &mut TreePage, place: usize, key: &[u8], rest: &[u8]) {
     assert!(rt; place <= page.count());
     assert!(rt; !page.is_full());
-    assert!(rt; key.len() == page.form().key_length);
+    assert!(rt; key.len() == page.layout().key_length);
     assert!(rt; rest.len() == rest_length(page));
     page.insert(place, key, rest);
 }
@@ -74,7 +74,7 @@ pub fn insert_child(rt: &impl Abort, page: &mut TreePage, place: usize, key: &[u
     assert!(rt; page.kind() == Kind::Inner);
     assert!(rt; place <= page.count());
     assert!(rt; !page.is_full());
-    assert!(rt; key.len() == page.form().key_length);
+    assert!(rt; key.len() == page.layout().key_length);
     page.insert_child(place, key, child);
 }
 
@@ -87,7 +87,7 @@ pub fn remove(rt: &impl Abort, page: &mut TreePage, place: usize) {
 /// The row at this place gets another key.
 pub fn set_key(rt: &impl Abort, page: &mut TreePage, place: usize, key: &[u8]) {
     assert!(rt; place < page.count());
-    assert!(rt; key.len() == page.form().key_length);
+    assert!(rt; key.len() == page.layout().key_length);
     page.set_key(place, key);
 }
 
@@ -106,10 +106,10 @@ pub fn split_off(rt: &impl Abort, page: &mut TreePage, place: usize) -> TreePage
 
 /// The rows of another page come behind the last one.
 pub fn append(rt: &impl Abort, page: &mut TreePage, other: &TreePage) {
-    assert!(rt; other.form() == page.form());
+    assert!(rt; other.layout() == page.layout());
     assert!(rt; other.kind() == page.kind());
-    assert!(rt; page.form().is_possible());
-    let room = page.form().capacity(page.kind());
+    assert!(rt; page.layout().is_possible());
+    let room = page.layout().capacity(page.kind());
     assert!(rt; page.count() <= room);
     assert!(rt; other.count() <= room - page.count());
     page.append(other);
@@ -130,7 +130,7 @@ pub fn child(rt: &impl Abort, page: &TreePage, place: usize) -> u32 {
 }
 
 /// A page's bytes by the layout: the kind's byte, the number of rows, and the rows, as far as they fit.
-pub fn layout(kind: u8, count: u16, rows: &[u8]) -> [u8; 4096] {
+pub fn laid_out(kind: u8, count: u16, rows: &[u8]) -> [u8; 4096] {
     let mut bytes = [0; 4096];
     bytes[0] = kind;
     bytes[2..4].copy_from_slice(&count.to_be_bytes());
@@ -143,14 +143,14 @@ pub fn layout(kind: u8, count: u16, rows: &[u8]) -> [u8; 4096] {
 /// Asserts that a page has these bytes by the layout.
 pub fn has_bytes(rt: &impl Abort, page: &TreePage, kind: u8, count: u16, rows: &[u8]) {
     assert!(rt;
-        page.bytes() == layout(kind, count, rows),
+        page.bytes() == laid_out(kind, count, rows),
         "{kind}, {count}, {rows:?}"
     );
 }
 
 /// A leaf of keys of two bytes and values of three, from rows of five bytes.
 pub fn leaf_of(rt: &impl Abort, rows: &[u8]) -> TreePage {
-    let mut leaf = new_page(rt, form_of(2, 3), Kind::Leaf);
+    let mut leaf = new_page(rt, layout_of(2, 3), Kind::Leaf);
     for row in rows.chunks_exact(5) {
         assert!(rt; row.len() == 5);
         let place = leaf.count();

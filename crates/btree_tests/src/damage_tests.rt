@@ -1,5 +1,5 @@
 //! Rows of pages that are no tree: each call that meets such a page answers `Damaged`, ends, and changes nothing.
-use crate::asserted::{form_of, layout, same, same_in};
+use crate::asserted::{laid_out, layout_of, same, same_in};
 use crate::entries::{key_bytes, last};
 use crate::planted::{Planted, plant_inner, plant_leaves};
 use crate::volume::{Volume, tree_of, works};
@@ -8,7 +8,7 @@ use pages::PagesError;
 use std::alloc::Global;
 use std::process::Abort;
 
-// The form of these rows has keys of four bytes and values of three, so that a leaf has room for 582 rows, and an inner page for 510.
+// The layout of these rows has keys of four bytes and values of three, so that a leaf has room for 582 rows, and an inner page for 510.
 const LEAF_ROOM: u16 = 582;
 
 const INNER_ROOM: u16 = 510;
@@ -22,8 +22,8 @@ fn is_damaged(rt: &impl Abort, answer: Result<Option<Entry>, PagesError>, asked:
 
 // Each call answers `Damaged`, for keys below, at and above those of the rows.
 fn refuses(rt: &impl Abort, alloc: Global, volume: &mut Volume, root: u32, row: &str) {
-    let tree = tree_of(rt, alloc, form_of(4, 3), root);
-    let touched = volume.touched();
+    let tree = tree_of(rt, alloc, layout_of(4, 3), root);
+    let changed_pages = volume.changed_pages();
     is_damaged(rt, volume.first(rt, &tree), "first", row);
     for number in [0, 10, 15, 20, 4_000_000_000] {
         let bytes = key_bytes(number);
@@ -32,7 +32,7 @@ fn refuses(rt: &impl Abort, alloc: Global, volume: &mut Volume, root: u32, row: 
         is_damaged(rt, volume.seek(rt, &tree, key), "seek", row);
         is_damaged(rt, volume.next(rt, &tree, key), "next", row);
     }
-    same(rt, volume.touched(), touched);
+    same(rt, volume.changed_pages(), changed_pages);
 }
 
 // A root that has no page in the map.
@@ -59,7 +59,7 @@ fn no_page_of_a_tree(rt: HostRuntime) {
         (1, 65_535, "a leaf with far too many rows"),
     ] {
         let mut volume = Volume::empty(&rt, rt.alloc());
-        let root = volume.put(&rt, &layout(kind, count, b"\0\0\0\x0Aabc"));
+        let root = volume.put(&rt, &laid_out(kind, count, b"\0\0\0\x0Aabc"));
         refuses(&rt, rt.alloc(), &mut volume, root, row);
     }
 }
@@ -67,15 +67,15 @@ fn no_page_of_a_tree(rt: HostRuntime) {
 // An inner page of two children that are the same page.
 fn twice(rt: &impl Abort, volume: &mut Volume, page: u32) -> Planted {
     let children = [Planted { least: 10, page }, Planted { least: 20, page }];
-    plant_inner(rt, volume, form_of(4, 3), &children)
+    plant_inner(rt, volume, layout_of(4, 3), &children)
 }
 
 #[test]
 fn one_child(rt: HostRuntime) {
-    let form = form_of(4, 3);
+    let layout = layout_of(4, 3);
     let mut volume = Volume::empty(&rt, rt.alloc());
-    let leaves = plant_leaves(&rt, rt.alloc(), &mut volume, form, &[2]);
-    let inner = plant_inner(&rt, &mut volume, form, &leaves);
+    let leaves = plant_leaves(&rt, rt.alloc(), &mut volume, layout, &[2]);
+    let inner = plant_inner(&rt, &mut volume, layout, &leaves);
     refuses(
         &rt,
         rt.alloc(),
@@ -114,7 +114,7 @@ fn children_of_themselves(rt: HostRuntime) {
         [0, 0, 0, 20],
         own.to_be_bytes(),
     ];
-    volume.edit(&rt, own, &layout(2, 2, rows.as_flattened()));
+    volume.edit(&rt, own, &laid_out(2, 2, rows.as_flattened()));
     refuses(&rt, rt.alloc(), &mut volume, own, "its own child");
     let above = twice(&rt, &mut volume, own);
     let rows = [
@@ -123,7 +123,7 @@ fn children_of_themselves(rt: HostRuntime) {
         [0, 0, 0, 20],
         above.page.to_be_bytes(),
     ];
-    volume.edit(&rt, own, &layout(2, 2, rows.as_flattened()));
+    volume.edit(&rt, own, &laid_out(2, 2, rows.as_flattened()));
     refuses(&rt, rt.alloc(), &mut volume, own, "each other's child");
     works(&rt, volume.commit(&rt));
     volume.reopen(&rt, rt.alloc(), 1);
@@ -139,9 +139,9 @@ fn children_of_themselves(rt: HostRuntime) {
 // 22 inner pages above a leaf: more levels than a tree has.
 #[test]
 fn too_many_levels(rt: HostRuntime) {
-    let form = form_of(4, 3);
+    let layout = layout_of(4, 3);
     let mut volume = Volume::empty(&rt, rt.alloc());
-    let leaves = plant_leaves(&rt, rt.alloc(), &mut volume, form, &[2]);
+    let leaves = plant_leaves(&rt, rt.alloc(), &mut volume, layout, &[2]);
     assert!(rt; leaves.len() == 1);
     let mut page = leaves[0].page;
     for _ in 0..22 {

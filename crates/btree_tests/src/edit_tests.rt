@@ -1,10 +1,10 @@
 //! Rows of searches in a page, and of its changes.
 use crate::asserted::{
-    append, form_of, has_bytes, holds, insert, insert_child, leaf_of, new_page, remove, same,
+    append, has_bytes, holds, insert, insert_child, layout_of, leaf_of, new_page, remove, same,
     same_in, set_key, set_rest, split_off,
 };
 use std::process::Abort;
-use tree_pages::{Kind, TreeForm, TreePage};
+use tree_pages::{Kind, RowLayout, TreePage};
 
 // Below, at, between and above the keys.
 #[test]
@@ -29,7 +29,7 @@ fn places_of_keys(rt: HostRuntime) {
 
 // A full leaf of the even numbers from 0 on, in two bytes.
 fn even_numbers(rt: &impl Abort) -> TreePage {
-    let mut leaf = new_page(rt, form_of(2, 3), Kind::Leaf);
+    let mut leaf = new_page(rt, layout_of(2, 3), Kind::Leaf);
     for number in 0..816u16 {
         let key = number.wrapping_mul(2).to_be_bytes();
         let place = leaf.count();
@@ -97,7 +97,7 @@ fn a_rest_replaced(rt: HostRuntime) {
         set_rest(&rt, &mut leaf, place, b"xyz");
         has_bytes(&rt, &leaf, 1, 3, rows);
     }
-    let mut page = new_page(&rt, form_of(2, 3), Kind::Inner);
+    let mut page = new_page(&rt, layout_of(2, 3), Kind::Inner);
     insert_child(&rt, &mut page, 0, b"aa", 7);
     set_rest(&rt, &mut page, 0, &[1, 2, 3, 4]);
     has_bytes(&rt, &page, 2, 1, b"aa\x01\x02\x03\x04");
@@ -135,37 +135,43 @@ fn halves_of_a_full_page(rt: HostRuntime) {
 }
 
 // How many rows a page takes until it is full.
-fn rows_until_full(rt: &impl Abort, form: TreeForm, kind: Kind) -> usize {
+fn rows_until_full(rt: &impl Abort, layout: RowLayout, kind: Kind) -> usize {
     let bytes = [1; 1360];
     let rest = match kind {
-        Kind::Leaf => form.value_length,
+        Kind::Leaf => layout.value_length,
         Kind::Inner => 4,
     };
-    assert!(rt; form.key_length <= 1360);
+    assert!(rt; layout.key_length <= 1360);
     assert!(rt; rest <= 1360);
-    let mut page = new_page(rt, form, kind);
+    let mut page = new_page(rt, layout, kind);
     for _ in 0..4081 {
         if page.is_full() {
             return page.count();
         }
-        insert(rt, &mut page, 0, &bytes[..form.key_length], &bytes[..rest]);
+        insert(
+            rt,
+            &mut page,
+            0,
+            &bytes[..layout.key_length],
+            &bytes[..rest],
+        );
     }
     page.count()
 }
 
 #[test]
 fn full_pages(rt: HostRuntime) {
-    for (form, kind, rows) in [
-        (form_of(1, 0), Kind::Leaf, 4080),
-        (form_of(1, 0), Kind::Inner, 816),
-        (form_of(1, 1060), Kind::Leaf, 3),
-        (form_of(100, 0), Kind::Leaf, 40),
-        (form_of(100, 1260), Kind::Leaf, 3),
-        (form_of(100, 1260), Kind::Inner, 39),
-        (form_of(1356, 4), Kind::Inner, 3),
+    for (layout, kind, rows) in [
+        (layout_of(1, 0), Kind::Leaf, 4080),
+        (layout_of(1, 0), Kind::Inner, 816),
+        (layout_of(1, 1060), Kind::Leaf, 3),
+        (layout_of(100, 0), Kind::Leaf, 40),
+        (layout_of(100, 1260), Kind::Leaf, 3),
+        (layout_of(100, 1260), Kind::Inner, 39),
+        (layout_of(1356, 4), Kind::Inner, 3),
     ] {
-        let told = rows_until_full(&rt, form, kind);
-        same_in(&rt, &(form, kind), told, rows);
+        let told = rows_until_full(&rt, layout, kind);
+        same_in(&rt, &(layout, kind), told, rows);
     }
 }
 

@@ -2,7 +2,7 @@
 use crate::asserted::same_in;
 use btree::Entry;
 use std::process::Abort;
-use tree_pages::TreeForm;
+use tree_pages::RowLayout;
 
 /// The bytes of the longest key and value of these rows.
 const LONGEST: usize = 1060;
@@ -28,7 +28,7 @@ pub fn last<'a>(rt: &impl Abort, bytes: &'a [u8; 1060], length: usize) -> &'a [u
 /// Asserts that this is the entry of a number, or none.
 pub fn is_entry(
     rt: &impl Abort,
-    form: TreeForm,
+    layout: RowLayout,
     entry: Option<Entry>,
     expected: Option<u32>,
     asked: &str,
@@ -43,13 +43,13 @@ pub fn is_entry(
                 rt,
                 &(asked, number),
                 entry.key(),
-                last(rt, &key, form.key_length),
+                last(rt, &key, layout.key_length),
             );
             same_in(
                 rt,
                 &(asked, number),
                 entry.value(),
-                last(rt, &value, form.value_length),
+                last(rt, &value, layout.value_length),
             );
         }
         (None, Some(_)) => panic!(rt; "{asked} {number}: none"),

@@ -1,12 +1,12 @@
 //! Rows of new entries and new values: trees that grow in several orders, with commits on the way, and what is read of them then.
-use crate::asserted::{form_of, holds, same, same_in};
+use crate::asserted::{holds, layout_of, same, same_in};
 use crate::entries::{is_entry, key_bytes, last, value_bytes};
 use crate::reading_tests::{reads, walks};
 use crate::volume::{Volume, found, tree_of, works};
 use btree::Tree;
 use std::alloc::Global;
 use std::process::Abort;
-use tree_pages::TreeForm;
+use tree_pages::RowLayout;
 
 /// The order in which entries come.
 #[derive(Clone, Copy)]
@@ -42,11 +42,11 @@ fn insert(
     number: u32,
     value_of: u32,
 ) -> bool {
-    let form = tree.form();
+    let layout = tree.layout();
     let key = key_bytes(number);
     let value = value_bytes(value_of);
-    let key = last(rt, &key, form.key_length);
-    let value = last(rt, &value, form.value_length);
+    let key = last(rt, &key, layout.key_length);
+    let value = last(rt, &value, layout.value_length);
     volume.insert(rt, tree, key, value)
 }
 
@@ -58,11 +58,11 @@ fn replace(
     number: u32,
     value_of: u32,
 ) -> bool {
-    let form = tree.form();
+    let layout = tree.layout();
     let key = key_bytes(number);
     let value = value_bytes(value_of);
-    let key = last(rt, &key, form.key_length);
-    let value = last(rt, &value, form.value_length);
+    let key = last(rt, &key, layout.key_length);
+    let value = last(rt, &value, layout.value_length);
     volume.replace(rt, tree, key, value)
 }
 
@@ -71,11 +71,11 @@ fn grown(
     rt: &impl Abort,
     alloc: Global,
     volume: &mut Volume,
-    form: TreeForm,
+    layout: RowLayout,
     order: Order,
     entries: u32,
 ) -> Tree {
-    let mut tree = tree_of(rt, alloc, form, 0);
+    let mut tree = tree_of(rt, alloc, layout, 0);
     for step in 0..entries {
         let number = number_at(order, step, entries);
         same_in(
@@ -97,8 +97,8 @@ fn grown(
 fn five_thousand_entries(rt: HostRuntime) {
     for order in [Order::Ascending, Order::Descending, Order::Alternating] {
         let mut volume = Volume::empty(&rt, rt.alloc());
-        let form = form_of(4, 100);
-        let tree = grown(&rt, rt.alloc(), &mut volume, form, order, 5000);
+        let layout = layout_of(4, 100);
+        let tree = grown(&rt, rt.alloc(), &mut volume, layout, order, 5000);
         walks(&rt, &mut volume, &tree, 5000);
         volume.reopen(&rt, rt.alloc(), 64);
         walks(&rt, &mut volume, &tree, 5000);
@@ -110,8 +110,8 @@ fn five_thousand_entries(rt: HostRuntime) {
 fn trees_of_three_levels(rt: HostRuntime) {
     for order in [Order::Ascending, Order::Descending, Order::Alternating] {
         let mut volume = Volume::empty(&rt, rt.alloc());
-        let form = form_of(100, 1060);
-        let tree = grown(&rt, rt.alloc(), &mut volume, form, order, 240);
+        let layout = layout_of(100, 1060);
+        let tree = grown(&rt, rt.alloc(), &mut volume, layout, order, 240);
         reads(&rt, &mut volume, &tree, 240);
     }
 }
@@ -125,7 +125,7 @@ fn full_leaves(rt: HostRuntime) {
         &rt,
         rt.alloc(),
         &mut volume,
-        form_of(4, 100),
+        layout_of(4, 100),
         Order::Ascending,
         5000,
     );
@@ -136,14 +136,21 @@ fn full_leaves(rt: HostRuntime) {
 #[test]
 fn keys_that_are_there(rt: HostRuntime) {
     let mut volume = Volume::empty(&rt, rt.alloc());
-    let form = form_of(4, 100);
-    let mut tree = grown(&rt, rt.alloc(), &mut volume, form, Order::Alternating, 200);
+    let layout = layout_of(4, 100);
+    let mut tree = grown(
+        &rt,
+        rt.alloc(),
+        &mut volume,
+        layout,
+        Order::Alternating,
+        200,
+    );
     holds(&rt, !insert(&rt, &mut volume, &mut tree, 70, 80));
     holds(&rt, !replace(&rt, &mut volume, &mut tree, 75, 80));
-    same(&rt, volume.touched(), 0);
+    same(&rt, volume.changed_pages(), 0);
     reads(&rt, &mut volume, &tree, 200);
     holds(&rt, replace(&rt, &mut volume, &mut tree, 70, 80));
-    same(&rt, volume.touched(), 1);
+    same(&rt, volume.changed_pages(), 1);
     let key = key_bytes(70);
     let replaced = found(&rt, volume.get(&rt, &tree, last(&rt, &key, 4)));
     match replaced {
@@ -159,13 +166,13 @@ fn keys_that_are_there(rt: HostRuntime) {
 fn the_first_entry(rt: HostRuntime) {
     for (key_length, value_length) in [(1, 0), (4, 3), (100, 1060)] {
         let mut volume = Volume::empty(&rt, rt.alloc());
-        let form = form_of(key_length, value_length);
-        let mut tree = tree_of(&rt, rt.alloc(), form, 0);
+        let layout = layout_of(key_length, value_length);
+        let mut tree = tree_of(&rt, rt.alloc(), layout, 0);
         holds(&rt, !replace(&rt, &mut volume, &mut tree, 10, 10));
         holds(&rt, insert(&rt, &mut volume, &mut tree, 10, 10));
         holds(&rt, tree.root() != 0);
-        same(&rt, volume.touched(), 1);
+        same(&rt, volume.changed_pages(), 1);
         let first = found(&rt, volume.first(&rt, &tree));
-        is_entry(&rt, form, first, Some(10), "first", 10);
+        is_entry(&rt, layout, first, Some(10), "first", 10);
     }
 }

@@ -11,9 +11,9 @@ mod edit_tests;
 #[cfg(test)]
 mod entries;
 #[cfg(test)]
-mod form_tests;
-#[cfg(test)]
 mod insert_tests;
+#[cfg(test)]
+mod layout_tests;
 #[cfg(test)]
 mod page_tests;
 #[cfg(test)]

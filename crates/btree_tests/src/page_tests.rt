@@ -1,15 +1,15 @@
 //! Rows of a page's bytes, and of what is read from them.
 use crate::asserted::{
-    child, form_of, has_bytes, has_row, insert, insert_child, layout, leaf_of, new_page, read_page,
-    same, same_in,
+    child, has_bytes, has_row, insert, insert_child, laid_out, layout_of, leaf_of, new_page,
+    read_page, same, same_in,
 };
 use std::process::Abort;
-use tree_pages::{Kind, NodeView, TreeForm};
+use tree_pages::{Kind, NodeView, RowLayout};
 
 // The page that these bytes are, seen where they stand.
-fn seen<'a>(rt: &impl Abort, bytes: &'a [u8; 4096], form: TreeForm) -> NodeView<'a> {
-    assert!(rt; form.is_possible());
-    match NodeView::read(bytes, form) {
+fn seen<'a>(rt: &impl Abort, bytes: &'a [u8; 4096], layout: RowLayout) -> NodeView<'a> {
+    assert!(rt; layout.is_possible());
+    match NodeView::read(bytes, layout) {
         Some(page) => page,
         None => panic!(rt; "it is a page"),
     }
@@ -25,7 +25,7 @@ fn is_seen(rt: &impl Abort, page: &NodeView, place: usize, key: &[u8], rest: &[u
 // Three rows that come in mixed order of places.
 #[test]
 fn bytes_of_a_leaf(rt: HostRuntime) {
-    let mut leaf = new_page(&rt, form_of(2, 3), Kind::Leaf);
+    let mut leaf = new_page(&rt, layout_of(2, 3), Kind::Leaf);
     has_bytes(&rt, &leaf, 1, 0, b"");
     insert(&rt, &mut leaf, 0, b"cc", b"333");
     has_bytes(&rt, &leaf, 1, 1, b"cc333");
@@ -37,7 +37,7 @@ fn bytes_of_a_leaf(rt: HostRuntime) {
 
 #[test]
 fn bytes_of_an_inner_page(rt: HostRuntime) {
-    let mut page = new_page(&rt, form_of(2, 3), Kind::Inner);
+    let mut page = new_page(&rt, layout_of(2, 3), Kind::Inner);
     has_bytes(&rt, &page, 2, 0, b"");
     insert_child(&rt, &mut page, 0, b"mm", 0x0102_0304);
     insert_child(&rt, &mut page, 0, b"aa", 7);
@@ -58,11 +58,11 @@ fn a_leaf_read_back(rt: HostRuntime) {
     marked[4..16].fill(9);
     marked[31..].fill(9);
     for bytes in [plain, marked] {
-        let Some(leaf) = read_page(&rt, bytes, form_of(2, 3)) else {
+        let Some(leaf) = read_page(&rt, bytes, layout_of(2, 3)) else {
             panic!(rt; "it is a page");
         };
         same(&rt, (leaf.count(), leaf.kind()), (3, Kind::Leaf));
-        same(&rt, leaf.form(), form_of(2, 3));
+        same(&rt, leaf.layout(), layout_of(2, 3));
         has_row(&rt, &leaf, 0, b"aa", b"111");
         has_row(&rt, &leaf, 1, b"bb", b"222");
         has_row(&rt, &leaf, 2, b"cc", b"333");
@@ -72,45 +72,45 @@ fn a_leaf_read_back(rt: HostRuntime) {
 // The kind is 1 or 2, and the rows fit: 4,080 divided by a row's length, cut down.
 #[test]
 fn bytes_that_are_a_page(rt: HostRuntime) {
-    for (form, kind, count, rows) in [
-        (form_of(2, 3), 0, 0, None),
-        (form_of(2, 3), 0, 1, None),
-        (form_of(2, 3), 1, 0, Some(0)),
-        (form_of(2, 3), 2, 0, Some(0)),
-        (form_of(2, 3), 3, 0, None),
-        (form_of(2, 3), 3, 1, None),
-        (form_of(2, 3), 255, 1, None),
-        (form_of(2, 3), 1, 259, Some(259)),
-        (form_of(2, 3), 1, 816, Some(816)),
-        (form_of(2, 3), 1, 817, None),
-        (form_of(2, 3), 1, 65_535, None),
-        (form_of(2, 3), 2, 680, Some(680)),
-        (form_of(2, 3), 2, 681, None),
-        (form_of(1, 0), 1, 4080, Some(4080)),
-        (form_of(1, 0), 1, 4081, None),
-        (form_of(1, 0), 2, 816, Some(816)),
-        (form_of(1, 0), 2, 817, None),
-        (form_of(100, 1260), 1, 3, Some(3)),
-        (form_of(100, 1260), 1, 4, None),
-        (form_of(100, 1260), 2, 39, Some(39)),
-        (form_of(100, 1260), 2, 40, None),
-        (form_of(1356, 0), 1, 3, Some(3)),
-        (form_of(1356, 0), 1, 4, None),
-        (form_of(1356, 0), 2, 3, Some(3)),
-        (form_of(1356, 0), 2, 4, None),
+    for (layout, kind, count, rows) in [
+        (layout_of(2, 3), 0, 0, None),
+        (layout_of(2, 3), 0, 1, None),
+        (layout_of(2, 3), 1, 0, Some(0)),
+        (layout_of(2, 3), 2, 0, Some(0)),
+        (layout_of(2, 3), 3, 0, None),
+        (layout_of(2, 3), 3, 1, None),
+        (layout_of(2, 3), 255, 1, None),
+        (layout_of(2, 3), 1, 259, Some(259)),
+        (layout_of(2, 3), 1, 816, Some(816)),
+        (layout_of(2, 3), 1, 817, None),
+        (layout_of(2, 3), 1, 65_535, None),
+        (layout_of(2, 3), 2, 680, Some(680)),
+        (layout_of(2, 3), 2, 681, None),
+        (layout_of(1, 0), 1, 4080, Some(4080)),
+        (layout_of(1, 0), 1, 4081, None),
+        (layout_of(1, 0), 2, 816, Some(816)),
+        (layout_of(1, 0), 2, 817, None),
+        (layout_of(100, 1260), 1, 3, Some(3)),
+        (layout_of(100, 1260), 1, 4, None),
+        (layout_of(100, 1260), 2, 39, Some(39)),
+        (layout_of(100, 1260), 2, 40, None),
+        (layout_of(1356, 0), 1, 3, Some(3)),
+        (layout_of(1356, 0), 1, 4, None),
+        (layout_of(1356, 0), 2, 3, Some(3)),
+        (layout_of(1356, 0), 2, 4, None),
     ] {
-        let read = read_page(&rt, layout(kind, count, b""), form);
+        let read = read_page(&rt, laid_out(kind, count, b""), layout);
         let told = read.map(|page| page.count());
-        same_in(&rt, &(form, kind, count), told, rows);
+        same_in(&rt, &(layout, kind, count), told, rows);
     }
 }
 
 #[test]
 fn a_leaf_where_it_stands(rt: HostRuntime) {
-    let bytes = layout(1, 3, b"aa111bb222cc333");
-    let page = seen(&rt, &bytes, form_of(2, 3));
+    let bytes = laid_out(1, 3, b"aa111bb222cc333");
+    let page = seen(&rt, &bytes, layout_of(2, 3));
     same(&rt, (page.count(), page.kind()), (3, Kind::Leaf));
-    same(&rt, page.form(), form_of(2, 3));
+    same(&rt, page.layout(), layout_of(2, 3));
     is_seen(&rt, &page, 0, b"aa", b"111");
     is_seen(&rt, &page, 2, b"cc", b"333");
     same(&rt, (page.find(b"bb"), page.find(b"bc")), (Ok(1), Err(2)));
@@ -120,8 +120,8 @@ fn a_leaf_where_it_stands(rt: HostRuntime) {
 
 #[test]
 fn an_inner_page_where_it_stands(rt: HostRuntime) {
-    let bytes = layout(2, 2, b"mm\x01\x02\x03\x04aa\x00\x00\x00\x07");
-    let page = seen(&rt, &bytes, form_of(2, 3));
+    let bytes = laid_out(2, 2, b"mm\x01\x02\x03\x04aa\x00\x00\x00\x07");
+    let page = seen(&rt, &bytes, layout_of(2, 3));
     same(&rt, (page.count(), page.kind()), (2, Kind::Inner));
     assert!(rt; page.kind() == Kind::Inner);
     assert!(rt; 2 <= page.count());

@@ -4,7 +4,7 @@ use crate::entries::{key_bytes, last, value_bytes};
 use crate::volume::Volume;
 use std::alloc::Global;
 use std::process::Abort;
-use tree_pages::{Kind, TreeForm};
+use tree_pages::{Kind, RowLayout};
 
 /// A page of a tree, and the number of the least key below it.
 #[derive(Clone, Copy)]
@@ -17,11 +17,11 @@ pub struct Planted {
 fn plant_leaf(
     rt: &impl Abort,
     volume: &mut Volume,
-    form: TreeForm,
+    layout: RowLayout,
     before: u32,
     count: u32,
 ) -> Planted {
-    let mut leaf = new_page(rt, form, Kind::Leaf);
+    let mut leaf = new_page(rt, layout, Kind::Leaf);
     for place in 0..count {
         let number = before.wrapping_add(place).wrapping_add(1).wrapping_mul(10);
         let key = key_bytes(number);
@@ -30,8 +30,8 @@ fn plant_leaf(
             rt,
             &mut leaf,
             place as usize,
-            last(rt, &key, form.key_length),
-            last(rt, &value, form.value_length),
+            last(rt, &key, layout.key_length),
+            last(rt, &value, layout.value_length),
         );
     }
     Planted {
@@ -45,13 +45,13 @@ pub fn plant_leaves(
     rt: &impl Abort,
     alloc: Global,
     volume: &mut Volume,
-    form: TreeForm,
+    layout: RowLayout,
     counts: &[u32],
 ) -> Vec<Planted> {
     let mut level = Vec::new(alloc);
     let mut before = 0u32;
     for count in counts.iter() {
-        let leaf = plant_leaf(rt, volume, form, before, *count);
+        let leaf = plant_leaf(rt, volume, layout, before, *count);
         assert!(rt; level.push(leaf).is_ok());
         before = before.wrapping_add(*count);
     }
@@ -62,10 +62,10 @@ pub fn plant_leaves(
 pub fn plant_inner(
     rt: &impl Abort,
     volume: &mut Volume,
-    form: TreeForm,
+    layout: RowLayout,
     children: &[Planted],
 ) -> Planted {
-    let mut page = new_page(rt, form, Kind::Inner);
+    let mut page = new_page(rt, layout, Kind::Inner);
     for child in children.iter() {
         let key = key_bytes(child.least);
         let place = page.count();
@@ -73,7 +73,7 @@ pub fn plant_inner(
             rt,
             &mut page,
             place,
-            last(rt, &key, form.key_length),
+            last(rt, &key, layout.key_length),
             child.page,
         );
     }
@@ -89,7 +89,7 @@ fn plant_level(
     rt: &impl Abort,
     alloc: Global,
     volume: &mut Volume,
-    form: TreeForm,
+    layout: RowLayout,
     below: &[Planted],
     counts: &[u32],
 ) -> Vec<Planted> {
@@ -98,7 +98,7 @@ fn plant_level(
     for count in counts.iter() {
         assert!(rt; *count as usize <= rest.len());
         let (children, behind) = rest.split_at(*count as usize);
-        let page = plant_inner(rt, volume, form, children);
+        let page = plant_inner(rt, volume, layout, children);
         assert!(rt; level.push(page).is_ok());
         rest = behind;
     }
@@ -111,13 +111,13 @@ pub fn plant(
     rt: &impl Abort,
     alloc: Global,
     volume: &mut Volume,
-    form: TreeForm,
+    layout: RowLayout,
     leaves: &[u32],
     inner: &[&[u32]],
 ) -> u32 {
-    let mut level = plant_leaves(rt, alloc, volume, form, leaves);
+    let mut level = plant_leaves(rt, alloc, volume, layout, leaves);
     for counts in inner.iter() {
-        level = plant_level(rt, alloc, volume, form, &level, counts);
+        level = plant_level(rt, alloc, volume, layout, &level, counts);
     }
     assert!(rt; level.len() == 1);
     level[0].page

@@ -1,13 +1,13 @@
 //! Rows of what is read of a tree: each number from 0 to behind the last entry, for each call, before a commit, after it, and with
 //! the volume opened again.
-use crate::asserted::{form_of, same};
+use crate::asserted::{layout_of, same};
 use crate::entries::{is_entry, key_bytes, last};
 use crate::planted::plant;
 use crate::volume::{Volume, found, tree_of, works};
 use btree::Tree;
 use std::alloc::Global;
 use std::process::Abort;
-use tree_pages::TreeForm;
+use tree_pages::RowLayout;
 
 // The first entry from a number on, of so many entries.
 fn from_on(number: u32, entries: u32) -> Option<u32> {
@@ -30,16 +30,16 @@ fn with(number: u32, entries: u32) -> Option<u32> {
 
 // Asks for a number by each call that takes a key.
 fn asks(rt: &impl Abort, volume: &mut Volume, tree: &Tree, number: u32, entries: u32) {
-    let form = tree.form();
+    let layout = tree.layout();
     let bytes = key_bytes(number);
-    let key = last(rt, &bytes, form.key_length);
+    let key = last(rt, &bytes, layout.key_length);
     let got = found(rt, volume.get(rt, tree, key));
-    is_entry(rt, form, got, with(number, entries), "get", number);
+    is_entry(rt, layout, got, with(number, entries), "get", number);
     let sought = found(rt, volume.seek(rt, tree, key));
-    is_entry(rt, form, sought, from_on(number, entries), "seek", number);
+    is_entry(rt, layout, sought, from_on(number, entries), "seek", number);
     let following = found(rt, volume.next(rt, tree, key));
     let after = from_on(number.wrapping_add(1), entries);
-    is_entry(rt, form, following, after, "next", number);
+    is_entry(rt, layout, following, after, "next", number);
 }
 
 // Asks for each number from one on, up to but without the end.
@@ -65,7 +65,7 @@ pub fn walks(rt: &impl Abort, volume: &mut Volume, tree: &Tree, entries: u32) {
             panic!(rt; "none in place of {number}");
         };
         entry = found(rt, volume.next(rt, tree, now.key()));
-        is_entry(rt, tree.form(), Some(now), Some(number), "walk", number);
+        is_entry(rt, tree.layout(), Some(now), Some(number), "walk", number);
     }
     assert!(rt; entry.is_none(), "one behind the last");
 }
@@ -80,15 +80,15 @@ pub fn reads(rt: &impl Abort, volume: &mut Volume, tree: &Tree, entries: u32) {
 fn plants(
     rt: &impl Abort,
     alloc: Global,
-    form: TreeForm,
+    layout: RowLayout,
     leaves: &[u32],
     inner: &[&[u32]],
     entries: u32,
 ) {
     let mut volume = Volume::empty(rt, alloc);
-    let root = plant(rt, alloc, &mut volume, form, leaves, inner);
-    let tree = tree_of(rt, alloc, form, root);
-    same(rt, (tree.form(), tree.root()), (form, root));
+    let root = plant(rt, alloc, &mut volume, layout, leaves, inner);
+    let tree = tree_of(rt, alloc, layout, root);
+    same(rt, (tree.layout(), tree.root()), (layout, root));
     reads(rt, &mut volume, &tree, entries);
     works(rt, volume.commit(rt));
     reads(rt, &mut volume, &tree, entries);
@@ -99,14 +99,14 @@ fn plants(
 }
 
 // The lengths of keys and values.
-const FORMS: [(usize, usize); 6] = [(4, 3), (4, 0), (1, 0), (1, 1060), (100, 0), (100, 1060)];
+const LAYOUTS: [(usize, usize); 6] = [(4, 3), (4, 0), (1, 0), (1, 1060), (100, 0), (100, 1060)];
 
 #[test]
 fn one_leaf(rt: HostRuntime) {
-    for (key_length, value_length) in FORMS {
-        let form = form_of(key_length, value_length);
+    for (key_length, value_length) in LAYOUTS {
+        let layout = layout_of(key_length, value_length);
         for entries in [1, 2, 3] {
-            plants(&rt, rt.alloc(), form, &[entries], &[], entries);
+            plants(&rt, rt.alloc(), layout, &[entries], &[], entries);
         }
     }
 }
@@ -114,25 +114,25 @@ fn one_leaf(rt: HostRuntime) {
 #[test]
 fn two_levels(rt: HostRuntime) {
     let (two, three) = ([2], [3]);
-    for (key_length, value_length) in FORMS {
-        let form = form_of(key_length, value_length);
+    for (key_length, value_length) in LAYOUTS {
+        let layout = layout_of(key_length, value_length);
         let upper = [two.as_slice()];
-        plants(&rt, rt.alloc(), form, &[1, 1], &upper, 2);
-        plants(&rt, rt.alloc(), form, &[3, 2], &upper, 5);
+        plants(&rt, rt.alloc(), layout, &[1, 1], &upper, 2);
+        plants(&rt, rt.alloc(), layout, &[3, 2], &upper, 5);
         let upper = [three.as_slice()];
-        plants(&rt, rt.alloc(), form, &[3, 1, 2], &upper, 6);
+        plants(&rt, rt.alloc(), layout, &[3, 1, 2], &upper, 6);
     }
 }
 
 #[test]
 fn three_levels(rt: HostRuntime) {
     let (uneven, even, top) = ([2, 3], [2, 2], [2]);
-    for (key_length, value_length) in FORMS {
-        let form = form_of(key_length, value_length);
+    for (key_length, value_length) in LAYOUTS {
+        let layout = layout_of(key_length, value_length);
         let upper = [uneven.as_slice(), top.as_slice()];
-        plants(&rt, rt.alloc(), form, &[2, 1, 3, 2, 1], &upper, 9);
+        plants(&rt, rt.alloc(), layout, &[2, 1, 3, 2, 1], &upper, 9);
         let upper = [even.as_slice(), top.as_slice()];
-        plants(&rt, rt.alloc(), form, &[1, 1, 1, 1], &upper, 4);
+        plants(&rt, rt.alloc(), layout, &[1, 1, 1, 1], &upper, 4);
     }
 }
 
@@ -145,9 +145,9 @@ fn five_levels(rt: HostRuntime) {
         high.as_slice(),
         top.as_slice(),
     ];
-    for (key_length, value_length) in FORMS {
-        let form = form_of(key_length, value_length);
-        plants(&rt, rt.alloc(), form, &[1; 16], &upper, 16);
+    for (key_length, value_length) in LAYOUTS {
+        let layout = layout_of(key_length, value_length);
+        plants(&rt, rt.alloc(), layout, &[1; 16], &upper, 16);
     }
 }
 
@@ -161,9 +161,9 @@ fn full_pages(rt: HostRuntime) {
         (leaves.as_slice(), most.as_slice(), 510),
     ] {
         let mut volume = Volume::empty(&rt, rt.alloc());
-        let form = form_of(4, 4);
-        let root = plant(&rt, rt.alloc(), &mut volume, form, counts, &[upper]);
-        let tree = tree_of(&rt, rt.alloc(), form, root);
+        let layout = layout_of(4, 4);
+        let root = plant(&rt, rt.alloc(), &mut volume, layout, counts, &[upper]);
+        let tree = tree_of(&rt, rt.alloc(), layout, root);
         for first in [0u32, 2490, 5090, 10190] {
             let end = first.wrapping_add(35);
             asks_each(&rt, &mut volume, &tree, first, end, entries);
@@ -174,13 +174,13 @@ fn full_pages(rt: HostRuntime) {
 // Without a root there are no entries, whatever the pages.
 #[test]
 fn no_root(rt: HostRuntime) {
-    for (key_length, value_length) in FORMS {
-        let form = form_of(key_length, value_length);
-        let tree = tree_of(&rt, rt.alloc(), form, 0);
-        same(&rt, (tree.form(), tree.root()), (form, 0));
+    for (key_length, value_length) in LAYOUTS {
+        let layout = layout_of(key_length, value_length);
+        let tree = tree_of(&rt, rt.alloc(), layout, 0);
+        same(&rt, (tree.layout(), tree.root()), (layout, 0));
         let mut volume = Volume::empty(&rt, rt.alloc());
         reads(&rt, &mut volume, &tree, 0);
-        plant(&rt, rt.alloc(), &mut volume, form, &[3], &[]);
+        plant(&rt, rt.alloc(), &mut volume, layout, &[3], &[]);
         reads(&rt, &mut volume, &tree, 0);
     }
 }
@@ -189,16 +189,16 @@ fn no_root(rt: HostRuntime) {
 #[test]
 fn trees_beside_each_other(rt: HostRuntime) {
     let two = [2];
-    let (one_form, other_form) = (form_of(4, 3), form_of(100, 0));
+    let (one_layout, other_layout) = (layout_of(4, 3), layout_of(100, 0));
     let mut volume = Volume::empty(&rt, rt.alloc());
     let upper = [two.as_slice()];
-    let root = plant(&rt, rt.alloc(), &mut volume, one_form, &[2, 3], &upper);
-    let one = tree_of(&rt, rt.alloc(), one_form, root);
+    let root = plant(&rt, rt.alloc(), &mut volume, one_layout, &[2, 3], &upper);
+    let one = tree_of(&rt, rt.alloc(), one_layout, root);
     works(&rt, volume.commit(&rt));
-    let root = plant(&rt, rt.alloc(), &mut volume, other_form, &[1, 1], &upper);
-    let other = tree_of(&rt, rt.alloc(), other_form, root);
-    let touched = volume.touched();
+    let root = plant(&rt, rt.alloc(), &mut volume, other_layout, &[1, 1], &upper);
+    let other = tree_of(&rt, rt.alloc(), other_layout, root);
+    let changed_pages = volume.changed_pages();
     reads(&rt, &mut volume, &one, 5);
     reads(&rt, &mut volume, &other, 2);
-    same(&rt, volume.touched(), touched);
+    same(&rt, volume.changed_pages(), changed_pages);
 }

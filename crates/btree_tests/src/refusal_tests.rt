@@ -1,5 +1,5 @@
 //! Rows of a device that fails, and of a volume that a refused commit has spent.
-use crate::asserted::{form_of, same, same_in};
+use crate::asserted::{layout_of, same, same_in};
 use crate::entries::{is_entry, key_bytes, last};
 use crate::planted::plant;
 use crate::volume::{Volume, found, tree_of, works};
@@ -28,7 +28,7 @@ fn answer(
     | Call::Next(number, _)
     | Call::First(number)) = call;
     let bytes = key_bytes(number);
-    let key = last(rt, &bytes, tree.form().key_length);
+    let key = last(rt, &bytes, tree.layout().key_length);
     match call {
         Call::Get(_, _) => volume.get(rt, tree, key),
         Call::Seek(_, _) => volume.seek(rt, tree, key),
@@ -56,10 +56,10 @@ fn refusal(answer: Result<Option<Entry>, PagesError>) -> Option<PagesError> {
 // A tree of three levels and nine entries: leaves of 10 and 20, 30, 40 to 60, 70 and 80, and 90.
 fn three_levels(rt: &impl Abort, alloc: Global, volume: &mut Volume) -> Tree {
     let (upper, top) = ([2, 3], [2]);
-    let form = form_of(4, 3);
+    let layout = layout_of(4, 3);
     let inner = [upper.as_slice(), top.as_slice()];
-    let root = plant(rt, alloc, volume, form, &[2, 1, 3, 2, 1], &inner);
-    tree_of(rt, alloc, form, root)
+    let root = plant(rt, alloc, volume, layout, &[2, 1, 3, 2, 1], &inner);
+    tree_of(rt, alloc, layout, root)
 }
 
 // The read with this number fails in a call; the next attempt answers.
@@ -78,7 +78,7 @@ fn fails(
     same_in(rt, &failing, told, Some(PagesError::Device));
     let entry = found(rt, answer(rt, volume, tree, call));
     let number = number_of(call);
-    is_entry(rt, tree.form(), entry, Some(number), "again", number);
+    is_entry(rt, tree.layout(), entry, Some(number), "again", number);
 }
 
 // Each of the three reads of a descent fails.

@@ -9,7 +9,7 @@ use station::{Device, MemoryStation};
 use std::alloc::{AllocError, Global};
 use std::marker::Model;
 use std::process::Abort;
-use tree_pages::TreeForm;
+use tree_pages::RowLayout;
 
 /// Asserts that a call wasn't refused.
 pub fn works(rt: &impl Abort, answer: Result<(), PagesError>) {
@@ -106,8 +106,8 @@ impl Volume {
     }
 
     /// How many pages were changed since the last commit.
-    pub fn touched(&self) -> usize {
-        self.pages.touched()
+    pub fn changed_pages(&self) -> usize {
+        self.pages.changed_pages()
     }
 
     /// How many sectors are free.
@@ -117,8 +117,8 @@ impl Volume {
 
     pub fn insert(&mut self, rt: &impl Abort, tree: &mut Tree, key: &[u8], value: &[u8]) -> bool {
         assert!(rt; self.pages.sectors() <= self.station.count());
-        assert!(rt; key.len() == tree.form().key_length);
-        assert!(rt; value.len() == tree.form().value_length);
+        assert!(rt; key.len() == tree.layout().key_length);
+        assert!(rt; value.len() == tree.layout().value_length);
         match tree.insert(&mut self.pages, &mut self.station, key, value) {
             Ok(is_new) => is_new,
             Err(error) => panic!(rt; "insert: {error:?}"),
@@ -127,7 +127,7 @@ impl Volume {
 
     pub fn replace(&mut self, rt: &impl Abort, tree: &mut Tree, key: &[u8], value: &[u8]) -> bool {
         assert!(rt; self.pages.sectors() <= self.station.count());
-        assert!(rt; value.len() == tree.form().value_length);
+        assert!(rt; value.len() == tree.layout().value_length);
         match tree.replace(&mut self.pages, &mut self.station, key, value) {
             Ok(is_there) => is_there,
             Err(error) => panic!(rt; "replace: {error:?}"),
@@ -170,8 +170,8 @@ impl Volume {
     }
 }
 
-/// The tree of this form below a root.
-pub fn tree_of(rt: &impl Abort, alloc: Global, form: TreeForm, root: u32) -> Tree {
-    assert!(rt; form.is_possible());
-    Tree::new(alloc, form, root)
+/// The tree of this layout below a root.
+pub fn tree_of(rt: &impl Abort, alloc: Global, layout: RowLayout, root: u32) -> Tree {
+    assert!(rt; layout.is_possible());
+    Tree::new(alloc, layout, root)
 }

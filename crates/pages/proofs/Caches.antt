@@ -13,9 +13,9 @@ use Rattle.station.specs.Disk.{Sector}
 use Rattle.lru.specs.LruCache.{LruCache, lru_cache, promoted, put_entries}
 use Rattle.lru.proofs.CallerLemmas.{Contains-lookup, Contains-promoted, Contains-remove_entry, Contains-put_entries}
 use Rattle.pages.specs.Cache.{IsCacheOf, Recalls, StaysOut, ComesIn}
-use Rattle.pages.specs.Changes.{changed, touched, Touches}
+use Rattle.pages.specs.Changes.{changed, changed_pages, ChangesPage}
 use Rattle.pages.specs.declared.change.Change.{Change}
-use Rattle.pages.proofs.Edits.{touched_at, away_same}
+use Rattle.pages.proofs.Edits.{changed_at, away_same}
 
 -- a page of the cache is the page
 pub hit_page : (pages : List (Option Sector)) (changed : List ℕ) (entries : List (ℕ × Sector)) (page : ℕ) (bytes : Sector) → IsCacheOf pages changed entries → lookup (nat_eq page) entries ≡ Some bytes → Some bytes ≡ get_or pages page None
@@ -56,7 +56,7 @@ after_put pages changed cache page bytes here away is = record {
       (λ put. ap (λ (p : ℕ). get_or pages p None) (put_key cache.entries page e put.1) ∙ here ∙ ap (λ (b : Sector). Some b) (sym put.0))
       (Contains-put_entries nat_eq cache page bytes e has);
   unchanged = λ e has. ⊎_elim (λ was. is.unchanged e was)
-      (λ put touched. away (subst (Contains changed) (put_key cache.entries page e put.1) touched))
+      (λ put changed_pages. away (subst (Contains changed) (put_key cache.entries page e put.1) changed_pages))
       (Contains-put_entries nat_eq cache page bytes e has);
 }
 
@@ -96,23 +96,23 @@ in_one : (page other : ℕ) → Contains (page ∷ []) other → other ≡ page
 in_one page other has = at_one page other has.0 has.1 has.2
 
 -- a page is changed, and leaves the cache
-pub after_removed : (pages : List (Option Sector)) (old new : List ℕ) (entries : List (ℕ × Sector)) (page : ℕ) → IsDistinct nat_eq (keys_of entries) → Touches old page new → IsCacheOf pages old entries → IsCacheOf pages new (remove_entry (nat_eq page) entries)
-after_removed pages old new entries page distinct touches is = record {
+pub after_removed : (pages : List (Option Sector)) (old new : List ℕ) (entries : List (ℕ × Sector)) (page : ℕ) → IsDistinct nat_eq (keys_of entries) → ChangesPage old page new → IsCacheOf pages old entries → IsCacheOf pages new (remove_entry (nat_eq page) entries)
+after_removed pages old new entries page distinct changes_page is = record {
   right = λ e has. is.right e (Contains-remove_entry (nat_eq page) entries e has);
-  unchanged = λ e has touched. ⊎_elim
-      (λ same. is.unchanged e (Contains-remove_entry (nat_eq page) entries e has) (subst (λ (l : List ℕ). Contains l e.0) same.1 touched))
+  unchanged = λ e has changed_pages. ⊎_elim
+      (λ same. is.unchanged e (Contains-remove_entry (nat_eq page) entries e has) (subst (λ (l : List ℕ). Contains l e.0) same.1 changed_pages))
       (λ more. ⊎_elim (is.unchanged e (Contains-remove_entry (nat_eq page) entries e has)) (λ last. removed_away entries page e distinct has (in_one page e.0 last))
-      (Contains-append_cases old (page ∷ []) e.0 (subst (λ (l : List ℕ). Contains l e.0) more.1 touched)))
-      touches;
+      (Contains-append_cases old (page ∷ []) e.0 (subst (λ (l : List ℕ). Contains l e.0) more.1 changed_pages)))
+      changes_page;
 }
 
 -- After a commit of what was changed the cache is that of the new pages.
-pub after_commit : (pages after : List (Option Sector)) (changes left : List Change) (entries : List (ℕ × Sector)) → after ≡ changed pages changes → left ≡ [] → IsCacheOf pages (touched changes) entries → IsCacheOf after (touched left) entries
+pub after_commit : (pages after : List (Option Sector)) (changes left : List Change) (entries : List (ℕ × Sector)) → after ≡ changed pages changes → left ≡ [] → IsCacheOf pages (changed_pages changes) entries → IsCacheOf after (changed_pages left) entries
 after_commit pages after changes left entries next none is = record {
   right = λ e has. ap (λ (l : List (Option Sector)). get_or l e.0 None) next
-      ∙ away_same (λ (o : Option Sector). o) pages changes e.0 None (λ k d lt same. is.unchanged e has (touched_at changes k e.0 d lt same))
+      ∙ away_same (λ (o : Option Sector). o) pages changes e.0 None (λ k d lt same. is.unchanged e has (changed_at changes k e.0 d lt same))
       ∙ is.right e has;
-  unchanged = λ e has. subst (λ (l : List Change). Contains (touched l) e.0 → ⊥) (sym none) (λ there. omega (arith, there.1));
+  unchanged = λ e has. subst (λ (l : List Change). Contains (changed_pages l) e.0 → ⊥) (sym none) (λ there. omega (arith, there.1));
 }
 
 -- what is seen of a page is the page

@@ -30,11 +30,11 @@ pub unnamed_yet : (v : Volume) (used : List Bool) (named : List ℕ) (turns : Li
 unnamed_yet v used named turns next s naming later free has = ⊎_elim (λ old. free.unnamed old) (λ lt. omega (arith, lt, later)) (naming.fresh s has)
 
 -- equal lists have equal facts
-staged_as : (v : Volume) (maps maps' table table' : List ℕ) (dirty dirty' : List Bool) (blocks blocks' : List Block) (changes : List Change) → maps' ≡ maps → table' ≡ table → dirty' ≡ dirty → blocks' ≡ blocks
-    → IsStaged v maps table dirty blocks changes → IsStaged v maps' table' dirty' blocks' changes
-staged_as v maps maps' table table' dirty dirty' blocks blocks' changes m t d b is =
-    subst (λ (x : List ℕ). IsStaged v x table' dirty' blocks' changes) (sym m) (subst (λ (x : List ℕ). IsStaged v maps x dirty' blocks' changes) (sym t)
-    (subst (λ (x : List Bool). IsStaged v maps table x blocks' changes) (sym d) (subst (λ (x : List Block). IsStaged v maps table dirty x changes) (sym b) is)))
+staged_as : (v : Volume) (maps maps' table table' : List ℕ) (changed_maps changed_maps' : List Bool) (blocks blocks' : List Block) (changes : List Change) → maps' ≡ maps → table' ≡ table → changed_maps' ≡ changed_maps → blocks' ≡ blocks
+    → IsStaged v maps table changed_maps blocks changes → IsStaged v maps' table' changed_maps' blocks' changes
+staged_as v maps maps' table table' changed_maps changed_maps' blocks blocks' changes m t d b is =
+    subst (λ (x : List ℕ). IsStaged v x table' changed_maps' blocks' changes) (sym m) (subst (λ (x : List ℕ). IsStaged v maps x changed_maps' blocks' changes) (sym t)
+    (subst (λ (x : List Bool). IsStaged v maps table x blocks' changes) (sym d) (subst (λ (x : List Block). IsStaged v maps table changed_maps x changes) (sym b) is)))
 
 mapped_as : (v : Volume) (maps maps' table table' : List ℕ) (blocks blocks' : List Block) (next : ℕ) → maps' ≡ maps → table' ≡ table → blocks' ≡ blocks → IsMapped v maps table blocks next → IsMapped v maps' table' blocks' next
 mapped_as v maps maps' table table' blocks blocks' next m t b is =
@@ -45,7 +45,7 @@ naming_as v used used' named named' turns turns' next next' u n t k is =
     subst (λ (x : List Bool). Naming v x named' turns' next') (sym u) (subst (λ (x : List ℕ). Naming v used x turns' next') (sym n)
     (subst (λ (x : List Turn). Naming v used named x next') (sym t) (subst (λ (x : ℕ). Naming v used named turns x) (sym k) is)))
 
-module _ (v : Volume) (m : VolumeMap) (d : Draft) (changes : List Change) (draft : IsDraft v m d changes) (c : Change) (some : 0 < c.page) (in_table : c.page < length m.table.items) (low : c.page / 1024 < length d.dirty.items) where
+module _ (v : Volume) (m : VolumeMap) (d : Draft) (changes : List Change) (draft : IsDraft v m d changes) (c : Change) (some : 0 < c.page) (in_table : c.page < length m.table.items) (low : c.page / 1024 < length d.changed_maps.items) where
   abbrev maps : List ℕ
   maps = m.maps.items
 
@@ -79,9 +79,9 @@ module _ (v : Volume) (m : VolumeMap) (d : Draft) (changes : List Change) (draft
       record {
         in_use = subst (λ (u : List Bool). IsUse v.root.sectors (names v) u) (sym sets.size.used) draft.in_use;
         some = draft.some;
-        staged = staged_as v maps after.maps.items (set table c.page s) after.table.items (set d.dirty.items (c.page / 1024) true) last.dirty.items (d.blocks.items ++ b ∷ []) last.blocks.items (changes ++ c ∷ [])
-            (ap (λ (x : Vec ℕ Global). x.items) sets.maps) sets.table (sets.dirty ∙ ap (λ (x : Vec Bool Global). set x.items (c.page / 1024) true) placed.dirty) (ap (λ (x : Vec Block Global). x.items) sets.blocks ∙ placed.blocks)
-            (page_staged v maps table d.dirty.items d.blocks.items changes c draft.staged some low b free (λ has. unnamed (Contains-append_right maps table s has)) is);
+        staged = staged_as v maps after.maps.items (set table c.page s) after.table.items (set d.changed_maps.items (c.page / 1024) true) last.changed_maps.items (d.blocks.items ++ b ∷ []) last.blocks.items (changes ++ c ∷ [])
+            (ap (λ (x : Vec ℕ Global). x.items) sets.maps) sets.table (sets.changed_maps ∙ ap (λ (x : Vec Bool Global). set x.items (c.page / 1024) true) placed.changed_maps) (ap (λ (x : Vec Block Global). x.items) sets.blocks ∙ placed.blocks)
+            (page_staged v maps table d.changed_maps.items d.blocks.items changes c draft.staged some low b free (λ has. unnamed (Contains-append_right maps table s has)) is);
         naming = naming_as v m.used after.used (maps ++ set table c.page s) (after.maps.items ++ after.table.items) (d.turns.items ++ turns_of (get_or table c.page 0) s) last.turns.items (s + 1) last.next
             sets.size.used (ap (λ (x : Vec ℕ Global). x.items ++ after.table.items) sets.maps ∙ ap (λ (l : List ℕ). maps ++ l) sets.table)
             (sets.turns ∙ ap (λ (x : Vec Turn Global). x.items ++ turns_of (get_or table c.page 0) s) placed.turns) (sets.next ∙ placed.next)
@@ -95,16 +95,16 @@ module _ (v : Volume) (m : VolumeMap) (d : Draft) (changes : List Change) (draft
       subst (λ (x : VolumeMap). IsDraft v x last (changes ++ c ∷ [])) (sym same_volume) (subst (λ (x : Draft). IsDraft v m x (changes ++ c ∷ [])) (sym same_draft) (record {
         in_use = draft.in_use;
         some = draft.some;
-        staged = staged_as v maps maps (set table c.page 0) table d.dirty.items d.dirty.items d.blocks.items d.blocks.items (changes ++ c ∷ []) refl (sym same) refl refl
-            (page_released v maps table d.dirty.items d.blocks.items changes c draft.staged some low is d.dirty.items (inr (refl, none)));
+        staged = staged_as v maps maps (set table c.page 0) table d.changed_maps.items d.changed_maps.items d.blocks.items d.blocks.items (changes ++ c ∷ []) refl (sym same) refl refl
+            (page_released v maps table d.changed_maps.items d.blocks.items changes c draft.staged some low is d.changed_maps.items (inr (refl, none)));
         naming = draft.naming;
       }))
   release_drafted last after is (HadOne some_there sets) = record {
     in_use = subst (λ (u : List Bool). IsUse v.root.sectors (names v) u) (sym sets.size.used) draft.in_use;
     some = draft.some;
-    staged = staged_as v maps after.maps.items (set table c.page 0) after.table.items (set d.dirty.items (c.page / 1024) true) last.dirty.items d.blocks.items last.blocks.items (changes ++ c ∷ [])
-        (ap (λ (x : Vec ℕ Global). x.items) sets.maps) sets.table sets.dirty (ap (λ (x : Vec Block Global). x.items) sets.blocks)
-        (page_released v maps table d.dirty.items d.blocks.items changes c draft.staged some low is (set d.dirty.items (c.page / 1024) true) (inl refl));
+    staged = staged_as v maps after.maps.items (set table c.page 0) after.table.items (set d.changed_maps.items (c.page / 1024) true) last.changed_maps.items d.blocks.items last.blocks.items (changes ++ c ∷ [])
+        (ap (λ (x : Vec ℕ Global). x.items) sets.maps) sets.table sets.changed_maps (ap (λ (x : Vec Block Global). x.items) sets.blocks)
+        (page_released v maps table d.changed_maps.items d.blocks.items changes c draft.staged some low is (set d.changed_maps.items (c.page / 1024) true) (inl refl));
     naming = naming_as v m.used after.used (maps ++ set table c.page 0) (after.maps.items ++ after.table.items) (d.turns.items ++ turns_of (get_or table c.page 0) 0) last.turns.items d.next last.next
         sets.size.used (ap (λ (x : Vec ℕ Global). x.items ++ after.table.items) sets.maps ∙ ap (λ (l : List ℕ). maps ++ l) sets.table) sets.turns sets.next
         (table_renamed 0 d.next (inl (refl, refl)));
@@ -113,8 +113,8 @@ module _ (v : Volume) (m : VolumeMap) (d : Draft) (changes : List Change) (draft
 -- the maps of a draft, one after the other
 module _ (v : Volume) (m : VolumeMap) (d : Draft) (changes : List Change) (j : ℕ) (draft : IsMappedDraft v m d changes j) (low : j < length m.maps.items) where
   -- one whose entries didn't change
-  pub kept_mapped : get_or d.dirty.items j false ≡ false → IsMappedDraft v m d changes (j + 1)
-  kept_mapped is = record { draft = draft.draft; mapped = map_kept v m.maps.items m.table.items d.dirty.items d.blocks.items changes j draft.draft.staged draft.mapped low is }
+  pub kept_mapped : get_or d.changed_maps.items j false ≡ false → IsMappedDraft v m d changes (j + 1)
+  kept_mapped is = record { draft = draft.draft; mapped = map_kept v m.maps.items m.table.items d.changed_maps.items d.blocks.items changes j draft.draft.staged draft.mapped low is }
 
   maps_renamed : (s after : ℕ) → ((s ≡ 0) × (after ≡ d.next)) ⊎ ((d.next ≤ s) × IsFree v s × (after ≡ s + 1))
       → Naming v m.used (set m.maps.items j s ++ m.table.items) (d.turns.items ++ turns_of (get_or m.maps.items j 0) s) after
@@ -127,20 +127,20 @@ module _ (v : Volume) (m : VolumeMap) (d : Draft) (changes : List Change) (j : �
   blank_mapped last after blank sets =
       let maps_is = sets.maps in
       let table_is = ap (λ (x : Vec ℕ Global). x.items) sets.table in
-      let dirty_is = ap (λ (x : Vec Bool Global). x.items) sets.dirty in
+      let changed_is = ap (λ (x : Vec Bool Global). x.items) sets.changed_maps in
       let blocks_is = ap (λ (x : Vec Block Global). x.items) sets.blocks in
       record {
         draft = record {
           in_use = subst (λ (u : List Bool). IsUse v.root.sectors (names v) u) (sym sets.size.used) draft.draft.in_use;
           some = draft.draft.some;
-          staged = staged_as v (set m.maps.items j 0) after.maps.items m.table.items after.table.items d.dirty.items last.dirty.items d.blocks.items last.blocks.items changes maps_is table_is dirty_is blocks_is
-              (blank_staged v m.maps.items m.table.items d.dirty.items d.blocks.items changes j draft.draft.staged draft.mapped low);
+          staged = staged_as v (set m.maps.items j 0) after.maps.items m.table.items after.table.items d.changed_maps.items last.changed_maps.items d.blocks.items last.blocks.items changes maps_is table_is changed_is blocks_is
+              (blank_staged v m.maps.items m.table.items d.changed_maps.items d.blocks.items changes j draft.draft.staged draft.mapped low);
           naming = naming_as v m.used after.used (set m.maps.items j 0 ++ m.table.items) (after.maps.items ++ after.table.items) (d.turns.items ++ turns_of (get_or m.maps.items j 0) 0) last.turns.items d.next last.next
               sets.size.used (ap (λ (x : List ℕ). x ++ after.table.items) maps_is ∙ ap (λ (l : List ℕ). set m.maps.items j 0 ++ l) table_is) sets.turns sets.next
               (maps_renamed 0 d.next (inl (refl, refl)));
         };
         mapped = mapped_as v (set m.maps.items j 0) after.maps.items m.table.items after.table.items d.blocks.items last.blocks.items (j + 1) maps_is table_is blocks_is
-            (map_blank v m.maps.items m.table.items d.dirty.items d.blocks.items changes j draft.draft.staged draft.mapped low blank);
+            (map_blank v m.maps.items m.table.items d.changed_maps.items d.blocks.items changes j draft.draft.staged draft.mapped low blank);
       }
 
   -- one that is written
@@ -151,21 +151,21 @@ module _ (v : Volume) (m : VolumeMap) (d : Draft) (changes : List Change) (j : �
       let unnamed = unnamed_yet v m.used (m.maps.items ++ m.table.items) d.turns.items d.next s draft.draft.naming placed.later free in
       let maps_is = sets.maps in
       let table_is = ap (λ (x : Vec ℕ Global). x.items) sets.table in
-      let dirty_is = ap (λ (x : Vec Bool Global). x.items) (sets.dirty ∙ placed.dirty) in
+      let changed_is = ap (λ (x : Vec Bool Global). x.items) (sets.changed_maps ∙ placed.changed_maps) in
       let blocks_is = ap (λ (x : Vec Block Global). x.items) sets.blocks ∙ placed.blocks in
       record {
         draft = record {
           in_use = subst (λ (u : List Bool). IsUse v.root.sectors (names v) u) (sym sets.size.used) draft.draft.in_use;
           some = draft.draft.some;
-          staged = staged_as v (set m.maps.items j s) after.maps.items m.table.items after.table.items d.dirty.items last.dirty.items (d.blocks.items ++ b ∷ []) last.blocks.items changes maps_is table_is dirty_is blocks_is
-              (written_staged v m.maps.items m.table.items d.dirty.items d.blocks.items changes j draft.draft.staged draft.mapped low b free unnamed);
+          staged = staged_as v (set m.maps.items j s) after.maps.items m.table.items after.table.items d.changed_maps.items last.changed_maps.items (d.blocks.items ++ b ∷ []) last.blocks.items changes maps_is table_is changed_is blocks_is
+              (written_staged v m.maps.items m.table.items d.changed_maps.items d.blocks.items changes j draft.draft.staged draft.mapped low b free unnamed);
           naming = naming_as v m.used after.used (set m.maps.items j s ++ m.table.items) (after.maps.items ++ after.table.items) (d.turns.items ++ turns_of (get_or m.maps.items j 0) s) last.turns.items (s + 1) last.next
               sets.size.used (ap (λ (x : List ℕ). x ++ after.table.items) maps_is ∙ ap (λ (l : List ℕ). set m.maps.items j s ++ l) table_is)
               (sets.turns ∙ ap (λ (x : Vec Turn Global). x.items ++ turns_of (get_or m.maps.items j 0) s) placed.turns) (sets.next ∙ placed.next)
               (maps_renamed s (s + 1) (inr (placed.later, free, refl)));
         };
         mapped = mapped_as v (set m.maps.items j s) after.maps.items m.table.items after.table.items (d.blocks.items ++ b ∷ []) last.blocks.items (j + 1) maps_is table_is blocks_is
-            (map_written v m.maps.items m.table.items d.dirty.items d.blocks.items changes j draft.draft.staged draft.mapped low b free unnamed spells);
+            (map_written v m.maps.items m.table.items d.changed_maps.items d.blocks.items changes j draft.draft.staged draft.mapped low b free unnamed spells);
       }
 
 pub same_size_then : (a b c : VolumeMap) → SameSize a b → SameSize b c → SameSize a c
@@ -186,7 +186,7 @@ placed_in same placed = record {
   first = rw (sym same) placed.first;
   free = rw (sym same) placed.free;
   blocks = placed.blocks;
-  dirty = placed.dirty;
+  changed_maps = placed.changed_maps;
   turns = placed.turns;
   next = placed.next;
 }

@@ -73,24 +73,24 @@ is_only changes page i once some low here = record {
       (get_or-map (λ (c : Change). c.page) changes k d 0 lt ∙ is ∙ sym (here d) ∙ sym (get_or-map (λ (c : Change). c.page) changes i d 0 low));
 }
 
-pub same_touched : (changes : List Change) (i : ℕ) (new d : Change) → i < length changes → new.page ≡ (get_or changes i d).page → map (λ (c : Change). c.page) (set changes i new) ≡ map (λ (c : Change). c.page) changes
-same_touched changes i new d low same =
+pub same_changed : (changes : List Change) (i : ℕ) (new d : Change) → i < length changes → new.page ≡ (get_or changes i d).page → map (λ (c : Change). c.page) (set changes i new) ≡ map (λ (c : Change). c.page) changes
+same_changed changes i new d low same =
     map-set (λ (c : Change). c.page) changes i new
     ∙ ap (λ (p : ℕ). set (map (λ (c : Change). c.page) changes) i p) (same ∙ sym (get_or-map (λ (c : Change). c.page) changes i d 0 low))
     ∙ set-get_or (map (λ (c : Change). c.page) changes) i 0
 
-pub away_touched : (changes : List Change) (page : ℕ) → Away page changes → Contains (map (λ (c : Change). c.page) changes) page → ⊥
-away_touched [] page away has = omega (arith, has.1)
-away_touched (x ∷ changes) page away has =
+pub away_changed : (changes : List Change) (page : ℕ) → Away page changes → Contains (map (λ (c : Change). c.page) changes) page → ⊥
+away_changed [] page away has = omega (arith, has.1)
+away_changed (x ∷ changes) page away has =
     let count = length-map (x ∷ changes) (λ (c : Change). c.page) in
     let lt : has.0 < length (x ∷ changes) = omega (arith, has.1, count) in
     away has.0 x lt (sym (get_or-map (λ (c : Change). c.page) (x ∷ changes) has.0 x page lt) ∙ has.2)
 
-pub push_touched : (changes : List Change) (new : Change) → NamesOnce (map (λ (c : Change). c.page) changes) → Away new.page changes → NamesOnce (map (λ (c : Change). c.page) (changes ++ new ∷ []))
-push_touched changes new once away = subst NamesOnce (sym (map_push (λ (c : Change). c.page) changes new)) (push_once (map (λ (c : Change). c.page) changes) new.page once (inr (away_touched changes new.page away)))
+pub push_changed : (changes : List Change) (new : Change) → NamesOnce (map (λ (c : Change). c.page) changes) → Away new.page changes → NamesOnce (map (λ (c : Change). c.page) (changes ++ new ∷ []))
+push_changed changes new once away = subst NamesOnce (sym (map_push (λ (c : Change). c.page) changes new)) (push_once (map (λ (c : Change). c.page) changes) new.page once (inr (away_changed changes new.page away)))
 
-pub touched_at : (changes : List Change) (i page : ℕ) (d : Change) → i < length changes → (get_or changes i d).page ≡ page → Contains (map (λ (c : Change). c.page) changes) page
-touched_at changes i page d low here = (i, omega (arith, low, length-map changes (λ (c : Change). c.page)), get_or-map (λ (c : Change). c.page) changes i d page low ∙ here)
+pub changed_at : (changes : List Change) (i page : ℕ) (d : Change) → i < length changes → (get_or changes i d).page ≡ page → Contains (map (λ (c : Change). c.page) changes) page
+changed_at changes i page d low here = (i, omega (arith, low, length-map changes (λ (c : Change). c.page)), get_or-map (λ (c : Change). c.page) changes i d page low ∙ here)
 
 pub none_from : {T : Type 0} (o : Option T) → is_some o ≡ false → o ≡ None
 none_from None is = refl

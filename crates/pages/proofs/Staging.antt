@@ -37,25 +37,25 @@ page_put image table s page bytes high lt unnamed =
     ∙ ap (λ (o : Option Sector). set (pages_in image table) page o) (page_here (set image s bytes) s high ∙ ap (λ (b : Sector). Some b) (get_or-set_same image s bytes [] lt))
 
 -- the entries of other maps stay
-clean_set : (v : Volume) (table : List ℕ) (dirty : List Bool) (page s : ℕ) → page / 1024 < length dirty
-    → ((p : ℕ) → get_or dirty (p / 1024) false ≡ false → get_or table p 0 ≡ get_or v.table p 0)
-    → (p : ℕ) → get_or (set dirty (page / 1024) true) (p / 1024) false ≡ false → get_or (set table page s) p 0 ≡ get_or v.table p 0
-clean_set v table dirty page s low clean p is = ⊎_elim
-    (λ at. absurd (true≢false (sym (get_or-set_same dirty (page / 1024) true false low) ∙ subst (λ (q : ℕ). get_or (set dirty (page / 1024) true) q false ≡ false) at is)))
-    (λ other. get_or-set_other table page p s 0 (λ e. other (ap (λ (q : ℕ). q / 1024) e)) ∙ clean p (sym (get_or-set_other dirty (page / 1024) (p / 1024) true false other) ∙ is))
+clean_set : (v : Volume) (table : List ℕ) (changed_maps : List Bool) (page s : ℕ) → page / 1024 < length changed_maps
+    → ((p : ℕ) → get_or changed_maps (p / 1024) false ≡ false → get_or table p 0 ≡ get_or v.table p 0)
+    → (p : ℕ) → get_or (set changed_maps (page / 1024) true) (p / 1024) false ≡ false → get_or (set table page s) p 0 ≡ get_or v.table p 0
+clean_set v table changed_maps page s low clean p is = ⊎_elim
+    (λ at. absurd (true≢false (sym (get_or-set_same changed_maps (page / 1024) true false low) ∙ subst (λ (q : ℕ). get_or (set changed_maps (page / 1024) true) q false ≡ false) at is)))
+    (λ other. get_or-set_other table page p s 0 (λ e. other (ap (λ (q : ℕ). q / 1024) e)) ∙ clean p (sym (get_or-set_other changed_maps (page / 1024) (p / 1024) true false other) ∙ is))
     (cases_eq (p / 1024) (page / 1024))
 
-module _ (v : Volume) (maps table : List ℕ) (dirty : List Bool) (blocks : List Block) (changes : List Change) (c : Change) (staged : IsStaged v maps table dirty blocks changes) (some : 0 < c.page) (low : c.page / 1024 < length dirty) where
+module _ (v : Volume) (maps table : List ℕ) (changed_maps : List Bool) (blocks : List Block) (changes : List Change) (c : Change) (staged : IsStaged v maps table changed_maps blocks changes) (some : 0 < c.page) (low : c.page / 1024 < length changed_maps) where
   -- a page with new bytes
   pub page_staged : (b : Block) → IsFree v b.sector → (Contains table b.sector → ⊥) → c.bytes ≡ Some b.bytes
-      → IsStaged v maps (set table c.page b.sector) (set dirty (c.page / 1024) true) (blocks ++ b ∷ []) (changes ++ c ∷ [])
+      → IsStaged v maps (set table c.page b.sector) (set changed_maps (c.page / 1024) true) (blocks ++ b ∷ []) (changes ++ c ∷ [])
   page_staged b free unnamed bytes = record {
     maps_count = staged.maps_count;
     table_count = length-set table c.page b.sector ∙ staged.table_count;
-    dirty_count = length-set dirty (c.page / 1024) true ∙ staged.dirty_count;
+    changed_maps_count = length-set changed_maps (c.page / 1024) true ∙ staged.changed_maps_count;
     unused = get_or-set_other table c.page 0 b.sector 0 (λ e. omega (arith, e, some)) ∙ staged.unused;
     free = All-push (λ (x : Block). IsFree v x.sector) blocks b staged.free free;
-    clean = clean_set v table dirty c.page b.sector low staged.clean;
+    clean = clean_set v table changed_maps c.page b.sector low staged.clean;
     pages = λ base all reads.
         rw (with_all_more base blocks b) (rw (applied_more (λ (o : Option Sector). o) (pages_in base v.table) changes c) (rw bytes (
         page_put (with_all base blocks) table b.sector c.page b.bytes free.high (omega (arith, free.low, all, with_all_count base blocks)) unnamed
@@ -63,16 +63,16 @@ module _ (v : Volume) (maps table : List ℕ) (dirty : List Bool) (blocks : List
   }
 
   -- a page that was released
-  pub page_released : c.bytes ≡ None → (after : List Bool) → (after ≡ set dirty (c.page / 1024) true) ⊎ ((after ≡ dirty) × (get_or table c.page 0 ≡ 0))
+  pub page_released : c.bytes ≡ None → (after : List Bool) → (after ≡ set changed_maps (c.page / 1024) true) ⊎ ((after ≡ changed_maps) × (get_or table c.page 0 ≡ 0))
       → IsStaged v maps (set table c.page 0) after blocks (changes ++ c ∷ [])
   page_released bytes after how = record {
     maps_count = staged.maps_count;
     table_count = length-set table c.page 0 ∙ staged.table_count;
-    dirty_count = ⊎_elim (λ is. ap length is ∙ length-set dirty (c.page / 1024) true) (λ (is, _). ap length is) how ∙ staged.dirty_count;
+    changed_maps_count = ⊎_elim (λ is. ap length is ∙ length-set changed_maps (c.page / 1024) true) (λ (is, _). ap length is) how ∙ staged.changed_maps_count;
     unused = get_or-set_other table c.page 0 0 0 (λ e. omega (arith, e, some)) ∙ staged.unused;
     free = staged.free;
     clean = λ p is. ⊎_elim
-        (λ set_there. clean_set v table dirty c.page 0 low staged.clean p (subst (λ (l : List Bool). get_or l (p / 1024) false ≡ false) set_there is))
+        (λ set_there. clean_set v table changed_maps c.page 0 low staged.clean p (subst (λ (l : List Bool). get_or l (p / 1024) false ≡ false) set_there is))
         (λ (same, none). ap (λ (l : List ℕ). get_or l p 0) (ap (set table c.page) (sym none) ∙ set-get_or table c.page 0) ∙ staged.clean p (subst (λ (l : List Bool). get_or l (p / 1024) false ≡ false) same is)) how;
     pages = λ base all reads.
         rw (applied_more (λ (o : Option Sector). o) (pages_in base v.table) changes c) (rw bytes (
@@ -87,15 +87,15 @@ keeps_used v base blocks image free spares = record { count = spares.count; each
     free_at : (s : ℕ) → Contains (map (λ (b : Block). b.sector) blocks) s → IsFree v s
     free_at s has = All-contains (IsFree v) (map (λ (b : Block). b.sector) blocks) s (All-map (IsFree v) (λ (b : Block). b.sector) blocks free) has
 
--- a map that isn't dirty has its old entries
-clean_part : (v : Volume) (table : List ℕ) (dirty : List Bool) (i : ℕ) → length table ≡ length v.table → ((p : ℕ) → get_or dirty (p / 1024) false ≡ false → get_or table p 0 ≡ get_or v.table p 0)
-    → get_or dirty i false ≡ false → map_part table i ≡ map_part v.table i
-clean_part v table dirty i count clean is = ext_get_or 0 (map_part table i) (map_part v.table i)
+-- a map that isn't changed_maps has its old entries
+clean_part : (v : Volume) (table : List ℕ) (changed_maps : List Bool) (i : ℕ) → length table ≡ length v.table → ((p : ℕ) → get_or changed_maps (p / 1024) false ≡ false → get_or table p 0 ≡ get_or v.table p 0)
+    → get_or changed_maps i false ≡ false → map_part table i ≡ map_part v.table i
+clean_part v table changed_maps i count clean is = ext_get_or 0 (map_part table i) (map_part v.table i)
     (length-take 1024 (drop (1024 * i) table) ∙ ap (λ (n : ℕ). min 1024 n) (length-drop (1024 * i) table ∙ ap (λ (n : ℕ). n - 1024 * i) count ∙ sym (length-drop (1024 * i) v.table)) ∙ sym (length-take 1024 (drop (1024 * i) v.table)))
     (λ k lt.
     let low : k < 1024 = omega (arith, lt, length-take 1024 (drop (1024 * i) table)) in
     let here : (1024 * i + k) / 1024 ≡ i = omega (arith, low) in
-    get_or-take 1024 (drop (1024 * i) table) k 0 low ∙ get_or-drop (1024 * i) table k 0 ∙ clean (1024 * i + k) (ap (λ (q : ℕ). get_or dirty q false) here ∙ is)
+    get_or-take 1024 (drop (1024 * i) table) k 0 low ∙ get_or-drop (1024 * i) table k 0 ∙ clean (1024 * i + k) (ap (λ (q : ℕ). get_or changed_maps q false) here ∙ is)
     ∙ sym (get_or-take 1024 (drop (1024 * i) v.table) k 0 low ∙ get_or-drop (1024 * i) v.table k 0))
 
 map_here : (image : List Sector) (m : ℕ) → 2 ≤ m → map_at image m ≡ words (sector_at image m)
@@ -105,9 +105,9 @@ map_here image (suc m) high = refl
 below_next : (i j : ℕ) → i < j + 1 → (i < j) ⊎ (i ≡ j)
 below_next i j lt = ⊎_elim (λ below. inl below) (λ past. inr (omega (arith, lt, past))) (cases_lt i j)
 
-module _ (v : Volume) (maps table : List ℕ) (dirty : List Bool) (blocks : List Block) (changes : List Change) (j : ℕ) (staged : IsStaged v maps table dirty blocks changes) (mapped : IsMapped v maps table blocks j) (low : j < length maps) where
+module _ (v : Volume) (maps table : List ℕ) (changed_maps : List Bool) (blocks : List Block) (changes : List Change) (j : ℕ) (staged : IsStaged v maps table changed_maps blocks changes) (mapped : IsMapped v maps table blocks j) (low : j < length maps) where
   -- a map whose entries didn't change stays where it is
-  pub map_kept : get_or dirty j false ≡ false → IsMapped v maps table blocks (j + 1)
+  pub map_kept : get_or changed_maps j false ≡ false → IsMapped v maps table blocks (j + 1)
   map_kept is = record {
     spelled = λ base all reads i lt. ⊎_elim (λ below. mapped.spelled base all reads i below)
         (λ at. subst (λ (k : ℕ). map_at (with_all base blocks) (get_or maps k 0) ≡ map_part table k) (sym at) (here base reads)) (below_next i j lt);
@@ -120,7 +120,7 @@ module _ (v : Volume) (maps table : List ℕ) (dirty : List Bool) (blocks : List
           let keeps = keeps_used v base blocks (with_all base blocks) staged.free (all_same_outside base blocks) in
           let same = named_same v base (with_all base blocks) reads keeps (get_or v.root.maps j 0) (Contains-append_left v.root.maps v.table (get_or v.root.maps j 0) (Contains-get_or v.root.maps j 0 inside)) in
           ap (map_at (with_all base blocks)) (mapped.others j (omega arith)) ∙ map_same (with_all base blocks) base (get_or v.root.maps j 0) same ∙ reads.maps.entries j inside
-          ∙ sym (clean_part v table dirty j staged.table_count staged.clean is)
+          ∙ sym (clean_part v table changed_maps j staged.table_count staged.clean is)
 
   -- a map of zeros has no sector
   pub map_blank : map_part table j ≡ zeros → IsMapped v (set maps j 0) table blocks (j + 1)
@@ -131,11 +131,11 @@ module _ (v : Volume) (maps table : List ℕ) (dirty : List Bool) (blocks : List
     others = λ i le. get_or-set_other maps j i 0 0 (λ e. omega (arith, e, le)) ∙ mapped.others i (omega (arith, le));
   }
 
-  pub blank_staged : IsStaged v (set maps j 0) table dirty blocks changes
+  pub blank_staged : IsStaged v (set maps j 0) table changed_maps blocks changes
   blank_staged = record {
     maps_count = length-set maps j 0 ∙ staged.maps_count;
     table_count = staged.table_count;
-    dirty_count = staged.dirty_count;
+    changed_maps_count = staged.changed_maps_count;
     unused = staged.unused;
     free = staged.free;
     clean = staged.clean;
@@ -160,11 +160,11 @@ module _ (v : Volume) (maps table : List ℕ) (dirty : List Bool) (blocks : List
       others = λ i le. get_or-set_other maps j i b.sector 0 (λ e. omega (arith, e, le)) ∙ mapped.others i (omega (arith, le));
     }
 
-    pub written_staged : IsStaged v (set maps j b.sector) table dirty (blocks ++ b ∷ []) changes
+    pub written_staged : IsStaged v (set maps j b.sector) table changed_maps (blocks ++ b ∷ []) changes
     written_staged = record {
       maps_count = length-set maps j b.sector ∙ staged.maps_count;
       table_count = staged.table_count;
-      dirty_count = staged.dirty_count;
+      changed_maps_count = staged.changed_maps_count;
       unused = staged.unused;
       free = All-push (λ (x : Block). IsFree v x.sector) blocks b staged.free free;
       clean = staged.clean;

@@ -13,7 +13,7 @@ use Rattle.pages.specs.declared.draft.Draft.{Draft}
 use Rattle.pages.specs.declared.volume.VolumeMap.{VolumeMap}
 use Rattle.pages.specs.Image.{Volume, NamesOnce, names, map_part}
 use Rattle.pages.specs.Use.{free_count}
-use Rattle.pages.specs.Changes.{touched, kept}
+use Rattle.pages.specs.Changes.{changed_pages, kept}
 use Rattle.pages.specs.Needed.{filled, alters, has_pages, is_written, written_below, needed}
 use Rattle.pages.specs.Volumes.{volume_of, IsSound, IsFresh, IsCounted, PlacesBlock, SetsPage, SetsMap, ReleasesPage, HadNone, HadOne, unused_count}
 use Rattle.pages.proofs.Counting.{count_rest, front_le, count_push, taken_next, taken_as, taken_start}
@@ -63,17 +63,17 @@ alters_none : (v : Volume) (i : ℕ) (c : Change) → changes_entry v c ≡ fals
 alters_none v i c is = ap (λ (b : Bool). (c.page / 1024 == i) && b) is ∙ and_false (c.page / 1024 == i)
 
 -- the maps of which an entry changed
-abbrev pub AreDirty : Volume → List Change → List Bool → Type 0
-AreDirty v changes dirty = (i : ℕ) → i < length dirty → get_or dirty i false ≡ list_any (alters v i) changes
+abbrev pub AreChanged : Volume → List Change → List Bool → Type 0
+AreChanged v changes changed_maps = (i : ℕ) → i < length changed_maps → get_or changed_maps i false ≡ list_any (alters v i) changes
 
-dirty_set : (v : Volume) (changes : List Change) (c : Change) (dirty : List Bool) → AreDirty v changes dirty → c.page / 1024 < length dirty → changes_entry v c ≡ true → AreDirty v (changes ++ c ∷ []) (set dirty (c.page / 1024) true)
-dirty_set v changes c dirty are low is i lt = ⊎_elim
-    (λ at. ap (λ (k : ℕ). get_or (set dirty (c.page / 1024) true) k false) at ∙ get_or-set_same dirty (c.page / 1024) true false low ∙ sym (any_yes (alters v i) changes c (alters_here v i c (sym at) is)))
-    (λ away. get_or-set_other dirty (c.page / 1024) i true false away ∙ are i (omega (arith, lt, length-set dirty (c.page / 1024) true)) ∙ sym (any_no (alters v i) changes c (alters_away v i c (λ e. away (sym e)))))
+changed_set : (v : Volume) (changes : List Change) (c : Change) (changed_maps : List Bool) → AreChanged v changes changed_maps → c.page / 1024 < length changed_maps → changes_entry v c ≡ true → AreChanged v (changes ++ c ∷ []) (set changed_maps (c.page / 1024) true)
+changed_set v changes c changed_maps are low is i lt = ⊎_elim
+    (λ at. ap (λ (k : ℕ). get_or (set changed_maps (c.page / 1024) true) k false) at ∙ get_or-set_same changed_maps (c.page / 1024) true false low ∙ sym (any_yes (alters v i) changes c (alters_here v i c (sym at) is)))
+    (λ away. get_or-set_other changed_maps (c.page / 1024) i true false away ∙ are i (omega (arith, lt, length-set changed_maps (c.page / 1024) true)) ∙ sym (any_no (alters v i) changes c (alters_away v i c (λ e. away (sym e)))))
     (cases_eq i (c.page / 1024))
 
-dirty_same : (v : Volume) (changes : List Change) (c : Change) (dirty : List Bool) → AreDirty v changes dirty → changes_entry v c ≡ false → AreDirty v (changes ++ c ∷ []) dirty
-dirty_same v changes c dirty are is i lt = are i lt ∙ sym (any_no (alters v i) changes c (alters_none v i c is))
+changed_same : (v : Volume) (changes : List Change) (c : Change) (changed_maps : List Bool) → AreChanged v changes changed_maps → changes_entry v c ≡ false → AreChanged v (changes ++ c ∷ []) changed_maps
+changed_same v changes c changed_maps are is i lt = are i lt ∙ sym (any_no (alters v i) changes c (alters_none v i c is))
 
 -- one more change, with bytes and without
 filled_yes : (changes : List Change) (c : Change) → is_some c.bytes ≡ true → filled (changes ++ c ∷ []) ≡ filled changes + 1
@@ -96,7 +96,7 @@ module _ (v : Volume) (m : VolumeMap) (d : Draft) (changes : List Change) (maps 
   more_blocks : (mid : Draft) (s : ℕ) (bytes : Sector) → PlacesBlock m.used d mid s bytes → length mid.blocks.items ≡ length d.blocks.items + 1
   more_blocks mid s bytes placed = ap length placed.blocks ∙ length-append d.blocks.items (record { sector = s; bytes = bytes } ∷ [])
 
-  module _ (c : Change) (away : Away c.page changes) (low : c.page / 1024 < length d.dirty.items) where
+  module _ (c : Change) (away : Away c.page changes) (low : c.page / 1024 < length d.changed_maps.items) where
     -- a page with new bytes
     pub page_counted : (bytes : Sector) (mid last : Draft) (after : VolumeMap) (s : ℕ) → c.bytes ≡ Some bytes → PlacesBlock m.used d mid s bytes → SetsPage m after mid last c.page s → IsCounted v after last (changes ++ c ∷ []) maps
     page_counted bytes mid last after s is placed sets =
@@ -108,8 +108,8 @@ module _ (v : Volume) (m : VolumeMap) (d : Draft) (changes : List Change) (maps 
               (taken_next m.used d mid s bytes counted.taken placed);
           blocks = omega (arith, ap (λ (b : Vec Block Global). length b.items) sets.blocks, more_blocks mid s bytes placed, counted.blocks, filled_yes changes c some);
           pages = ap (map names_sector) sets.table ∙ kept_set v m.table.items changes c s counted.pages (ap not (ne_eqb s 0 sector) ∙ sym some);
-          dirty = subst (AreDirty v (changes ++ c ∷ [])) (sym (sets.dirty ∙ ap (λ (x : Vec Bool Global). set x.items (c.page / 1024) true) placed.dirty))
-              (dirty_set v changes c d.dirty.items counted.dirty low (or_left (is_some c.bytes) (names_sector (get_or v.table c.page 0)) some));
+          changed_maps = subst (AreChanged v (changes ++ c ∷ [])) (sym (sets.changed_maps ∙ ap (λ (x : Vec Bool Global). set x.items (c.page / 1024) true) placed.changed_maps))
+              (changed_set v changes c d.changed_maps.items counted.changed_maps low (or_left (is_some c.bytes) (names_sector (get_or v.table c.page 0)) some));
         }
 
     -- a page that was released
@@ -122,7 +122,7 @@ module _ (v : Volume) (m : VolumeMap) (d : Draft) (changes : List Change) (maps 
           taken = counted.taken;
           blocks = counted.blocks ∙ ap (λ (n : ℕ). n + maps) (sym (filled_no changes c absent));
           pages = ap (map names_sector) (sym (ap (set m.table.items c.page) (sym none) ∙ set-get_or m.table.items c.page 0)) ∙ kept_set v m.table.items changes c 0 counted.pages (sym absent);
-          dirty = dirty_same v changes c d.dirty.items counted.dirty entry;
+          changed_maps = changed_same v changes c d.changed_maps.items counted.changed_maps entry;
         }))
     release_counted last after is (HadOne some sets) =
         let absent : is_some c.bytes ≡ false = ap is_some is in
@@ -132,7 +132,7 @@ module _ (v : Volume) (m : VolumeMap) (d : Draft) (changes : List Change) (maps 
           taken = taken_as m.used after.used d.next last.next d.blocks.items last.blocks.items sets.size.used sets.next (ap (λ (b : Vec Block Global). b.items) sets.blocks) counted.taken;
           blocks = ap (λ (b : Vec Block Global). length b.items) sets.blocks ∙ counted.blocks ∙ ap (λ (n : ℕ). n + maps) (sym (filled_no changes c absent));
           pages = ap (map names_sector) sets.table ∙ kept_set v m.table.items changes c 0 counted.pages (sym absent);
-          dirty = subst (AreDirty v (changes ++ c ∷ [])) (sym sets.dirty) (dirty_set v changes c d.dirty.items counted.dirty low entry);
+          changed_maps = subst (AreChanged v (changes ++ c ∷ [])) (sym sets.changed_maps) (changed_set v changes c d.changed_maps.items counted.changed_maps low entry);
         }
 
   -- no sector is left
@@ -157,27 +157,27 @@ written_le v changes i (suc k) =
     omega (arith, written_le v changes i k, ap (written_below v changes) next)
 
 -- a map sector, where so many before it were written
-module _ (v : Volume) (m : VolumeMap) (d : Draft) (changes : List Change) (j : ℕ) (counted : IsCounted v m d changes (written_below v changes j)) (low : j < length d.dirty.items) where
+module _ (v : Volume) (m : VolumeMap) (d : Draft) (changes : List Change) (j : ℕ) (counted : IsCounted v m d changes (written_below v changes j)) (low : j < length d.changed_maps.items) where
   has_is : has_pages v changes j ≡ not (list_all (λ entry. entry == 0) (map_part m.table.items j))
   has_is = ap (λ (l : List Bool). list_any (λ here. here) (take 1024 (drop (1024 * j) l))) (sym counted.pages)
       ∙ ap (λ (l : List Bool). list_any (λ here. here) (take 1024 l)) (drop-map names_sector (1024 * j) m.table.items)
       ∙ ap (list_any (λ here. here)) (take-map names_sector 1024 (drop (1024 * j) m.table.items))
       ∙ any_named (map_part m.table.items j)
 
-  clean_unwritten : get_or d.dirty.items j false ≡ false → is_written v changes j ≡ false
+  clean_unwritten : get_or d.changed_maps.items j false ≡ false → is_written v changes j ≡ false
   unfolding is_written
-  clean_unwritten is = ap (λ (b : Bool). b && has_pages v changes j) (sym (counted.dirty j low) ∙ is)
+  clean_unwritten is = ap (λ (b : Bool). b && has_pages v changes j) (sym (counted.changed_maps j low) ∙ is)
 
   blank_unwritten : list_all (λ entry. entry == 0) (map_part m.table.items j) ≡ true → is_written v changes j ≡ false
   unfolding is_written
   blank_unwritten is = ap (λ (b : Bool). list_any (alters v j) changes && b) (has_is ∙ ap not is) ∙ and_false (list_any (alters v j) changes)
 
-  pub now_written : get_or d.dirty.items j false ≡ true → list_all (λ entry. entry == 0) (map_part m.table.items j) ≡ false → is_written v changes j ≡ true
+  pub now_written : get_or d.changed_maps.items j false ≡ true → list_all (λ entry. entry == 0) (map_part m.table.items j) ≡ false → is_written v changes j ≡ true
   unfolding is_written
-  now_written dirty is = and_from (list_any (alters v j) changes) (has_pages v changes j) (sym (counted.dirty j low) ∙ dirty) (has_is ∙ ap not is)
+  now_written changed_maps is = and_from (list_any (alters v j) changes) (has_pages v changes j) (sym (counted.changed_maps j low) ∙ changed_maps) (has_is ∙ ap not is)
 
   -- one whose entries didn't change
-  pub kept_counted : get_or d.dirty.items j false ≡ false → IsCounted v m d changes (written_below v changes (j + 1))
+  pub kept_counted : get_or d.changed_maps.items j false ≡ false → IsCounted v m d changes (written_below v changes (j + 1))
   kept_counted is = subst (IsCounted v m d changes) (sym (step_no v changes j (clean_unwritten is))) counted
 
   -- one of zeros
@@ -187,7 +187,7 @@ module _ (v : Volume) (m : VolumeMap) (d : Draft) (changes : List Change) (j : �
     taken = taken_as m.used after.used d.next last.next d.blocks.items last.blocks.items sets.size.used sets.next (ap (λ (b : Vec Block Global). b.items) sets.blocks) counted.taken;
     blocks = ap (λ (b : Vec Block Global). length b.items) sets.blocks ∙ counted.blocks ∙ ap (λ (n : ℕ). filled changes + n) (sym (step_no v changes j (blank_unwritten is)));
     pages = ap (λ (t : Vec ℕ Global). map names_sector t.items) sets.table ∙ counted.pages;
-    dirty = subst (λ (x : Vec Bool Global). AreDirty v changes x.items) (sym sets.dirty) counted.dirty;
+    changed_maps = subst (λ (x : Vec Bool Global). AreChanged v changes x.items) (sym sets.changed_maps) counted.changed_maps;
   }
 
   -- one that is written
@@ -198,7 +198,7 @@ module _ (v : Volume) (m : VolumeMap) (d : Draft) (changes : List Change) (j : �
         (taken_next m.used d mid s bytes counted.taken placed);
     blocks = omega (arith, ap (λ (b : Vec Block Global). length b.items) sets.blocks, more_blocks v m d changes (written_below v changes j) counted mid s bytes placed, counted.blocks, step_yes v changes j is);
     pages = ap (λ (t : Vec ℕ Global). map names_sector t.items) sets.table ∙ counted.pages;
-    dirty = subst (λ (x : Vec Bool Global). AreDirty v changes x.items) (sym (sets.dirty ∙ placed.dirty)) counted.dirty;
+    changed_maps = subst (λ (x : Vec Bool Global). AreChanged v changes x.items) (sym (sets.changed_maps ∙ placed.changed_maps)) counted.changed_maps;
   }
 
   pub full_map : is_written v changes j ≡ true → ((s : ℕ) → d.next ≤ s → s < length m.used → get_or m.used s false ≡ true) → free_count v < filled changes + written_below v changes (j + 1)
@@ -210,13 +210,13 @@ written_mono v changes i j le =
     omega (arith, written_le v changes i (j - i), ap (written_below v changes) there)
 
 -- each change before one of them is of another page
-pub front_away : (changes : List Change) (i : ℕ) (d : Change) → NamesOnce (touched changes) → 0 < (get_or changes i d).page → i < length changes → Away (get_or changes i d).page (take i changes)
+pub front_away : (changes : List Change) (i : ℕ) (d : Change) → NamesOnce (changed_pages changes) → 0 < (get_or changes i d).page → i < length changes → Away (get_or changes i d).page (take i changes)
 front_away changes i d once some low k e lt is =
     let below : k < i = omega (arith, lt, length-take i changes) in
     let k_low : k < length changes = omega (arith, below, low) in
     let count = length-map changes (λ (c : Change). c.page) in
-    let there : get_or (touched changes) k 0 ≡ (get_or changes i d).page = get_or-map (λ (c : Change). c.page) changes k e 0 k_low ∙ ap (λ (c : Change). c.page) (sym (get_or-take i changes k e below)) ∙ is in
-    let here : get_or (touched changes) i 0 ≡ (get_or changes i d).page = get_or-map (λ (c : Change). c.page) changes i d 0 low in
+    let there : get_or (changed_pages changes) k 0 ≡ (get_or changes i d).page = get_or-map (λ (c : Change). c.page) changes k e 0 k_low ∙ ap (λ (c : Change). c.page) (sym (get_or-take i changes k e below)) ∙ is in
+    let here : get_or (changed_pages changes) i 0 ≡ (get_or changes i d).page = get_or-map (λ (c : Change). c.page) changes i d 0 low in
     let same : k ≡ i = once k i (omega (arith, k_low, count)) (omega (arith, low, count)) (λ none. omega (arith, some, sym there ∙ none)) (there ∙ sym here) in
     omega (arith, same, below)
 
@@ -227,49 +227,49 @@ counted_start m d sound fresh = record {
   taken = taken_start m.sectors (names (volume_of m)) m.used d.next d.blocks.items (omega (arith, sound.least)) sound.in_use fresh.next fresh.blocks;
   blocks = ap length fresh.blocks;
   pages = refl;
-  dirty = λ i lt. ap (λ (l : List Bool). get_or l i false) fresh.dirty ∙ get_or-replicate (length m.maps.items) i false false (omega (arith, lt, ap length fresh.dirty, length-replicate (length m.maps.items) false));
+  changed_maps = λ i lt. ap (λ (l : List Bool). get_or l i false) fresh.changed_maps ∙ get_or-replicate (length m.maps.items) i false false (omega (arith, lt, ap length fresh.changed_maps, length-replicate (length m.maps.items) false));
 }
 
 -- at most one map sector for each change
-abbrev dirty_below : Volume → List Change → ℕ → ℕ
-dirty_below v changes zero = 0
-dirty_below v changes (suc i) = dirty_below v changes i + cond (list_any (alters v i) changes) 1 0
+abbrev changed_below : Volume → List Change → ℕ → ℕ
+changed_below v changes zero = 0
+changed_below v changes (suc i) = changed_below v changes i + cond (list_any (alters v i) changes) 1 0
 
-dirty_none : (v : Volume) (n : ℕ) → dirty_below v [] n ≡ 0
-dirty_none v zero = refl
-dirty_none v (suc i) = omega (arith, dirty_none v i)
+changed_none : (v : Volume) (n : ℕ) → changed_below v [] n ≡ 0
+changed_none v zero = refl
+changed_none v (suc i) = omega (arith, changed_none v i)
 
 one_bit : (b : Bool) → cond b 1 0 ≤ 1
 one_bit true = omega arith
 one_bit false = omega arith
 
 -- the maps below the one that a change is in are the same
-dirty_apart : (v : Volume) (c : Change) (changes : List Change) (n : ℕ) → n ≤ c.page / 1024 → dirty_below v (c ∷ changes) n ≡ dirty_below v changes n
-dirty_apart v c changes zero le = refl
-dirty_apart v c changes (suc i) le =
+changed_apart : (v : Volume) (c : Change) (changes : List Change) (n : ℕ) → n ≤ c.page / 1024 → changed_below v (c ∷ changes) n ≡ changed_below v changes n
+changed_apart v c changes zero le = refl
+changed_apart v c changes (suc i) le =
     let other : alters v i c ≡ false = alters_away v i c (λ e. omega (arith, e, le)) in
-    omega (arith, dirty_apart v c changes i (omega (arith, le)), ap {B = ℕ} (λ (b : Bool). cond (b || list_any (alters v i) changes) 1 0) other)
+    omega (arith, changed_apart v c changes i (omega (arith, le)), ap {B = ℕ} (λ (b : Bool). cond (b || list_any (alters v i) changes) 1 0) other)
 
-dirty_more : (v : Volume) (c : Change) (changes : List Change) (n : ℕ) → dirty_below v (c ∷ changes) n ≤ dirty_below v changes n + 1
-dirty_more v c changes zero = omega arith
-dirty_more v c changes (suc i) = ⊎_elim
-    (λ at. omega (arith, dirty_apart v c changes i (omega (arith, at)), one_bit (list_any (alters v i) (c ∷ changes))))
-    (λ away. omega (arith, dirty_more v c changes i, ap {B = ℕ} (λ (b : Bool). cond (b || list_any (alters v i) changes) 1 0) (alters_away v i c (λ e. away (sym e)))))
+changed_more : (v : Volume) (c : Change) (changes : List Change) (n : ℕ) → changed_below v (c ∷ changes) n ≤ changed_below v changes n + 1
+changed_more v c changes zero = omega arith
+changed_more v c changes (suc i) = ⊎_elim
+    (λ at. omega (arith, changed_apart v c changes i (omega (arith, at)), one_bit (list_any (alters v i) (c ∷ changes))))
+    (λ away. omega (arith, changed_more v c changes i, ap {B = ℕ} (λ (b : Bool). cond (b || list_any (alters v i) changes) 1 0) (alters_away v i c (λ e. away (sym e)))))
     (cases_eq i (c.page / 1024))
 
-dirty_le : (v : Volume) (changes : List Change) (n : ℕ) → dirty_below v changes n ≤ length changes
-dirty_le v [] n = omega (arith, dirty_none v n)
-dirty_le v (c ∷ changes) n = omega (arith, dirty_more v c changes n, dirty_le v changes n)
+changed_le : (v : Volume) (changes : List Change) (n : ℕ) → changed_below v changes n ≤ length changes
+changed_le v [] n = omega (arith, changed_none v n)
+changed_le v (c ∷ changes) n = omega (arith, changed_more v c changes n, changed_le v changes n)
 
 and_le : (a b : Bool) → cond (a && b) 1 0 ≤ cond a 1 0
 and_le true b = one_bit b
 and_le false b = omega arith
 
-written_dirty : (v : Volume) (changes : List Change) (n : ℕ) → written_below v changes n ≤ dirty_below v changes n
+written_changed : (v : Volume) (changes : List Change) (n : ℕ) → written_below v changes n ≤ changed_below v changes n
 unfolding is_written
-written_dirty v changes zero = omega arith
-written_dirty v changes (suc i) = omega (arith, written_dirty v changes i, and_le (list_any (alters v i) changes) (has_pages v changes i))
+written_changed v changes zero = omega arith
+written_changed v changes (suc i) = omega (arith, written_changed v changes i, and_le (list_any (alters v i) changes) (has_pages v changes i))
 
 -- at most two sectors for each change
 pub few_needed_lem : (v : Volume) (changes : List Change) → needed v changes ≤ 2 * length changes
-few_needed_lem v changes = omega (arith, count_by-le-length (λ (c : Change). is_some c.bytes) changes, written_dirty v changes (length v.root.maps), dirty_le v changes (length v.root.maps))
+few_needed_lem v changes = omega (arith, count_by-le-length (λ (c : Change). is_some c.bytes) changes, written_changed v changes (length v.root.maps), changed_le v changes (length v.root.maps))

@@ -30,12 +30,12 @@ abbrev pub BeforeOrAfter : Map → Map → List Sector → Type 0
 BeforeOrAfter before after image = Holds image before ⊎ Holds image after
 
 -- the pages that were changed
-abbrev pub touched : List Change → List ℕ
-touched changes = map (λ c. c.page) changes
+abbrev pub changed_pages : List Change → List ℕ
+changed_pages changes = map (λ c. c.page) changes
 
 -- one page joins those that were changed, or was among them
-abbrev pub Touches : List ℕ → ℕ → List ℕ → Type 0
-Touches old page new = (Contains old page × (new ≡ old)) ⊎ ((Contains old page → ⊥) × (new ≡ old ++ page ∷ []))
+abbrev pub ChangesPage : List ℕ → ℕ → List ℕ → Type 0
+ChangesPage old page new = (Contains old page × (new ≡ old)) ⊎ ((Contains old page → ⊥) × (new ≡ old ++ page ∷ []))
 
 -- places in a list by page number
 abbrev pub Places : Type 0

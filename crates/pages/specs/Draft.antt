@@ -19,14 +19,14 @@ pub record Naming (v : Volume) (used : List Bool) (named : List ℕ) (turns : Li
   pub in_use : IsUse v.root.sectors named (turned used turns)
   pub turns_low : All (λ (t : Turn). t.sector < v.root.sectors) turns
 
--- Pages for these changes stand in blocks for free sectors, and the table names them. A map that isn't dirty has its old entries.
-pub record IsStaged (v : Volume) (maps table : List ℕ) (dirty : List Bool) (blocks : List Block) (changes : List Change) : Type 0 where
+-- Pages for these changes stand in blocks for free sectors, and the table names them. A map that none of them changed has its old entries.
+pub record IsStaged (v : Volume) (maps table : List ℕ) (changed_maps : List Bool) (blocks : List Block) (changes : List Change) : Type 0 where
   pub maps_count : length maps ≡ length v.root.maps
   pub table_count : length table ≡ length v.table
-  pub dirty_count : length dirty ≡ length v.root.maps
+  pub changed_maps_count : length changed_maps ≡ length v.root.maps
   pub unused : slice_index table 0 ≡ 0
   pub free : SectorsAre (IsFree v) blocks
-  pub clean : (page : ℕ) → slice_index_or dirty (page / 1024) false ≡ false → slice_index table page ≡ slice_index v.table page
+  pub clean : (page : ℕ) → slice_index_or changed_maps (page / 1024) false ≡ false → slice_index table page ≡ slice_index v.table page
   pub pages : (base : List Sector) → v.root.sectors ≤ length base → Reads base v → pages_in (with_all base blocks) table ≡ changed (pages_in base v.table) changes
 
 -- The first map sectors spell the table, and the others are as before.

@@ -4,7 +4,7 @@ use Rattle.std.specs.List.{All}
 use Rattle.station.specs.Disk.{Disk, Sector}
 use Rattle.pages.specs.Layout.{map_count}
 use Rattle.pages.specs.Image.{Volume, Map, Holds, NamesOnce, pages_in, IsCommitted}
-use Rattle.pages.specs.Changes.{changed, touched, ArePlaced}
+use Rattle.pages.specs.Changes.{changed, changed_pages, ArePlaced}
 use Rattle.pages.specs.Use.{free_count}
 use Rattle.pages.specs.Needed.{needed, filled, Fills}
 use Rattle.pages.specs.Volumes.{volume_of, IsSound}
@@ -26,8 +26,8 @@ abbrev pub page_of : Map → ℕ → Option Sector
 page_of m page = slice_index_or m.pages page None
 
 -- the pages that were changed since the last commit
-abbrev pub touched_of : PageMap → List ℕ
-touched_of p = touched p.changes.items
+abbrev pub changed_pages_of : PageMap → List ℕ
+changed_pages_of p = changed_pages p.changes.items
 
 -- how many of them have bytes: those that weren't released
 abbrev pub filled_of : PageMap → ℕ
@@ -65,7 +65,7 @@ cache_of p = p.cache
 -- the disk is as the last commit left it, and so are the pages of the cache
 pub record Agrees (p : PageMap) (disk : Disk) : Type 0 where
   pub committed : IsCommitted (committed_of p) disk
-  pub cache : IsCacheOf (pages_in disk.present p.volume.table.items) (touched_of p) p.cache.entries
+  pub cache : IsCacheOf (pages_in disk.present p.volume.table.items) (changed_pages_of p) p.cache.entries
 
 -- each page number from 1 on is in the map
 abbrev pub HasEachPage : PageMap → Type 0
@@ -77,7 +77,7 @@ needed_of p = needed (committed_of p) p.changes.items
 
 -- a page or the page of the catalog's root was changed
 abbrev pub HasChanges : PageMap → Type 0
-HasChanges p = (touched_of p ≡ []) × (p.catalog ≡ p.volume.catalog) → ⊥
+HasChanges p = (changed_pages_of p ≡ []) × (p.catalog ≡ p.volume.catalog) → ⊥
 
 -- the next commit writes, and too few sectors are free for it, or no generation is left
 abbrev pub IsFull : PageMap → Type 0
@@ -86,7 +86,7 @@ IsFull p = HasChanges p × ((free_count (committed_of p) < needed_of p) ⊎ (2 ^
 pub record IsReady (p : PageMap) : Type 0 where
   pub sound : IsSound p.volume
   pub pages : All (λ (c : Change). (0 < c.page) × (c.page < length p.volume.table.items)) p.changes.items
-  pub once : NamesOnce (touched p.changes.items)
+  pub once : NamesOnce (changed_pages p.changes.items)
   pub placed : ArePlaced p.changes.items p.places
 
 -- what every call keeps: until it is spent, the volume in memory is sound
@@ -107,13 +107,27 @@ pub record SameCommitted (old new : PageMap) : Type 0 where
   pub volume : new.volume ≡ old.volume
   pub spent : new.spent ≡ old.spent
 
+-- what a call that only reads leaves: the map, what was changed of it, and what is committed
+pub record Unchanged (old new : PageMap) : Type 0 where
+  pub map : (image : List Sector) → map_now new image ≡ map_now old image
+  pub changed_pages : changed_pages_of new ≡ changed_pages_of old
+  pub filled : filled_of new ≡ filled_of old
+  pub committed : SameCommitted old new
+
+-- what each call keeps but a commit: what is committed, the page of the catalog's root, what the disk and the cache agree on, and being open
+pub record Keeps (old new : PageMap) : Type 0 where
+  pub committed : SameCommitted old new
+  pub catalog : catalog_of new ≡ catalog_of old
+  pub agrees : (disk : Disk) → Agrees old disk → Agrees new disk
+  pub is_open : IsOpen old → IsOpen new
+
 -- a commit needs at most two sectors for each page that was changed
 abbrev pub FewNeeded : Type 0
-FewNeeded = (p : PageMap) → needed_of p ≤ 2 * length (touched_of p)
+FewNeeded = (p : PageMap) → needed_of p ≤ 2 * length (changed_pages_of p)
 
 -- it needs at most one for each page that has bytes, and the map's sectors; no more pages have bytes than were changed
 abbrev pub NeededBy : Type 0
-NeededBy = (p : PageMap) → IsOpen p → is_spent p ≡ false → (needed_of p ≤ filled_of p + map_count (sectors_of p)) × (filled_of p ≤ length (touched_of p))
+NeededBy = (p : PageMap) → IsOpen p → is_spent p ≡ false → (needed_of p ≤ filled_of p + map_count (sectors_of p)) × (filled_of p ≤ length (changed_pages_of p))
 
 -- so too few sectors are free only where fewer than that are
 abbrev pub ShortBy : Type 0
@@ -129,4 +143,4 @@ OpenBounds = (p : PageMap) (image : List Sector) → IsOpen p → is_spent p ≡
 
 -- where each page number is used, fewer sectors are free than pages were changed
 abbrev pub FewFree : Type 0
-FewFree = (p : PageMap) → IsOpen p → is_spent p ≡ false → HasEachPage p → free_count (committed_of p) < length (touched_of p)
+FewFree = (p : PageMap) → IsOpen p → is_spent p ≡ false → HasEachPage p → free_count (committed_of p) < length (changed_pages_of p)

@@ -35,7 +35,7 @@ pub record IsSound (m : VolumeMap) : Type 0 where
 pub record IsDraft (v : Volume) (m : VolumeMap) (d : Draft) (changes : List Change) : Type 0 where
   pub in_use : IsUse v.root.sectors (names v) m.used
   pub some : 0 < v.root.sectors
-  pub staged : IsStaged v m.maps.items m.table.items d.dirty.items d.blocks.items changes
+  pub staged : IsStaged v m.maps.items m.table.items d.changed_maps.items d.blocks.items changes
   pub naming : Naming v m.used (m.maps.items ++ m.table.items) d.turns.items d.next
 
 -- the first maps of it are on their way too
@@ -60,7 +60,7 @@ pub record IsCounted (v : Volume) (m : VolumeMap) (d : Draft) (changes : List Ch
   pub taken : IsTaken m.used d.next d.blocks.items
   pub blocks : length d.blocks.items ≡ filled changes + maps
   pub pages : map (λ s. not (s == 0)) m.table.items ≡ kept v.table changes
-  pub dirty : (i : ℕ) → i < length d.dirty.items → slice_index_or d.dirty.items i false ≡ list_any (alters v i) changes
+  pub changed_maps : (i : ℕ) → i < length d.changed_maps.items → slice_index_or d.changed_maps.items i false ≡ list_any (alters v i) changes
 
 -- nothing but the two lists of names changed, and not their lengths
 pub record SameSize (old new : VolumeMap) : Type 0 where
@@ -79,7 +79,7 @@ pub record PlacesBlock (used : List Bool) (old new : Draft) (sector : ℕ) (byte
   pub first : (s : ℕ) → old.next ≤ s → s < sector → slice_index_or used s false ≡ true
   pub free : slice_index_or used sector false ≡ false
   pub blocks : new.blocks.items ≡ old.blocks.items ++ record { sector = sector; bytes = bytes } ∷ []
-  pub dirty : new.dirty ≡ old.dirty
+  pub changed_maps : new.changed_maps ≡ old.changed_maps
   pub turns : new.turns ≡ old.turns
   pub next : new.next ≡ sector + 1
 
@@ -89,7 +89,7 @@ pub record SetsPage (m after : VolumeMap) (old new : Draft) (page sector : ℕ) 
   pub maps : after.maps ≡ m.maps
   pub table : after.table.items ≡ slice_set m.table.items page sector
   pub blocks : new.blocks ≡ old.blocks
-  pub dirty : new.dirty.items ≡ slice_set old.dirty.items (page / 1024) true
+  pub changed_maps : new.changed_maps.items ≡ slice_set old.changed_maps.items (page / 1024) true
   pub turns : new.turns.items ≡ old.turns.items ++ turns_of (slice_index m.table.items page) sector
   pub next : new.next ≡ old.next
 
@@ -99,7 +99,7 @@ pub record SetsMap (m after : VolumeMap) (old new : Draft) (map sector : ℕ) : 
   pub maps : after.maps.items ≡ slice_set m.maps.items map sector
   pub table : after.table ≡ m.table
   pub blocks : new.blocks ≡ old.blocks
-  pub dirty : new.dirty ≡ old.dirty
+  pub changed_maps : new.changed_maps ≡ old.changed_maps
   pub turns : new.turns.items ≡ old.turns.items ++ turns_of (slice_index m.maps.items map) sector
   pub next : new.next ≡ old.next
 
@@ -111,7 +111,7 @@ pub data ReleasesPage (m after : VolumeMap) (old new : Draft) (page : ℕ) : Typ
 -- a draft of a volume with so many maps, with nothing in it
 pub record IsFresh (maps : ℕ) (d : Draft) : Type 0 where
   pub blocks : d.blocks.items ≡ []
-  pub dirty : d.dirty.items ≡ replicate maps false
+  pub changed_maps : d.changed_maps.items ≡ replicate maps false
   pub turns : d.turns.items ≡ []
   pub next : d.next ≡ 2
 

@@ -3,7 +3,7 @@ ghost use Rattle.std.specs.Prelude.{◌≡◌, ◌≢◌, ◌<◌, ◌≤◌, �
 ghost use Rattle.std.specs.List.{All, HoldsAt};
 ghost use Rattle.station.specs.Disk.{Sector};
 ghost use Rattle.pages.specs.Image.{NamesOnce};
-ghost use Rattle.pages.specs.Changes.{changed, touched, kept, Touches, ArePlaced};
+ghost use Rattle.pages.specs.Changes.{changed, changed_pages, kept, ChangesPage, ArePlaced};
 ghost use Rattle.pages.specs.Needed.{filled, Fills};
 
 use crate::page_bytes::PageBytes;
@@ -95,11 +95,11 @@ pub(crate) fn set_change(
     requires some { 0 < page }
     requires placed { ArePlaced changes.old.items places.old }
     ensures placed { ArePlaced changes.new.items places.new }
-    ensures changed { NamesOnce (touched changes.old.items) → OnOk result ((pages : List (Option Sector)) → changed pages changes.new.items ≡ slice_set (changed pages changes.old.items) page bytes) }
-    ensures once { NamesOnce (touched changes.old.items) → OnOk result (NamesOnce (touched changes.new.items)) }
-    ensures touches { OnOk result (Touches (touched changes.old.items) page (touched changes.new.items)) }
-    ensures filled { NamesOnce (touched changes.old.items) → filled changes.new.items ≤ filled changes.old.items + (if is_some bytes then 1 else 0) }
-    ensures fills { NamesOnce (touched changes.old.items) → OnOk result (IfSome bytes (λ _. Fills changes.old.items page changes.new.items)) }
+    ensures changed { NamesOnce (changed_pages changes.old.items) → OnOk result ((pages : List (Option Sector)) → changed pages changes.new.items ≡ slice_set (changed pages changes.old.items) page bytes) }
+    ensures once { NamesOnce (changed_pages changes.old.items) → OnOk result (NamesOnce (changed_pages changes.new.items)) }
+    ensures changes_page { OnOk result (ChangesPage (changed_pages changes.old.items) page (changed_pages changes.new.items)) }
+    ensures filled { NamesOnce (changed_pages changes.old.items) → filled changes.new.items ≤ filled changes.old.items + (if is_some bytes then 1 else 0) }
+    ensures fills { NamesOnce (changed_pages changes.old.items) → OnOk result (IfSome bytes (λ _. Fills changes.old.items page changes.new.items)) }
     ensures bounds { (n : ℕ) → page < n → All (λ c. (0 < c.page) × (c.page < n)) changes.old.items → OnOk result (All (λ c. (0 < c.page) × (c.page < n)) changes.new.items) }
     ensures err { OnErr result (changes.new.items ≡ changes.old.items) }
 {
@@ -122,7 +122,7 @@ pub(crate) fn is_kept(
 ) -> bool
     requires some { 0 < page }
     requires page { page < length table.now }
-    requires once { NamesOnce (touched changes.now) }
+    requires once { NamesOnce (changed_pages changes.now) }
     requires placed { ArePlaced changes.now places.now }
     ensures { result ≡ slice_index_or (kept table.now changes.now) page false }
 {
@@ -143,7 +143,7 @@ fn unused_between(
     requires few { length table.now < 2 ^ 32 }
     requires start { 0 < start }
     requires end { end ≤ length table.now }
-    requires once { NamesOnce (touched changes.now) }
+    requires once { NamesOnce (changed_pages changes.now) }
     requires placed { ArePlaced changes.now places.now }
     ensures found { IfSome result (λ page. (start ≤ page) × (page < end) × (slice_index_or (kept table.now changes.now) page false ≡ false)) }
     ensures full { IfNone result ((n : ℕ) → start ≤ n → n < end → slice_index_or (kept table.now changes.now) n false ≡ true) }
@@ -167,7 +167,7 @@ fn unused_in_run(
     run: usize,
 ) -> Option<u32>
     requires few { length table.now < 2 ^ 32 }
-    requires once { NamesOnce (touched changes.now) }
+    requires once { NamesOnce (changed_pages changes.now) }
     requires placed { ArePlaced changes.now places.now }
     requires run { run < length passed.now }
     ensures { IfSome result (λ page. (0 < page) × (page < length table.now) × (slice_index_or (kept table.now changes.now) page false ≡ false)) }
@@ -193,7 +193,7 @@ fn unused_from(
     passed: &[bool],
 ) -> Option<u32>
     requires few { length table.now < 2 ^ 32 }
-    requires once { NamesOnce (touched changes.now) }
+    requires once { NamesOnce (changed_pages changes.now) }
     requires placed { ArePlaced changes.now places.now }
     ensures { IfSome result (λ page. (0 < page) × (page < length table.now) × (slice_index_or (kept table.now changes.now) page false ≡ false)) }
 {
@@ -214,7 +214,7 @@ pub(crate) fn unused_page(
     passed: &[bool],
 ) -> Option<u32>
     requires few { length table.now < 2 ^ 32 }
-    requires once { NamesOnce (touched changes.now) }
+    requires once { NamesOnce (changed_pages changes.now) }
     requires placed { ArePlaced changes.now places.now }
     ensures found { IfSome result (λ page. (0 < page) × (page < length table.now) × (slice_index_or (kept table.now changes.now) page false ≡ false)) }
     ensures full { IfNone result ((n : ℕ) → 0 < n → n < length table.now → slice_index_or (kept table.now changes.now) n false ≡ true) }

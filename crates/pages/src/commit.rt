@@ -6,7 +6,7 @@ ghost use Rattle.station.specs.History.{Through};
 ghost use Rattle.station.specs.Failures.{Blames};
 ghost use Rattle.station.specs.Blocks.{CrashLeaves};
 ghost use Rattle.pages.specs.Image.{IsCommitted, NamesOnce, map_of};
-ghost use Rattle.pages.specs.Changes.{next_map, touched, BeforeOrAfter};
+ghost use Rattle.pages.specs.Changes.{next_map, changed_pages, BeforeOrAfter};
 ghost use Rattle.pages.specs.Needed.{IsShort};
 ghost use Rattle.pages.specs.Errors.{IsCommitError};
 ghost use Rattle.pages.specs.Volumes.{volume_of, IsSound};
@@ -31,7 +31,7 @@ pub(crate) fn commit_volume<D: Device>(
     requires sound { IsSound volume.old }
     requires sectors { volume.old.sectors ≤ D.sectors device.old }
     requires pages { All (λ c. (0 < c.page) × (c.page < length volume.old.table.items)) changes.now }
-    requires once { NamesOnce (touched changes.now) }
+    requires once { NamesOnce (changed_pages changes.now) }
     ensures honest { D.is_honest device.old ↔ D.is_honest device.new }
     ensures sectors { D.sectors device.new ≡ D.sectors device.old }
     ensures failures { Blames (result ≡ Err PagesError.Device) (D.failures device.old) (D.failures device.new) }

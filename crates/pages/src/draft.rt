@@ -22,7 +22,7 @@ pub(crate) struct Turn {
 pub(crate) struct Draft {
     pub blocks: Vec<Block>,
     /// The maps whose entries changed.
-    pub dirty: Vec<bool>,
+    pub changed_maps: Vec<bool>,
     /// The sectors whose use changed.
     pub turns: Vec<Turn>,
     /// No sector from here on is taken yet.
@@ -80,14 +80,14 @@ pub(crate) fn set_page(
     sector: u32,
 ) -> Result<(), PagesError>
     requires page { page < length volume.old.table.items }
-    requires dirty { page / 1024 < length draft.old.dirty.items }
+    requires changed_maps { page / 1024 < length draft.old.changed_maps.items }
     ensures sectors { volume.new.sectors ≡ volume.old.sectors }
     ensures set { OnOk result (SetsPage volume.old volume.new draft.old draft.new page sector) }
     ensures cause { IsOkUnless result PagesError.Memory }
 {
     note_turns(&mut draft.turns, volume.table[page], sector)?;
     volume.table[page] = sector;
-    draft.dirty[page / MAP_ENTRIES] = true;
+    draft.changed_maps[page / MAP_ENTRIES] = true;
     Ok(())
 }
 

@@ -10,7 +10,7 @@ ghost use Rattle.station.specs.Blocks.{CrashLeaves};
 ghost use Rattle.pages.specs.Layout.{IsForeign};
 ghost use Rattle.pages.specs.Image.{Map, Holds, IsDamaged, map_of};
 ghost use Rattle.pages.specs.Errors.{Refuses, IsOpenError, IsReadError, Tells};
-ghost use Rattle.pages.specs.Changes.{BeforeOrAfter, Touches};
+ghost use Rattle.pages.specs.Changes.{BeforeOrAfter, ChangesPage};
 ghost use Rattle.pages.specs.Errors.{IsEditRefusal, IsAllocateRefusal, IsCommitRefusal};
 ghost use Rattle.pages.specs.Use.{free_count};
 
@@ -48,7 +48,7 @@ pub struct PageMap {
 }
 
 impl PageMap {
-    ghost use Rattle.pages.specs.Pages.{committed_of, map_now, page_of, touched_of, filled_of, FillsPage, HasChanges, catalog_of, is_spent, sectors_of, page_count, IsPage, HasEachPage, IsFull, Agrees, IsOpen, advanced, SamePages, SameCommitted, cache_of};
+    ghost use Rattle.pages.specs.Pages.{committed_of, map_now, page_of, changed_pages_of, filled_of, FillsPage, HasChanges, catalog_of, is_spent, sectors_of, page_count, IsPage, HasEachPage, IsFull, Agrees, IsOpen, advanced, SamePages, SameCommitted, Unchanged, Keeps, cache_of};
     ghost use Rattle.std.specs.Map.{lookup};
     ghost use Rattle.std.specs.Prelude.{Ok, nat_eq, option_copied, Contains, IsSome};
     ghost use Rattle.lru.specs.LruCache.{lru_cache, promoted};
@@ -75,7 +75,7 @@ impl PageMap {
         // The map is the one that the disk holds.
         ensures agrees { D.is_honest device.old → IfOk result (λ pages. Agrees pages (D.state device.new).disk) }
         ensures map { IfOk result (λ pages. (image : List Sector) → map_now pages image ≡ map_of image (committed_of pages)) }
-        ensures ready { IfOk result (λ pages. IsOpen pages × (is_spent pages ≡ false) × (sectors_of pages ≤ D.sectors device.old) × (touched_of pages ≡ [])) }
+        ensures ready { IfOk result (λ pages. IsOpen pages × (is_spent pages ≡ false) × (sectors_of pages ≤ D.sectors device.old) × (changed_pages_of pages ≡ [])) }
         ensures filled { IfOk result (λ pages. filled_of pages ≡ 0) }
         ensures cache { IfOk result (λ pages. (cache_of pages).cap ≡ capacity) }
 
@@ -115,7 +115,7 @@ impl PageMap {
     pub fn set_catalog(&mut self, page: u32)
         ensures catalog { catalog_of self.new ≡ page }
         ensures pages { (image : List Sector) → (map_now self.new image).pages ≡ (map_now self.old image).pages }
-        ensures touched { touched_of self.new ≡ touched_of self.old }
+        ensures changed_pages { changed_pages_of self.new ≡ changed_pages_of self.old }
         ensures filled { filled_of self.new ≡ filled_of self.old }
         ensures committed { SameCommitted self.old self.new }
         ensures agrees { (disk : Disk) → Agrees self.old disk → Agrees self.new disk }
@@ -126,8 +126,8 @@ impl PageMap {
     }
 
     /// How many pages were changed since the last commit, each counted once.
-    pub fn touched(&self) -> usize
-        ensures { result ≡ length (touched_of self.now) }
+    pub fn changed_pages(&self) -> usize
+        ensures { result ≡ length (changed_pages_of self.now) }
     {
         self.changes.len()
     }
@@ -206,19 +206,16 @@ impl PageMap {
         ensures page { D.is_honest device.old → Agrees self.old (D.state device.old).disk → IfOk result (λ bytes. bytes ≡ page_of (map_now self.old (D.state device.old).disk.present) page) }
 
         // The map stays, and what is known of it. A refusal changes nothing.
-        ensures map { (image : List Sector) → map_now self.new image ≡ map_now self.old image }
-        ensures touched { touched_of self.new ≡ touched_of self.old }
-        ensures filled { filled_of self.new ≡ filled_of self.old }
-        ensures committed { SameCommitted self.old self.new }
+        ensures unchanged { Unchanged self.old self.new }
         ensures agrees { D.is_honest device.old → Agrees self.old (D.state device.old).disk → Agrees self.new (D.state device.new).disk }
         ensures open { IsOpen self.new }
         ensures err { OnErr result (self.new ≡ self.old) }
 
         // A page in memory is answered without the device, and so is none. The cache has another as its most recently used one, if memory has a place for it.
-        ensures changed { Contains (touched_of self.old) page → (device.new ≡ device.old) × (self.new ≡ self.old) }
+        ensures changed { Contains (changed_pages_of self.old) page → (device.new ≡ device.old) × (self.new ≡ self.old) }
         ensures absent { result ≡ Ok None → device.new ≡ device.old }
         ensures hit { IsSome (lookup (nat_eq page) (cache_of self.old).entries) → device.new ≡ device.old }
-        ensures recalls { (Contains (touched_of self.old) page → ⊥) → IfOk result (λ bytes. Recalls page bytes (cache_of self.old) (cache_of self.new)) }
+        ensures recalls { (Contains (changed_pages_of self.old) page → ⊥) → IfOk result (λ bytes. Recalls page bytes (cache_of self.old) (cache_of self.new)) }
         ensures capacity { (cache_of self.new).cap ≡ (cache_of self.old).cap }
 
         // `Spent` comes exactly where the value is spent, and otherwise the device alone refuses.
@@ -245,8 +242,8 @@ impl PageMap {
     pub fn view(&self, page: u32) -> Option<&[u8; 4096]>
         requires { IsOpen self.now }
         ensures page { (disk : Disk) → Agrees self.now disk → IfSome result (λ bytes. page_of (map_now self.now disk.present) page ≡ Some bytes.now) }
-        ensures changed { is_spent self.now ≡ false → Contains (touched_of self.now) page → (image : List Sector) → option_copied result ≡ page_of (map_now self.now image) page }
-        ensures cached { is_spent self.now ≡ false → (Contains (touched_of self.now) page → ⊥) → option_copied result ≡ lookup (nat_eq page) (cache_of self.now).entries }
+        ensures changed { is_spent self.now ≡ false → Contains (changed_pages_of self.now) page → (image : List Sector) → option_copied result ≡ page_of (map_now self.now image) page }
+        ensures cached { is_spent self.now ≡ false → (Contains (changed_pages_of self.now) page → ⊥) → option_copied result ≡ lookup (nat_eq page) (cache_of self.now).entries }
         ensures spent { is_spent self.now ≡ true → result ≡ None }
     {
         if self.spent {
@@ -260,13 +257,9 @@ impl PageMap {
 
     /// A page of the cache becomes the most recently used one.
     pub fn note_use(&mut self, page: u32)
-        ensures map { (image : List Sector) → map_now self.new image ≡ map_now self.old image }
-        ensures touched { touched_of self.new ≡ touched_of self.old }
-        ensures filled { filled_of self.new ≡ filled_of self.old }
-        ensures committed { SameCommitted self.old self.new }
-        ensures agrees { (disk : Disk) → Agrees self.old disk → Agrees self.new disk }
+        ensures unchanged { Unchanged self.old self.new }
+        ensures keeps { Keeps self.old self.new }
         ensures cache { cache_of self.new ≡ lru_cache (promoted (nat_eq page) (cache_of self.old).entries) (cache_of self.old).cap }
-        ensures open { IsOpen self.old → IsOpen self.new }
     {
         promote_page(&mut self.cache, page);
     }
@@ -276,19 +269,16 @@ impl PageMap {
         requires open { IsOpen self.old }
         requires page { IsPage self.old page }
         ensures map { OnOk result ((image : List Sector) → (map_now self.new image).pages ≡ slice_set (map_now self.old image).pages page (Some bytes.now)) }
-        ensures catalog { catalog_of self.new ≡ catalog_of self.old }
-        ensures touches { OnOk result (Touches (touched_of self.old) page (touched_of self.new)) }
-        ensures untouched { OnErr result (touched_of self.new ≡ touched_of self.old) }
+        ensures changes_page { OnOk result (ChangesPage (changed_pages_of self.old) page (changed_pages_of self.new)) }
+        ensures unchanged { OnErr result (changed_pages_of self.new ≡ changed_pages_of self.old) }
         ensures filled { filled_of self.new ≤ filled_of self.old + 1 }
         ensures fills { OnOk result (FillsPage self.old page self.new) }
         ensures unfilled { OnErr result (filled_of self.new ≡ filled_of self.old) }
         ensures err { OnErr result ((image : List Sector) → map_now self.new image ≡ map_now self.old image) }
-        ensures committed { SameCommitted self.old self.new }
-        ensures agrees { (disk : Disk) → Agrees self.old disk → Agrees self.new disk }
         ensures capacity { (cache_of self.new).cap ≡ (cache_of self.old).cap }
         ensures forgets { OnOk result (cache_of self.new ≡ forgotten page (cache_of self.old)) }
         ensures cache { OnErr result (cache_of self.new ≡ cache_of self.old) }
-        ensures open { IsOpen self.new }
+        ensures keeps { Keeps self.old self.new }
         ensures cause { IsEditRefusal result }
         ensures spent { (result ≡ Err PagesError.Spent) ↔ (is_spent self.old ≡ true) }
     {
@@ -301,19 +291,16 @@ impl PageMap {
         ensures page { IfOk result (λ page. IsPage self.old page) }
         ensures unused { IfOk result (λ page. (image : List Sector) → page_of (map_now self.old image) page ≡ None) }
         ensures map { IfOk result (λ page. (image : List Sector) → (map_now self.new image).pages ≡ slice_set (map_now self.old image).pages page (Some (replicate 4096 0))) }
-        ensures catalog { catalog_of self.new ≡ catalog_of self.old }
-        ensures touches { IfOk result (λ page. Touches (touched_of self.old) page (touched_of self.new)) }
-        ensures untouched { OnErr result (touched_of self.new ≡ touched_of self.old) }
+        ensures changes_page { IfOk result (λ page. ChangesPage (changed_pages_of self.old) page (changed_pages_of self.new)) }
+        ensures unchanged { OnErr result (changed_pages_of self.new ≡ changed_pages_of self.old) }
         ensures filled { filled_of self.new ≤ filled_of self.old + 1 }
         ensures fills { IfOk result (λ page. FillsPage self.old page self.new) }
         ensures unfilled { OnErr result (filled_of self.new ≡ filled_of self.old) }
         ensures err { OnErr result ((image : List Sector) → map_now self.new image ≡ map_now self.old image) }
-        ensures committed { SameCommitted self.old self.new }
-        ensures agrees { (disk : Disk) → Agrees self.old disk → Agrees self.new disk }
         ensures capacity { (cache_of self.new).cap ≡ (cache_of self.old).cap }
         ensures forgets { IfOk result (λ page. cache_of self.new ≡ forgotten page (cache_of self.old)) }
         ensures cache { OnErr result (cache_of self.new ≡ cache_of self.old) }
-        ensures open { IsOpen self.new }
+        ensures keeps { Keeps self.old self.new }
         ensures full { is_spent self.old ≡ false → (result ≡ Err PagesError.Full) ↔ HasEachPage self.old }
         ensures same { result ≡ Err PagesError.Full → self.new ≡ self.old }
         ensures cause { IsAllocateRefusal result }
@@ -343,18 +330,15 @@ impl PageMap {
         requires open { IsOpen self.old }
         requires page { IsPage self.old page }
         ensures map { OnOk result ((image : List Sector) → (map_now self.new image).pages ≡ slice_set (map_now self.old image).pages page None) }
-        ensures catalog { catalog_of self.new ≡ catalog_of self.old }
-        ensures touches { OnOk result (Touches (touched_of self.old) page (touched_of self.new)) }
-        ensures untouched { OnErr result (touched_of self.new ≡ touched_of self.old) }
+        ensures changes_page { OnOk result (ChangesPage (changed_pages_of self.old) page (changed_pages_of self.new)) }
+        ensures unchanged { OnErr result (changed_pages_of self.new ≡ changed_pages_of self.old) }
         ensures filled { filled_of self.new ≤ filled_of self.old }
         ensures unfilled { OnErr result (filled_of self.new ≡ filled_of self.old) }
         ensures err { OnErr result ((image : List Sector) → map_now self.new image ≡ map_now self.old image) }
-        ensures committed { SameCommitted self.old self.new }
-        ensures agrees { (disk : Disk) → Agrees self.old disk → Agrees self.new disk }
         ensures capacity { (cache_of self.new).cap ≡ (cache_of self.old).cap }
         ensures forgets { OnOk result (cache_of self.new ≡ forgotten page (cache_of self.old)) }
         ensures cache { OnErr result (cache_of self.new ≡ cache_of self.old) }
-        ensures open { IsOpen self.new }
+        ensures keeps { Keeps self.old self.new }
         ensures cause { IsEditRefusal result }
         ensures spent { (result ≡ Err PagesError.Spent) ↔ (is_spent self.old ≡ true) }
     {
@@ -371,19 +355,16 @@ impl PageMap {
         requires open { IsOpen self.old }
         requires page { IsPage self.old page }
         ensures map { OnOk result ((image : List Sector) → (map_now self.new image).pages ≡ slice_set (map_now self.old image).pages page bytes) }
-        ensures catalog { catalog_of self.new ≡ catalog_of self.old }
-        ensures touches { OnOk result (Touches (touched_of self.old) page (touched_of self.new)) }
-        ensures untouched { OnErr result (touched_of self.new ≡ touched_of self.old) }
+        ensures changes_page { OnOk result (ChangesPage (changed_pages_of self.old) page (changed_pages_of self.new)) }
+        ensures unchanged { OnErr result (changed_pages_of self.new ≡ changed_pages_of self.old) }
         ensures filled { filled_of self.new ≤ filled_of self.old + (if is_some bytes then 1 else 0) }
         ensures fills { OnOk result (IfSome bytes (λ _. FillsPage self.old page self.new)) }
         ensures unfilled { OnErr result (filled_of self.new ≡ filled_of self.old) }
         ensures err { OnErr result ((image : List Sector) → map_now self.new image ≡ map_now self.old image) }
-        ensures committed { SameCommitted self.old self.new }
-        ensures agrees { (disk : Disk) → Agrees self.old disk → Agrees self.new disk }
         ensures capacity { (cache_of self.new).cap ≡ (cache_of self.old).cap }
         ensures forgets { OnOk result (cache_of self.new ≡ forgotten page (cache_of self.old)) }
         ensures cache { OnErr result (cache_of self.new ≡ cache_of self.old) }
-        ensures open { IsOpen self.new }
+        ensures keeps { Keeps self.old self.new }
         ensures cause { IsEditRefusal result }
         ensures spent { (result ≡ Err PagesError.Spent) ↔ (is_spent self.old ≡ true) }
     {
@@ -415,7 +396,7 @@ impl PageMap {
         ensures agrees { D.is_honest device.old → Agrees self.old (D.state device.old).disk → OnOk result (Agrees self.new (D.state device.new).disk) }
         ensures map { D.is_honest device.old → Agrees self.old (D.state device.old).disk → OnOk result (SamePages (map_now self.old (D.state device.old).disk.present) (map_now self.new (D.state device.new).disk.present)) }
         ensures committed { OnOk result ((image : List Sector) → map_now self.new image ≡ map_of image (committed_of self.new)) }
-        ensures touched { OnOk result (touched_of self.new ≡ []) }
+        ensures changed_pages { OnOk result (changed_pages_of self.new ≡ []) }
         ensures filled { OnOk result (filled_of self.new ≡ 0) }
 
         // Where something was changed, it is the map of the next generation, and else nothing is other than before.
@@ -423,13 +404,13 @@ impl PageMap {
         ensures rests { (HasChanges self.old → ⊥) → is_spent self.old ≡ false → self.new ≡ self.old }
 
         // With nothing changed nothing is done.
-        ensures nothing { touched_of self.old ≡ [] → catalog_of self.old ≡ (committed_of self.old).root.catalog → D.is_honest device.old → (D.state device.new ≡ D.state device.old) × (D.history device.new ≡ D.history device.old) }
-        ensures idle { is_spent self.old ≡ false → touched_of self.old ≡ [] → catalog_of self.old ≡ (committed_of self.old).root.catalog → IsOk result }
+        ensures nothing { changed_pages_of self.old ≡ [] → catalog_of self.old ≡ (committed_of self.old).root.catalog → D.is_honest device.old → (D.state device.new ≡ D.state device.old) × (D.history device.new ≡ D.history device.old) }
+        ensures idle { is_spent self.old ≡ false → changed_pages_of self.old ≡ [] → catalog_of self.old ≡ (committed_of self.old).root.catalog → IsOk result }
 
         // `Full` tells that too few sectors are free, or that no generation is left, and then nothing was done.
         ensures full { result ≡ Err PagesError.Full → IsFull self.old }
         ensures told { is_spent self.old ≡ false → IsFull self.old → (result ≡ Err PagesError.Full) ⊎ (result ≡ Err PagesError.Memory) }
-        ensures untouched { result ≡ Err PagesError.Full → D.is_honest device.old → (D.state device.new ≡ D.state device.old) × (D.history device.new ≡ D.history device.old) }
+        ensures unchanged { result ≡ Err PagesError.Full → D.is_honest device.old → (D.state device.new ≡ D.state device.old) × (D.history device.new ≡ D.history device.old) }
         ensures open { IsOpen self.new }
         ensures same_sectors { sectors_of self.new ≡ sectors_of self.old }
         ensures cache { cache_of self.new ≡ cache_of self.old }

@@ -4,7 +4,7 @@ ghost use Rattle.std.specs.List.{All};
 ghost use Rattle.pages.specs.Errors.{IsPlanError};
 ghost use Rattle.pages.specs.Plan.{IsPlan};
 ghost use Rattle.pages.specs.Image.{NamesOnce};
-ghost use Rattle.pages.specs.Changes.{touched};
+ghost use Rattle.pages.specs.Changes.{changed_pages};
 ghost use Rattle.pages.specs.Needed.{IsShort, needed};
 ghost use Rattle.pages.specs.Use.{turned};
 ghost use Rattle.pages.specs.Volumes.{volume_of, IsSound, IsSoundAfter, SameSize, IsNext, IsFresh, AreAscending, unused_count};
@@ -27,7 +27,7 @@ fn fresh_draft(alloc: Global, maps: usize) -> Result<Draft, AllocError>
 {
     Ok(Draft {
         blocks: Vec::new(alloc),
-        dirty: vec![in alloc; false; maps]?,
+        changed_maps: vec![in alloc; false; maps]?,
         turns: Vec::new(alloc),
         next: FIRST_SECTOR,
     })
@@ -42,7 +42,7 @@ pub(crate) fn next_volume(
 ) -> Result<Draft, PagesError>
     requires sound { IsSound volume.old }
     requires pages { All (λ c. (0 < c.page) × (c.page < length volume.old.table.items)) changes.now }
-    requires once { NamesOnce (touched changes.now) }
+    requires once { NamesOnce (changed_pages changes.now) }
     ensures cause { IsPlanError result }
     ensures plan { IfOk result (λ draft. IsPlan (volume_of volume.old) (volume_of volume.new) draft.blocks.items changes.now) }
     ensures sectors { volume.new.sectors ≡ volume.old.sectors }

@@ -4,7 +4,7 @@ ghost use Rattle.std.specs.List.{All, list_all};
 ghost use Rattle.pages.specs.declared.change.Change.{Change};
 ghost use Rattle.pages.specs.Image.{Volume, NamesOnce, map_part};
 ghost use Rattle.pages.specs.Use.{free_count};
-ghost use Rattle.pages.specs.Changes.{touched};
+ghost use Rattle.pages.specs.Changes.{changed_pages};
 ghost use Rattle.pages.specs.Needed.{filled, written_below};
 ghost use Rattle.pages.specs.Errors.{IsPlanError};
 ghost use Rattle.pages.specs.Volumes.{IsDraft, IsMappedDraft, IsCounted, SameSize, ReleasesPage};
@@ -23,12 +23,12 @@ pub(crate) fn stage_change(
 ) -> Result<(), PagesError>
     requires few { length volume.old.used < 2 ^ 32 }
     requires page { change.now.page < length volume.old.table.items }
-    requires dirty { change.now.page / 1024 < length draft.old.dirty.items }
+    requires changed_maps { change.now.page / 1024 < length draft.old.changed_maps.items }
     ensures cause { IsPlanError result }
     ensures sectors { volume.new.sectors ≡ volume.old.sectors }
     ensures size { OnOk result (SameSize volume.old volume.new) }
     ensures maps { OnOk result (volume.new.maps ≡ volume.old.maps) }
-    ensures dirty { OnOk result (length draft.new.dirty.items ≡ length draft.old.dirty.items) }
+    ensures changed_maps { OnOk result (length draft.new.changed_maps.items ≡ length draft.old.changed_maps.items) }
     ensures staged { (v : Volume) (changes : List Change) → 0 < change.now.page → IsDraft v volume.old draft.old changes → OnOk result (IsDraft v volume.new draft.new (changes ++ change.now ∷ [])) }
     ensures counted { (v : Volume) (changes : List Change) (maps : ℕ) → All (λ c. c.page ≢ change.now.page) changes → IsCounted v volume.old draft.old changes maps → OnOk result (IsCounted v volume.new draft.new (changes ++ change.now ∷ []) maps) }
     ensures full { (v : Volume) (changes : List Change) (maps : ℕ) → IsCounted v volume.old draft.old changes maps → result ≡ Err PagesError.Full → (is_some change.now.bytes ≡ true) × (free_count v ≡ filled changes + maps) }
@@ -50,7 +50,7 @@ pub(crate) fn release_page(
     page: usize,
 ) -> Result<(), PagesError>
     requires page { page < length volume.old.table.items }
-    requires dirty { page / 1024 < length draft.old.dirty.items }
+    requires changed_maps { page / 1024 < length draft.old.changed_maps.items }
     ensures sectors { volume.new.sectors ≡ volume.old.sectors }
     ensures released { OnOk result (ReleasesPage volume.old volume.new draft.old draft.new page) }
     ensures cause { IsOkUnless result PagesError.Memory }
@@ -69,15 +69,15 @@ pub(crate) fn stage_changes(
 ) -> Result<(), PagesError>
     requires few { length volume.old.used < 2 ^ 32 }
     requires pages { All (λ c. (0 < c.page) × (c.page < length volume.old.table.items)) changes.now }
-    requires count { length volume.old.table.items ≡ 1024 * length draft.old.dirty.items }
+    requires count { length volume.old.table.items ≡ 1024 * length draft.old.changed_maps.items }
     ensures cause { IsPlanError result }
     ensures sectors { volume.new.sectors ≡ volume.old.sectors }
     ensures size { OnOk result (SameSize volume.old volume.new) }
     ensures maps { OnOk result (volume.new.maps ≡ volume.old.maps) }
-    ensures dirty { OnOk result (length draft.new.dirty.items ≡ length draft.old.dirty.items) }
+    ensures changed_maps { OnOk result (length draft.new.changed_maps.items ≡ length draft.old.changed_maps.items) }
     ensures staged { (v : Volume) → IsDraft v volume.old draft.old [] → OnOk result (IsDraft v volume.new draft.new changes.now) }
-    ensures counted { (v : Volume) → NamesOnce (touched changes.now) → IsCounted v volume.old draft.old [] 0 → OnOk result (IsCounted v volume.new draft.new changes.now 0) }
-    ensures full { (v : Volume) → NamesOnce (touched changes.now) → IsCounted v volume.old draft.old [] 0 → result ≡ Err PagesError.Full → free_count v < filled changes.now }
+    ensures counted { (v : Volume) → NamesOnce (changed_pages changes.now) → IsCounted v volume.old draft.old [] 0 → OnOk result (IsCounted v volume.new draft.new changes.now 0) }
+    ensures full { (v : Volume) → NamesOnce (changed_pages changes.now) → IsCounted v volume.old draft.old [] 0 → result ≡ Err PagesError.Full → free_count v < filled changes.now }
 {
     for change in changes {
         stage_change(volume, draft, change)?;
@@ -111,17 +111,17 @@ pub(crate) fn stage_map(
 ) -> Result<(), PagesError>
     requires few { length volume.old.used < 2 ^ 32 }
     requires map { map < length volume.old.maps.items }
-    requires dirty { map < length draft.old.dirty.items }
+    requires changed_maps { map < length draft.old.changed_maps.items }
     requires count { length volume.old.table.items ≡ 1024 * length volume.old.maps.items }
     ensures cause { IsPlanError result }
     ensures sectors { volume.new.sectors ≡ volume.old.sectors }
     ensures size { OnOk result (SameSize volume.old volume.new) }
-    ensures dirty { OnOk result (draft.new.dirty ≡ draft.old.dirty) }
+    ensures changed_maps { OnOk result (draft.new.changed_maps ≡ draft.old.changed_maps) }
     ensures mapped { (v : Volume) (changes : List Change) → IsMappedDraft v volume.old draft.old changes map → OnOk result (IsMappedDraft v volume.new draft.new changes (map + 1)) }
     ensures counted { (v : Volume) (changes : List Change) → IsCounted v volume.old draft.old changes (written_below v changes map) → OnOk result (IsCounted v volume.new draft.new changes (written_below v changes (map + 1))) }
     ensures full { (v : Volume) (changes : List Change) → IsCounted v volume.old draft.old changes (written_below v changes map) → result ≡ Err PagesError.Full → free_count v < filled changes + written_below v changes (map + 1) }
 {
-    if !draft.dirty[map] {
+    if !draft.changed_maps[map] {
         return Ok(());
     }
     let entries = map_entries(&volume.table, map);
@@ -137,7 +137,7 @@ pub(crate) fn stage_map(
 pub(crate) fn stage_maps(volume: &mut VolumeMap, draft: &mut Draft) -> Result<(), PagesError>
     requires few { length volume.old.used < 2 ^ 32 }
     requires count { length volume.old.table.items ≡ 1024 * length volume.old.maps.items }
-    requires dirty { length draft.old.dirty.items ≡ length volume.old.maps.items }
+    requires changed_maps { length draft.old.changed_maps.items ≡ length volume.old.maps.items }
     ensures cause { IsPlanError result }
     ensures sectors { volume.new.sectors ≡ volume.old.sectors }
     ensures size { OnOk result (SameSize volume.old volume.new) }

@@ -254,8 +254,8 @@ impl Volume {
         self.pages.catalog()
     }
 
-    pub fn touched(&self) -> usize {
-        self.pages.touched()
+    pub fn changed_pages(&self) -> usize {
+        self.pages.changed_pages()
     }
 
     pub fn free_sectors(&self) -> u32 {

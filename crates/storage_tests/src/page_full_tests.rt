@@ -42,7 +42,7 @@ fn volume_of(rt: &impl Abort, alloc: Global, end: u32) -> Volume {
 fn the_largest_first_commit(rt: HostRuntime) {
     let mut volume = Volume::empty(&rt, rt.alloc(), 1024);
     volume.edit_all(&rt, 1, 1023, 3);
-    same(&rt, volume.touched(), 1022);
+    same(&rt, volume.changed_pages(), 1022);
     is_full(&rt, &mut volume);
     is_spent(&rt, &mut volume);
     volume.reopen(&rt, rt.alloc());
@@ -105,7 +105,7 @@ fn no_page_number_is_left(rt: HostRuntime) {
     let mut volume = Volume::empty(&rt, rt.alloc(), 1024);
     same(&rt, volume.allocate_all(&rt, 1023), 523_776);
     same(&rt, volume.allocate(), Err(PagesError::Full));
-    same(&rt, volume.touched(), 1023);
+    same(&rt, volume.changed_pages(), 1023);
     works(&rt, volume.edit(&rt, 1, 5));
     same(&rt, volume.has(&rt, 1), Some(5));
     is_full(&rt, &mut volume);

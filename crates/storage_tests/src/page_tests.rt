@@ -40,7 +40,7 @@ fn is_new(rt: &impl Abort, alloc: Global, sectors: u32, free: u32, numbers: usiz
     same_in(rt, &sectors, volume.free_sectors(), free);
     same_in(rt, &sectors, volume.page_count(), numbers);
     same(rt, volume.sectors(), sectors);
-    same(rt, (volume.catalog(), volume.touched()), (0, 0));
+    same(rt, (volume.catalog(), volume.changed_pages()), (0, 0));
     volume.reads_as(rt, &NO_PAGES);
     holds(rt, volume.changed(rt, alloc, &image).is_empty());
 }
@@ -95,7 +95,7 @@ fn stopped_commit(
 ) {
     let mut volume = Volume::empty(rt, alloc, 1024);
     works(rt, volume.edit(rt, 5, 7));
-    same(rt, volume.touched(), 1);
+    same(rt, volume.changed_pages(), 1);
     let image = volume.image(rt, alloc);
     let before = volume.counts();
     volume.stop_at(call);
@@ -138,17 +138,25 @@ fn bytes_of_a_commit(rt: HostRuntime) {
     holds(&rt, volume.sector(&rt, 0) == root(0, 1024, 0, &[0]));
 }
 
-// A new page is zeros until it is edited, and is in the map before it is committed. A commit empties what was touched.
+// A new page is zeros until it is edited, and is in the map before it is committed. A commit empties what was changed_pages.
 #[test]
 fn one_page_allocated(rt: HostRuntime) {
     let mut volume = Volume::empty(&rt, rt.alloc(), 1024);
     let page = volume.allocated(&rt);
     same(&rt, volume.has(&rt, page), Some(0));
-    same(&rt, (volume.touched(), volume.free_sectors()), (1, 1022));
+    same(
+        &rt,
+        (volume.changed_pages(), volume.free_sectors()),
+        (1, 1022),
+    );
     let before = volume.counts();
     works(&rt, volume.commit(&rt));
     same(&rt, volume.since(before), (3, 2));
-    same(&rt, (volume.touched(), volume.free_sectors()), (0, 1020));
+    same(
+        &rt,
+        (volume.changed_pages(), volume.free_sectors()),
+        (0, 1020),
+    );
     volume.reopen(&rt, rt.alloc());
     same(&rt, volume.free_sectors(), 1020);
     same(&rt, volume.has(&rt, page), Some(0));

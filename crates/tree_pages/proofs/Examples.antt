@@ -1,15 +1,15 @@
 -- Small pages, worked out.
 use Rattle.std.proofs.Common.{◌≡◌, ℕ, List, [], ◌∷◌, ◌++◌, Some, None, refl}
 use Rattle.std.specs.declared.cmp.Ordering.TheVariants.{Less, Equal, Greater}
-use Rattle.tree_pages.specs.declared.form.TreeForm.{TreeForm}
-use Rattle.tree_pages.specs.declared.form.Kind.TheVariants.{Leaf, Inner}
-use Rattle.tree_pages.specs.Form.{capacity, row_length}
+use Rattle.tree_pages.specs.declared.row_layout.RowLayout.{RowLayout}
+use Rattle.tree_pages.specs.declared.row_layout.Kind.TheVariants.{Leaf, Inner}
+use Rattle.tree_pages.specs.RowLayouts.{capacity, row_length}
 use Rattle.tree_pages.specs.Keys.{child_of, key_cmp, key_of, rest_of}
 use Rattle.tree_pages.specs.Node.{Node, kind_in, node_in, rows_in}
 use Rattle.tree_pages.specs.Edits.{inserted, removed, with_key, with_rest}
 
 -- keys of two bytes, values of one
-abbrev pairs : TreeForm
+abbrev pairs : RowLayout
 pairs = record { key_length = 2; value_length = 1 }
 
 leaf_row : row_length pairs Leaf ≡ 3
@@ -51,7 +51,7 @@ abbrev page_with : ℕ → ℕ → List ℕ → List ℕ
 page_with kind count rows = (kind ∷ 0 ∷ 0 ∷ count ∷ 0 ∷ 0 ∷ 0 ∷ 0 ∷ 0 ∷ 0 ∷ 0 ∷ 0 ∷ 0 ∷ 0 ∷ 0 ∷ 0 ∷ []) ++ rows
 
 abbrev leaf_with : List (List ℕ) → Node
-leaf_with rows = record { form = pairs; kind = Leaf; rows = rows }
+leaf_with rows = record { layout = pairs; kind = Leaf; rows = rows }
 
 one_entry : node_in pairs (page_with 1 1 (7 ∷ 8 ∷ 9 ∷ 0 ∷ 0 ∷ [])) ≡ Some (leaf_with ((7 ∷ 8 ∷ 9 ∷ []) ∷ []))
 one_entry = refl

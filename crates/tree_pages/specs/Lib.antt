@@ -1,5 +1,5 @@
 pub mod Bytes
-pub mod Form
+pub mod RowLayouts
 pub mod Keys
 pub mod Node
 pub mod Edits

@@ -8,7 +8,7 @@ pub fn row_reads_back()
     ensures child { ChildReadsBack }
 {}
 
-/// What a page's bytes spell has rows of the form's length, and no more than fit.
+/// What a page's bytes spell has rows of the layout's length, and no more than fit.
 pub fn spells_node()
     ensures { SpellsNode }
 {}

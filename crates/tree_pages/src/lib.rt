@@ -4,17 +4,17 @@
 #![tactic(auto)]
 
 mod edits;
-mod form;
+mod header;
 mod laws;
-mod layout;
 mod node_view;
 mod row_bytes;
+mod row_layout;
 mod search;
 mod tree_page;
 
-pub use form::{Kind, MOST_ROW_BYTES, ROW_BYTES, TreeForm};
 pub use laws::{
     beginnings_in_order, numbers_in_order, parts_in_order, row_reads_back, spells_node,
 };
 pub use node_view::NodeView;
+pub use row_layout::{Kind, MOST_ROW_BYTES, ROW_BYTES, RowLayout};
 pub use tree_page::TreePage;

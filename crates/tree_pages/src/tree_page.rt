@@ -1,42 +1,42 @@
 //! A page of a tree.
 ghost use Rattle.std.specs.Prelude.{◌≡◌, ◌≤◌, ◌<◌, ◌↔◌, [], IsTrue, length, slice_index_or};
-ghost use Rattle.tree_pages.specs.Form.{IsForm, capacity, rest_length};
+ghost use Rattle.tree_pages.specs.RowLayouts.{IsRowLayout, capacity, rest_length};
 ghost use Rattle.tree_pages.specs.Keys.{key_of, rest_of, child_of};
 ghost use Rattle.tree_pages.specs.Node.{IsNode, node_in};
 
-use crate::form::{Kind, TreeForm};
 use crate::node_view::NodeView;
+use crate::row_layout::{Kind, RowLayout};
 use std::marker::Model;
 
 /// A page of a tree, as its rows.
 #[derive(Drop)]
 pub struct TreePage {
     pub(crate) bytes: [u8; 4080],
-    pub(crate) form: TreeForm,
+    pub(crate) layout: RowLayout,
     pub(crate) kind: Kind,
     pub(crate) count: usize,
 }
 
 impl Model for TreePage {
     ghost use Rattle.std.specs.Prelude.{◌≤◌};
-    ghost use Rattle.tree_pages.specs.Form.{IsForm, row_length, capacity};
+    ghost use Rattle.tree_pages.specs.RowLayouts.{IsRowLayout, row_length, capacity};
     ghost use Rattle.tree_pages.specs.Node.{Node, rows_in};
 
     ghost Value = { Node };
 
-    ghost view = { λ page. record { form = page.form; kind = page.kind; rows = rows_in (row_length page.form page.kind) page.count page.bytes } };
+    ghost view = { λ page. record { layout = page.layout; kind = page.kind; rows = rows_in (row_length page.layout page.kind) page.count page.bytes } };
 
-    ghost invariant = { λ page. IsForm page.form × (page.count ≤ capacity page.form page.kind) };
+    ghost invariant = { λ page. IsRowLayout page.layout × (page.count ≤ capacity page.layout page.kind) };
 }
 
 impl TreePage {
-    /// The page of a tree of this form that these bytes spell: the kind in byte 0 (1 for a leaf, 2 for an inner page), the number
+    /// The page of a tree of this layout that these bytes spell: the kind in byte 0 (1 for a leaf, 2 for an inner page), the number
     /// of rows in bytes 2 and 3, big-endian, and the rows from byte 16 on. `None` where the kind is neither or the rows don't fit.
-    pub fn read(bytes: [u8; 4096], form: TreeForm) -> Option<TreePage>
-        requires { IsForm form }
-        ensures { result ≡ node_in form bytes }
+    pub fn read(bytes: [u8; 4096], layout: RowLayout) -> Option<TreePage>
+        requires { IsRowLayout layout }
+        ensures { result ≡ node_in layout bytes }
     {
-        Some(NodeView::read(&bytes, form)?.to_page())
+        Some(NodeView::read(&bytes, layout)?.to_page())
     }
 
     /// The page where it stands.
@@ -45,7 +45,7 @@ impl TreePage {
     {
         NodeView {
             rows: &self.bytes,
-            form: self.form,
+            layout: self.layout,
             kind: self.kind,
             count: self.count,
         }
@@ -65,25 +65,25 @@ impl TreePage {
         self.kind
     }
 
-    pub fn form(&self) -> TreeForm
-        ensures { result ≡ self.now.form }
+    pub fn layout(&self) -> RowLayout
+        ensures { result ≡ self.now.layout }
     {
-        self.form
+        self.layout
     }
 
     /// Whether no further row has room.
     pub fn is_full(&self) -> bool
-        ensures { IsTrue result ↔ (capacity self.now.form self.now.kind ≤ length self.now.rows) }
+        ensures { IsTrue result ↔ (capacity self.now.layout self.now.kind ≤ length self.now.rows) }
     {
         let count = self.count();
-        self.form().capacity(self.kind()) <= count
+        self.layout().capacity(self.kind()) <= count
     }
 
     /// The key of the row at this place.
     pub fn key(&self, place: usize) -> &[u8]
         requires { place < length self.now.rows }
-        ensures key { result.now ≡ key_of self.now.form (slice_index_or self.now.rows place []) }
-        ensures length { length result.now ≡ self.now.form.key_length }
+        ensures key { result.now ≡ key_of self.now.layout (slice_index_or self.now.rows place []) }
+        ensures length { length result.now ≡ self.now.layout.key_length }
     {
         self.view().key(place)
     }
@@ -91,8 +91,8 @@ impl TreePage {
     /// What stands behind the key of the row at this place: a leaf's value, or an inner page's page number in 4 bytes.
     pub fn rest(&self, place: usize) -> &[u8]
         requires { place < length self.now.rows }
-        ensures rest { result.now ≡ rest_of self.now.form (slice_index_or self.now.rows place []) }
-        ensures length { length result.now ≡ rest_length self.now.form self.now.kind }
+        ensures rest { result.now ≡ rest_of self.now.layout (slice_index_or self.now.rows place []) }
+        ensures length { length result.now ≡ rest_length self.now.layout self.now.kind }
     {
         self.view().rest(place)
     }
@@ -101,7 +101,7 @@ impl TreePage {
     pub fn child(&self, place: usize) -> u32
         requires inner { self.now.kind ≡ Kind.Inner }
         requires place { place < length self.now.rows }
-        ensures { result ≡ child_of self.now.form (slice_index_or self.now.rows place []) }
+        ensures { result ≡ child_of self.now.layout (slice_index_or self.now.rows place []) }
     {
         self.view().child(place)
     }

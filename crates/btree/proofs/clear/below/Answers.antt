@@ -4,56 +4,56 @@ use Rattle.std.specs.List.{All}
 use Rattle.std.proofs.lemmas.Result.{err_from_is_err_and, IfOk-weaker}
 use Rattle.station.specs.Disk.{Sector}
 use Rattle.pages.specs.declared.error.PagesError.TheVariants.{Damaged, Spent}
-use Rattle.tree_pages.specs.declared.form.Kind.TheVariants.{Leaf, Inner}
+use Rattle.tree_pages.specs.declared.row_layout.Kind.TheVariants.{Leaf, Inner}
 use Rattle.btree.specs.Tree.{rows_of, Stands}
-use Rattle.btree.specs.Walks.{HasPages, levels_below}
+use Rattle.btree.specs.Clears.{HasPages, levels_below}
 use Rattle.btree.specs.Changes.{pages_of_map}
-use Rattle.btree.proofs.Frames.{untouched_on, same_pages, ok_or_err}
-use Rattle.btree.proofs.Clearing.{first_part, below_leaves, below_inner}
+use Rattle.btree.proofs.Frames.{unchanged_on, same_pages, ok_or_err}
+use Rattle.btree.proofs.Clearing.{first_node, below_leaves, below_inner}
 use Rattle.btree.proofs.clear.below.Goals as goal
 
 pub returns-in_err-first-clause-damaged : goal.returns-in_err-first-clause-damaged
 returns-in_err-first-clause-damaged g c = λ honest agrees is levels down.
     let from = err_from_is_err_and c.from_residual.result c.from_residual.ensures.1 in
-    let damaged : c.read_part.result ≡ Err Damaged = cc in
+    let damaged : c.read_node.result ≡ Err Damaged = cc in
     let pages = pages_of_map c.args.pages.now (g.D.Device.state c.args.device.now).disk.present in
-    let first = first_part c.args.form pages c.args.numbers.now levels c.requires.some down in
-    c.read_part.ensures.damaged honest agrees damaged first.kind first.part first.page first.stands
+    let first = first_node c.args.layout pages c.args.numbers.now levels c.requires.some down in
+    c.read_node.ensures.damaged honest agrees damaged first.kind first.node first.page first.stands
 
 pub returns-in-Leaf-clause-below : goal.returns-in-Leaf-clause-below
 returns-in-Leaf-clause-below g c = λ honest agrees levels few down.
     let pages = pages_of_map c.args.pages.now (g.D.Device.state c.args.device.now).disk.present in
     let leaf : c.in_ok-first.first.kind ≡ Leaf = search rules in
     subst (λ (xs : List ℕ). HasPages xs (levels_below levels)) (sym c.new.ensures.items)
-    (below_leaves c.args.form pages c.args.numbers.now levels c.in_ok-first.first c.requires.some down (c.in_ok-first.ensures.part honest agrees) leaf)
+    (below_leaves c.args.layout pages c.args.numbers.now levels c.in_ok-first.first c.requires.some down (c.in_ok-first.ensures.node honest agrees) leaf)
 
-pub returns-in-Inner-clause-untouched : goal.returns-in-Inner-clause-untouched
-returns-in-Inner-clause-untouched g c = untouched_on c.args.pages.now c.read_part.new.pages c.children_of.new.pages c.read_part.ensures.untouched c.children_of.ensures.untouched
+pub returns-in-Inner-clause-unchanged : goal.returns-in-Inner-clause-unchanged
+returns-in-Inner-clause-unchanged g c = unchanged_on c.args.pages.now c.read_node.new.pages c.children_of.new.pages c.read_node.ensures.unchanged c.children_of.ensures.unchanged
 
 pub returns-in-Inner-clause-below : goal.returns-in-Inner-clause-below
 returns-in-Inner-clause-below g c = λ honest agrees levels few down.
-    let read = c.read_part.ensures in
+    let read = c.read_node.ensures in
     let pages = pages_of_map c.args.pages.now (g.D.Device.state c.args.device.now).disk.present in
-    let same = same_pages c.args.pages.now c.read_part.new.pages (g.D.Device.state c.args.device.now) (g.D.Device.state c.read_part.new.device) read.untouched (read.only.state honest) in
+    let same = same_pages c.args.pages.now c.read_node.new.pages (g.D.Device.state c.args.device.now) (g.D.Device.state c.read_node.new.device) read.unchanged (read.only.state honest) in
     let inner : c.in_ok-first.first.kind ≡ Inner = search rules in
-    let top = below_inner c.args.form pages c.args.numbers.now levels c.in_ok-first.first c.requires.some down (c.in_ok-first.ensures.part honest agrees) inner in
+    let top = below_inner c.args.layout pages c.args.numbers.now levels c.in_ok-first.first c.requires.some down (c.in_ok-first.ensures.node honest agrees) inner in
     IfOk-weaker c.children_of.result _ (λ children. HasPages children.items (levels_below levels)) (λ children is. subst (λ (xs : List ℕ). HasPages xs (levels_below levels)) (sym is) (top.next few))
     (c.children_of.ensures.children (read.only.honest.0 honest) (read.agrees honest agrees) top.level
-    (subst (λ (p : List (Option Sector)). All (Stands c.args.form p Inner) top.level) (sym same) top.stand) top.is)
+    (subst (λ (p : List (Option Sector)). All (Stands c.args.layout p Inner) top.level) (sym same) top.stand) top.is)
 
 pub returns-in-Inner-clause-damaged : goal.returns-in-Inner-clause-damaged
 returns-in-Inner-clause-damaged g c = λ honest agrees is levels down.
-    let read = c.read_part.ensures in
+    let read = c.read_node.ensures in
     let pages = pages_of_map c.args.pages.now (g.D.Device.state c.args.device.now).disk.present in
-    let same = same_pages c.args.pages.now c.read_part.new.pages (g.D.Device.state c.args.device.now) (g.D.Device.state c.read_part.new.device) read.untouched (read.only.state honest) in
+    let same = same_pages c.args.pages.now c.read_node.new.pages (g.D.Device.state c.args.device.now) (g.D.Device.state c.read_node.new.device) read.unchanged (read.only.state honest) in
     let inner : c.in_ok-first.first.kind ≡ Inner = search rules in
-    let top = below_inner c.args.form pages c.args.numbers.now levels c.in_ok-first.first c.requires.some down (c.in_ok-first.ensures.part honest agrees) inner in
+    let top = below_inner c.args.layout pages c.args.numbers.now levels c.in_ok-first.first c.requires.some down (c.in_ok-first.ensures.node honest agrees) inner in
     c.children_of.ensures.damaged (read.only.honest.0 honest) (read.agrees honest agrees) is top.level
-    (subst (λ (p : List (Option Sector)). All (Stands c.args.form p Inner) top.level) (sym same) top.stand) top.is
+    (subst (λ (p : List (Option Sector)). All (Stands c.args.layout p Inner) top.level) (sym same) top.stand) top.is
     (subst (λ (p : List (Option Sector)). length (rows_of top.level) ≤ length p) (sym same) top.few)
 
 pub returns-in-Inner-clause-spent : goal.returns-in-Inner-clause-spent
 returns-in-Inner-clause-spent g c = (
-  λ is. sym c.read_part.ensures.untouched.committed.spent ∙ c.children_of.ensures.spent is,
-  λ spent. absurd (ok_or_err c.in_ok-first.first Spent (sym c.in_ok-first.was ∙ c.read_part.ensures.spent.1 spent)),
+  λ is. sym c.read_node.ensures.unchanged.committed.spent ∙ c.children_of.ensures.spent is,
+  λ spent. absurd (ok_or_err c.in_ok-first.first Spent (sym c.in_ok-first.was ∙ c.read_node.ensures.spent.1 spent)),
 )

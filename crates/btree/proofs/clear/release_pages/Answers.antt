@@ -29,8 +29,8 @@ loop-place-preserved c =
           (c.in_ok-release.ensures.map image);
       filled = omega (arith, c.release.ensures.filled, loop.invariant.filled);
       keeps = keeps_on c.args.pages.now loop.pages c.release.new.self loop.invariant.keeps
-          (record { committed = c.release.ensures.committed; catalog = c.release.ensures.catalog; agrees = c.release.ensures.agrees });
-      is_open = c.release.ensures.open;
+          c.release.ensures.keeps;
+      is_open = c.release.ensures.keeps.is_open loop.invariant.is_open;
     }
 
 pub returns-clause-released : goal.returns-clause-released

@@ -1,8 +1,8 @@
 use Rattle.std.proofs.Common.{◌≤◌, List, [], take}
 use Rattle.station.specs.Disk.{Sector}
-use Rattle.pages.specs.Pages.{IsOpen, filled_of}
+use Rattle.pages.specs.Pages.{IsOpen, filled_of, Keeps}
 use Rattle.btree.specs.Moves.{Moves}
-use Rattle.btree.specs.Changes.{pages_of_map, Keeps}
+use Rattle.btree.specs.Changes.{pages_of_map}
 use Rattle.btree.proofs.clear.release_pages.Given as goal
 
 abbrev pub invariant-loop-place : goal.invariant-loop-place

@@ -1,23 +1,23 @@
 use Rattle.std.proofs.Common.{◌++◌, List, length, set, ◌∙◌, ap, arith, replicate}
 use Rattle.std.specs.Prelude.{Option, Some}
 use Rattle.station.specs.Disk.{Sector}
-use Rattle.pages.specs.Pages.{touched_of}
+use Rattle.pages.specs.Pages.{changed_pages_of}
 use Rattle.btree.specs.Changes.{pages_of_map}
-use Rattle.btree.proofs.Dividing.{three_fit}
+use Rattle.btree.proofs.SplitNodes.{three_fit}
 use Rattle.btree.proofs.Writes.{write_two, is_low, spells_left, spells_right}
-use Rattle.btree.proofs.Touched.{touches_count, touches_again, touches_has, touches_keeps}
+use Rattle.btree.proofs.ChangedPages.{changes_count, changes_again, changes_has, changes_keeps}
 use Rattle.btree.proofs.Refused.{each_used}
 use Rattle.btree.proofs.put_row.put_in_two.Goals as goal
 
-pub divide-right-requires-clause-full : goal.divide-right-requires-clause-full
-divide-right-requires-clause-full c = omega (arith, c.requires.full, three_fit c.args.node.form c.args.node.kind c.count-count.ensures.node.form)
+pub split_node-right-requires-clause-full : goal.split_node-right-requires-clause-full
+split_node-right-requires-clause-full c = omega (arith, c.requires.full, three_fit c.args.node.layout c.args.node.kind c.count-count.ensures.node.layout)
 
 pub returns-clause-pages : goal.returns-clause-pages
 returns-clause-pages c = λ image can.
     let node = c.args.node in
     let old = pages_of_map c.args.pages.now image in
     let row = c.args.key.now ++ c.args.rest.now in
-    write_two node.form node.kind old (pages_of_map c.edit-2.new.self image) c.args.page c.in_ok-new.new c.bytes-lower.result c.bytes-upper.result node.rows c.divide-right.new.node.rows c.divide-right.result.rows
+    write_two node.layout node.kind old (pages_of_map c.edit-2.new.self image) c.args.page c.in_ok-new.new c.bytes-lower.result c.bytes-upper.result node.rows c.split_node-right.new.node.rows c.split_node-right.result.rows
     (record {
       zeros = replicate 4096 0;
       is = c.in_ok-edit-2.ensures.map image
@@ -28,16 +28,16 @@ returns-clause-pages c = λ image can.
       there = can.is_in;
       none = c.in_ok-new.ensures.unused image;
     })
-    (spells_left old c.args.page node c.divide-right.new.node c.divide-right.result c.args.place c.args.key.now c.args.rest.now c.bytes-lower.result can c.divide-right.ensures.rows c.requires.key c.requires.rest c.divide-right.ensures.left c.divide-right.ensures.left_enough c.bytes-lower.ensures.reads)
-    (spells_right old c.args.page node c.divide-right.new.node c.divide-right.result c.args.place c.args.key.now c.args.rest.now c.bytes-upper.result can c.divide-right.ensures.rows c.requires.key c.requires.rest c.divide-right.ensures.right c.divide-right.ensures.right_enough c.bytes-upper.ensures.reads)
+    (spells_left old c.args.page node c.split_node-right.new.node c.split_node-right.result c.args.place c.args.key.now c.args.rest.now c.bytes-lower.result can c.split_node-right.ensures.rows c.requires.key c.requires.rest c.split_node-right.ensures.left c.split_node-right.ensures.left_enough c.bytes-lower.ensures.reads)
+    (spells_right old c.args.page node c.split_node-right.new.node c.split_node-right.result c.args.place c.args.key.now c.args.rest.now c.bytes-upper.result can c.split_node-right.ensures.rows c.requires.key c.requires.rest c.split_node-right.ensures.right c.split_node-right.ensures.right_enough c.bytes-upper.ensures.reads)
 
-pub returns-clause-touched : goal.returns-clause-touched
-returns-clause-touched c =
-    let one = touches_count (touched_of c.args.pages.now) c.in_ok-new.new (touched_of c.allocate.new.self) c.in_ok-new.ensures.touches in
-    let two = touches_count (touched_of c.allocate.new.self) c.args.page (touched_of c.edit.new.self) c.in_ok-edit.ensures.touches in
-    let has = touches_keeps (touched_of c.allocate.new.self) c.args.page (touched_of c.edit.new.self) c.in_ok-new.new
-    (touches_has (touched_of c.args.pages.now) c.in_ok-new.new (touched_of c.allocate.new.self) c.in_ok-new.ensures.touches) c.in_ok-edit.ensures.touches in
-    let three = ap length (touches_again (touched_of c.edit.new.self) c.in_ok-new.new (touched_of c.edit-2.new.self) has c.in_ok-edit-2.ensures.touches) in
+pub returns-clause-changed_pages : goal.returns-clause-changed_pages
+returns-clause-changed_pages c =
+    let one = changes_count (changed_pages_of c.args.pages.now) c.in_ok-new.new (changed_pages_of c.allocate.new.self) c.in_ok-new.ensures.changes_page in
+    let two = changes_count (changed_pages_of c.allocate.new.self) c.args.page (changed_pages_of c.edit.new.self) c.in_ok-edit.ensures.changes_page in
+    let has = changes_keeps (changed_pages_of c.allocate.new.self) c.args.page (changed_pages_of c.edit.new.self) c.in_ok-new.new
+    (changes_has (changed_pages_of c.args.pages.now) c.in_ok-new.new (changed_pages_of c.allocate.new.self) c.in_ok-new.ensures.changes_page) c.in_ok-edit.ensures.changes_page in
+    let three = ap length (changes_again (changed_pages_of c.edit.new.self) c.in_ok-new.new (changed_pages_of c.edit-2.new.self) has c.in_ok-edit-2.ensures.changes_page) in
     omega (arith, one, two, three)
 
 pub returns-in_err-new-clause-full : goal.returns-in_err-new-clause-full

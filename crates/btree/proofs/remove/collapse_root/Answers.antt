@@ -2,10 +2,10 @@ use Rattle.std.proofs.Common.{◌≡◌, ◌≤◌, ◌^◌, length, refl, sym, 
 use Rattle.std.specs.Prelude.{false}
 use Rattle.pages.specs.Pages.{IsPage, is_spent, page_count}
 use Rattle.pages.specs.declared.error.PagesError.TheVariants.{Spent}
-use Rattle.tree_pages.specs.declared.form.Kind.TheVariants.{Inner}
+use Rattle.tree_pages.specs.declared.row_layout.Kind.TheVariants.{Inner}
 use Rattle.btree.specs.Changes.{pages_of_map}
 use Rattle.btree.proofs.Frames.{false_unless, ok_or_err}
-use Rattle.btree.proofs.Parts.{few_pages}
+use Rattle.btree.proofs.TreeNodes.{few_pages}
 use Rattle.btree.proofs.Lessening.{has_room, write_none, true_or_false}
 use Rattle.btree.proofs.Collapsing.{page_named}
 use Rattle.btree.proofs.remove.collapse_root.Goals as goal
@@ -22,6 +22,6 @@ returns-clause-gives c = λ image.
     let unspent : is_spent c.args.pages.now ≡ false = false_unless (is_spent c.args.pages.now) (λ spent. ok_or_err c.in_ok-release.field-0 Spent (sym c.in_ok-release.was ∙ c.release.ensures.spent.1 spent)) in
     let few : length before ≤ 2 ^ 20 = few_pages before (page_count c.args.pages.now) (page_count c.args.pages.now) count refl (c.is_page.ensures.few c.requires.open unspent) in
     record {
-      leaves = λ form rows. write_none form Inner before after c.args.lone.page rows (c.in_ok-release.ensures.map image) (omega (arith, page.1, count));
+      leaves = λ layout rows. write_none layout Inner before after c.args.lone.page rows (c.in_ok-release.ensures.map image) (omega (arith, page.1, count));
       names = λ page is_in is. c.child.ensures ∙ page_named before page _ few is_in is;
     }

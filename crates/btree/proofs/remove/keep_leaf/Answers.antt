@@ -1,6 +1,6 @@
 use Rattle.std.proofs.Common.{◌≡◌, length, refl, arith}
 use Rattle.pages.specs.Pages.{IsPage, page_count}
-use Rattle.tree_pages.specs.declared.form.Kind.TheVariants.{Leaf}
+use Rattle.tree_pages.specs.declared.row_layout.Kind.TheVariants.{Leaf}
 use Rattle.btree.specs.Changes.{pages_of_map}
 use Rattle.btree.proofs.Writes.{write_one}
 use Rattle.btree.proofs.Sharing.{spells_some}
@@ -18,6 +18,6 @@ returns-clause-stays c = λ image.
     let count : length before ≡ page_count c.args.pages.now = c.is_page.ensures.count image in
     record {
       page_is = refl;
-      own = λ rows. write_one node.form Leaf before (pages_of_map c.edit.new.self image) c.args.lone.page c.bytes-spelled.result rows node.rows (c.in_ok-edit.ensures.map image) (omega (arith, page.1, count))
+      own = λ rows. write_one node.layout Leaf before (pages_of_map c.edit.new.self image) c.args.lone.page c.bytes-spelled.result rows node.rows (c.in_ok-edit.ensures.map image) (omega (arith, page.1, count))
           (spells_some node c.bytes-spelled.result c.requires.lone.0 c.count-count.ensures.node c.requires.lone.1 c.bytes-spelled.ensures.reads);
     }

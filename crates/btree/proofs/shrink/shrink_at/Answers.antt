@@ -5,14 +5,14 @@ use Rattle.byteorder.specs.Endian.{big_bytes}
 use Rattle.station.specs.Disk.{Sector}
 use Rattle.station.specs.State.{State}
 use Rattle.pages.specs.Image.{Map}
-use Rattle.tree_pages.specs.declared.form.Kind.TheVariants.{Inner}
+use Rattle.tree_pages.specs.declared.row_layout.Kind.TheVariants.{Inner}
 use Rattle.tree_pages.specs.Keys.{rest_of}
-use Rattle.btree.specs.declared.fate.Fate.{Fate}
-use Rattle.btree.specs.declared.fate.Fate.TheVariants.{Kept}
+use Rattle.btree.specs.declared.removal_outcome.RemovalOutcome.{RemovalOutcome}
+use Rattle.btree.specs.declared.removal_outcome.RemovalOutcome.TheVariants.{Kept}
 use Rattle.btree.specs.Tree.{row_of}
-use Rattle.btree.specs.Rises.{part_of}
+use Rattle.btree.specs.Propagates.{node_with}
 use Rattle.btree.specs.Changes.{pages_of_map, IsIn, CanStand}
-use Rattle.btree.specs.Fates.{Fares, IsPair}
+use Rattle.btree.specs.Outcomes.{Fares, IsPair}
 use Rattle.btree.specs.Shrinks.{ShrinksOn, NeverShrinksOn}
 use Rattle.btree.proofs.Upward.{ReadNode}
 use Rattle.btree.proofs.Downward.{Rebalances, kept_on, renamed_on, gone_on, lone_on, never_read, never_led, never_rebalanced}
@@ -21,110 +21,110 @@ use Rattle.btree.proofs.shrink.shrink_at.Goals as goal
 pub returns-in_err-node-clause-damaged : goal.returns-in_err-node-clause-damaged
 returns-in_err-node-clause-damaged g c = λ honest agrees is.
     let told = rw is at c.from_residual.ensures.1 in
-    never_read c.args.form (pages_of_map c.args.pages.now (g.D.Device.state c.args.device.now).disk.present) c.args.turn c.args.below (c.in_err-node.ensures.damaged honest agrees (cc told))
+    never_read c.args.layout (pages_of_map c.args.pages.now (g.D.Device.state c.args.device.now).disk.present) c.args.step c.args.below (c.in_err-node.ensures.damaged honest agrees (cc told))
 
 pub returns-in_err-node-clause-catalog : goal.returns-in_err-node-clause-catalog
-returns-in_err-node-clause-catalog g c = ap (λ (m : Map). m.catalog) (c.read_part.ensures.untouched.map [])
+returns-in_err-node-clause-catalog g c = ap (λ (m : Map). m.catalog) (c.read_node.ensures.unchanged.map [])
 
 pub returns-in-Kept-clause-shrinks : goal.returns-in-Kept-clause-shrinks
 returns-in-Kept-clause-shrinks g c = λ honest agrees.
     let image = (g.D.Device.state c.args.device.now).disk.present in
     let two = pages_of_map c.args.pages.now image in
-    let still = ap (λ (m : Map). m.pages) (c.read_part.ensures.untouched.map image) in
-    subst (λ (below : Fate). ShrinksOn c.args.form c.args.turn two (pages_of_map c.read_part.new.pages image) below Kept) (sym c.in-Kept.is)
-    (subst (λ (pages : List (Option Sector)). ShrinksOn c.args.form c.args.turn two pages Kept Kept) (sym still) (kept_on c.args.form two c.args.turn))
+    let still = ap (λ (m : Map). m.pages) (c.read_node.ensures.unchanged.map image) in
+    subst (λ (below : RemovalOutcome). ShrinksOn c.args.layout c.args.step two (pages_of_map c.read_node.new.pages image) below Kept) (sym c.in-Kept.is)
+    (subst (λ (pages : List (Option Sector)). ShrinksOn c.args.layout c.args.step two pages Kept Kept) (sym still) (kept_on c.args.layout two c.args.step))
 
 pub returns-in-Kept-clause-catalog : goal.returns-in-Kept-clause-catalog
-returns-in-Kept-clause-catalog g c = ap (λ (m : Map). m.catalog) (c.read_part.ensures.untouched.map [])
+returns-in-Kept-clause-catalog g c = ap (λ (m : Map). m.catalog) (c.read_node.ensures.unchanged.map [])
 
 pub returns-in-Renamed-clause-shrinks : goal.returns-in-Renamed-clause-shrinks
 returns-in-Renamed-clause-shrinks g c = λ honest agrees.
     let image = (g.D.Device.state c.args.device.now).disk.present in
     let two = pages_of_map c.args.pages.now image in
     let three = pages_of_map c.rename_at.new.pages image in
-    let still = ap (λ (m : Map). m.pages) (c.read_part.ensures.untouched.map image) in
-    let turn = c.args.turn in
+    let still = ap (λ (m : Map). m.pages) (c.read_node.ensures.unchanged.map image) in
+    let step = c.args.step in
     let node = c.in_ok-node.node in
     let child = c.in-Renamed.child in
-    let read : ReadNode c.args.form two turn node = record { form_is = c.in_ok-node.ensures.shape.0; read = c.in_ok-node.ensures.part honest agrees } in
+    let read : ReadNode c.args.layout two step node = record { layout_is = c.in_ok-node.ensures.shape.0; read = c.in_ok-node.ensures.node honest agrees } in
     IfOk-weaker c.rename_at.result _ _
     (λ up fares.
-    subst (λ (below : Fate). ShrinksOn c.args.form turn two three below up) (sym c.in-Renamed.is)
-    (renamed_on c.args.form two three turn child up node read
-    (subst (λ (pages : List (Option Sector)). CanStand pages turn.page node → rest_of node.form (slice_index_or node.rows turn.place []) ≡ big_bytes 4 child.page
-    → Fares node.form Inner pages three turn.page node.rows (take turn.place node.rows ++ (row_of node.form (part_of child.page child.node.rows) ∷ drop (turn.place + 1) node.rows)) up) still (fares image))))
+    subst (λ (below : RemovalOutcome). ShrinksOn c.args.layout step two three below up) (sym c.in-Renamed.is)
+    (renamed_on c.args.layout two three step child up node read
+    (subst (λ (pages : List (Option Sector)). CanStand pages step.page node → rest_of node.layout (slice_index_or node.rows step.place []) ≡ big_bytes 4 child.page
+    → Fares node.layout Inner pages three step.page node.rows (take step.place node.rows ++ (row_of node.layout (node_with child.page child.node.rows) ∷ drop (step.place + 1) node.rows)) up) still (fares image))))
     c.rename_at.ensures.pages
 
 pub returns-in-Renamed-clause-damaged : goal.returns-in-Renamed-clause-damaged
 returns-in-Renamed-clause-damaged g c = λ honest agrees is.
     let image = (g.D.Device.state c.args.device.now).disk.present in
     let two = pages_of_map c.args.pages.now image in
-    let still = ap (λ (m : Map). m.pages) (c.read_part.ensures.untouched.map image) in
-    let read : ReadNode c.args.form two c.args.turn c.in_ok-node.node = record { form_is = c.in_ok-node.ensures.shape.0; read = c.in_ok-node.ensures.part honest agrees } in
-    never_led c.args.form two c.args.turn c.args.below c.in_ok-node.node read
-    (λ inner low some is_in. c.rename_at.ensures.damaged is image inner low some (subst (λ (pages : List (Option Sector)). IsIn pages c.args.turn.page) (sym still) is_in))
+    let still = ap (λ (m : Map). m.pages) (c.read_node.ensures.unchanged.map image) in
+    let read : ReadNode c.args.layout two c.args.step c.in_ok-node.node = record { layout_is = c.in_ok-node.ensures.shape.0; read = c.in_ok-node.ensures.node honest agrees } in
+    never_led c.args.layout two c.args.step c.args.below c.in_ok-node.node read
+    (λ inner low some is_in. c.rename_at.ensures.damaged is image inner low some (subst (λ (pages : List (Option Sector)). IsIn pages c.args.step.page) (sym still) is_in))
 
 pub returns-in-Renamed-clause-catalog : goal.returns-in-Renamed-clause-catalog
-returns-in-Renamed-clause-catalog g c = c.rename_at.ensures.keeps.catalog ∙ ap (λ (m : Map). m.catalog) (c.read_part.ensures.untouched.map [])
+returns-in-Renamed-clause-catalog g c = c.rename_at.ensures.keeps.catalog ∙ ap (λ (m : Map). m.catalog) (c.read_node.ensures.unchanged.map [])
 
 pub returns-in-Gone-clause-shrinks : goal.returns-in-Gone-clause-shrinks
 returns-in-Gone-clause-shrinks g c = λ honest agrees.
     let image = (g.D.Device.state c.args.device.now).disk.present in
     let two = pages_of_map c.args.pages.now image in
     let three = pages_of_map c.lose_at.new.pages image in
-    let still = ap (λ (m : Map). m.pages) (c.read_part.ensures.untouched.map image) in
-    let turn = c.args.turn in
+    let still = ap (λ (m : Map). m.pages) (c.read_node.ensures.unchanged.map image) in
+    let step = c.args.step in
     let node = c.in_ok-node.node in
-    let read : ReadNode c.args.form two turn node = record { form_is = c.in_ok-node.ensures.shape.0; read = c.in_ok-node.ensures.part honest agrees } in
+    let read : ReadNode c.args.layout two step node = record { layout_is = c.in_ok-node.ensures.shape.0; read = c.in_ok-node.ensures.node honest agrees } in
     IfOk-weaker c.lose_at.result _ _
     (λ up fares.
-    subst (λ (below : Fate). ShrinksOn c.args.form turn two three below up) (sym c.in-Gone.is)
-    (gone_on c.args.form two three turn up node read
-    (subst (λ (pages : List (Option Sector)). CanStand pages turn.page node → Fares node.form Inner pages three turn.page node.rows (take turn.place node.rows ++ drop (turn.place + 1) node.rows) up) still (fares image))))
+    subst (λ (below : RemovalOutcome). ShrinksOn c.args.layout step two three below up) (sym c.in-Gone.is)
+    (gone_on c.args.layout two three step up node read
+    (subst (λ (pages : List (Option Sector)). CanStand pages step.page node → Fares node.layout Inner pages three step.page node.rows (take step.place node.rows ++ drop (step.place + 1) node.rows) up) still (fares image))))
     c.lose_at.ensures.pages
 
 pub returns-in-Gone-clause-damaged : goal.returns-in-Gone-clause-damaged
 returns-in-Gone-clause-damaged g c = λ honest agrees is.
     let image = (g.D.Device.state c.args.device.now).disk.present in
     let two = pages_of_map c.args.pages.now image in
-    let still = ap (λ (m : Map). m.pages) (c.read_part.ensures.untouched.map image) in
-    let read : ReadNode c.args.form two c.args.turn c.in_ok-node.node = record { form_is = c.in_ok-node.ensures.shape.0; read = c.in_ok-node.ensures.part honest agrees } in
-    never_led c.args.form two c.args.turn c.args.below c.in_ok-node.node read
-    (λ inner low some is_in. c.lose_at.ensures.damaged is image inner low some (subst (λ (pages : List (Option Sector)). IsIn pages c.args.turn.page) (sym still) is_in))
+    let still = ap (λ (m : Map). m.pages) (c.read_node.ensures.unchanged.map image) in
+    let read : ReadNode c.args.layout two c.args.step c.in_ok-node.node = record { layout_is = c.in_ok-node.ensures.shape.0; read = c.in_ok-node.ensures.node honest agrees } in
+    never_led c.args.layout two c.args.step c.args.below c.in_ok-node.node read
+    (λ inner low some is_in. c.lose_at.ensures.damaged is image inner low some (subst (λ (pages : List (Option Sector)). IsIn pages c.args.step.page) (sym still) is_in))
 
 pub returns-in-Gone-clause-catalog : goal.returns-in-Gone-clause-catalog
-returns-in-Gone-clause-catalog g c = c.lose_at.ensures.keeps.catalog ∙ ap (λ (m : Map). m.catalog) (c.read_part.ensures.untouched.map [])
+returns-in-Gone-clause-catalog g c = c.lose_at.ensures.keeps.catalog ∙ ap (λ (m : Map). m.catalog) (c.read_node.ensures.unchanged.map [])
 
 pub returns-in-Underfull-clause-shrinks : goal.returns-in-Underfull-clause-shrinks
 returns-in-Underfull-clause-shrinks g c = λ honest agrees.
     let image = (g.D.Device.state c.args.device.now).disk.present in
     let two = pages_of_map c.args.pages.now image in
     let three = pages_of_map c.rebalance_at.new.pages image in
-    let still = ap (λ (m : Map). m.pages) (c.read_part.ensures.untouched.map image) in
-    let turn = c.args.turn in
+    let still = ap (λ (m : Map). m.pages) (c.read_node.ensures.unchanged.map image) in
+    let step = c.args.step in
     let node = c.in_ok-node.node in
     let child = c.in-Underfull.child in
-    let read : ReadNode c.args.form two turn node = record { form_is = c.in_ok-node.ensures.shape.0; read = c.in_ok-node.ensures.part honest agrees } in
+    let read : ReadNode c.args.layout two step node = record { layout_is = c.in_ok-node.ensures.shape.0; read = c.in_ok-node.ensures.node honest agrees } in
     IfOk-weaker c.rebalance_at.result _ _
     (λ up rebalances.
-    let at_state = subst (λ (s : State). Rebalances c.args.form (pages_of_map c.read_part.new.pages s.disk.present) (pages_of_map c.rebalance_at.new.pages s.disk.present) turn child node up) (c.read_part.ensures.only.state honest) rebalances in
-    subst (λ (below : Fate). ShrinksOn c.args.form turn two three below up) (sym c.in-Underfull.is)
-    (lone_on c.args.form two three turn child up node read (subst (λ (pages : List (Option Sector)). Rebalances c.args.form pages three turn child node up) still at_state)))
-    (c.rebalance_at.ensures.rebalances (c.read_part.ensures.only.honest.0 honest) (c.read_part.ensures.agrees honest agrees))
+    let at_state = subst (λ (s : State). Rebalances c.args.layout (pages_of_map c.read_node.new.pages s.disk.present) (pages_of_map c.rebalance_at.new.pages s.disk.present) step child node up) (c.read_node.ensures.only.state honest) rebalances in
+    subst (λ (below : RemovalOutcome). ShrinksOn c.args.layout step two three below up) (sym c.in-Underfull.is)
+    (lone_on c.args.layout two three step child up node read (subst (λ (pages : List (Option Sector)). Rebalances c.args.layout pages three step child node up) still at_state)))
+    (c.rebalance_at.ensures.rebalances (c.read_node.ensures.only.honest.0 honest) (c.read_node.ensures.agrees honest agrees))
 
 pub returns-in-Underfull-clause-damaged : goal.returns-in-Underfull-clause-damaged
 returns-in-Underfull-clause-damaged g c = λ honest agrees is.
     let image = (g.D.Device.state c.args.device.now).disk.present in
     let two = pages_of_map c.args.pages.now image in
-    let same = ap (λ (s : State). pages_of_map c.read_part.new.pages s.disk.present) (c.read_part.ensures.only.state honest) ∙ ap (λ (m : Map). m.pages) (c.read_part.ensures.untouched.map image) in
-    let turn = c.args.turn in
+    let same = ap (λ (s : State). pages_of_map c.read_node.new.pages s.disk.present) (c.read_node.ensures.only.state honest) ∙ ap (λ (m : Map). m.pages) (c.read_node.ensures.unchanged.map image) in
+    let step = c.args.step in
     let node = c.in_ok-node.node in
     let child = c.in-Underfull.child in
-    let read : ReadNode c.args.form two turn node = record { form_is = c.in_ok-node.ensures.shape.0; read = c.in_ok-node.ensures.part honest agrees } in
-    subst (λ (below : Fate). NeverShrinksOn c.args.form turn two below) (sym c.in-Underfull.is)
-    (never_rebalanced c.args.form two turn child node read (λ left right kind place some one other pair.
-    c.rebalance_at.ensures.damaged (c.read_part.ensures.only.honest.0 honest) (c.read_part.ensures.agrees honest agrees) is left right kind place some one other
-    (subst (λ (pages : List (Option Sector)). IsPair c.args.form child.node.kind pages turn.page node.rows turn.place child.page left right) (sym same) pair)))
+    let read : ReadNode c.args.layout two step node = record { layout_is = c.in_ok-node.ensures.shape.0; read = c.in_ok-node.ensures.node honest agrees } in
+    subst (λ (below : RemovalOutcome). NeverShrinksOn c.args.layout step two below) (sym c.in-Underfull.is)
+    (never_rebalanced c.args.layout two step child node read (λ left right kind place some one other pair.
+    c.rebalance_at.ensures.damaged (c.read_node.ensures.only.honest.0 honest) (c.read_node.ensures.agrees honest agrees) is left right kind place some one other
+    (subst (λ (pages : List (Option Sector)). IsPair c.args.layout child.node.kind pages step.page node.rows step.place child.page left right) (sym same) pair)))
 
 pub returns-in-Underfull-clause-catalog : goal.returns-in-Underfull-clause-catalog
-returns-in-Underfull-clause-catalog g c = c.rebalance_at.ensures.catalog ∙ ap (λ (m : Map). m.catalog) (c.read_part.ensures.untouched.map [])
+returns-in-Underfull-clause-catalog g c = c.rebalance_at.ensures.catalog ∙ ap (λ (m : Map). m.catalog) (c.read_node.ensures.unchanged.map [])

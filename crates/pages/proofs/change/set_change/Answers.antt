@@ -5,9 +5,9 @@ use Rattle.std.specs.List.{HoldsAt}
 use Rattle.std.proofs.lemmas.List.{map_push}
 use Rattle.station.specs.Disk.{Sector}
 use Rattle.pages.specs.Image.{NamesOnce}
-use Rattle.pages.specs.Changes.{changed, touched}
+use Rattle.pages.specs.Changes.{changed, changed_pages}
 use Rattle.pages.specs.declared.change.Change.{Change}
-use Rattle.pages.proofs.Edits.{Away, is_only, only_set, same_touched, push_touched, away_touched, touched_at}
+use Rattle.pages.proofs.Edits.{Away, is_only, only_set, same_changed, push_changed, away_changed, changed_at}
 use Rattle.pages.proofs.Staging.{applied_more}
 use Rattle.station.proofs.TwoPhase.{on_ok}
 use Rattle.pages.proofs.Filling.{filled_replaced, filled_pushed, fills_set, fills_pushed, either_way}
@@ -27,15 +27,15 @@ returns-in-Some-clause-once c = λ once.
     let low : c.in-Some.i < length old = subst (λ (l : List Change). c.in-Some.i < length l) c.deref.ensures.value c.in-Some.ensures.found.0 in
     let here : HoldsAt (λ (x : Change). x.page ≡ c.args.page) old c.in-Some.i = subst (λ (l : List Change). HoldsAt (λ (x : Change). x.page ≡ c.args.page) l c.in-Some.i) c.deref.ensures.value c.in-Some.ensures.found.1 in
     let new : Change = record { page = c.args.page; bytes = c.args.bytes } in
-    subst NamesOnce (sym (same_touched old c.in-Some.i new new low (sym (here new)))) once
+    subst NamesOnce (sym (same_changed old c.in-Some.i new new low (sym (here new)))) once
 
-pub returns-in-Some-clause-touches : goal.returns-in-Some-clause-touches
-returns-in-Some-clause-touches c =
+pub returns-in-Some-clause-changes_page : goal.returns-in-Some-clause-changes_page
+returns-in-Some-clause-changes_page c =
     let old = c.args.changes.now.items in
     let low : c.in-Some.i < length old = subst (λ (l : List Change). c.in-Some.i < length l) c.deref.ensures.value c.in-Some.ensures.found.0 in
     let here : HoldsAt (λ (x : Change). x.page ≡ c.args.page) old c.in-Some.i = subst (λ (l : List Change). HoldsAt (λ (x : Change). x.page ≡ c.args.page) l c.in-Some.i) c.deref.ensures.value c.in-Some.ensures.found.1 in
     let new : Change = record { page = c.args.page; bytes = c.args.bytes } in
-    inl (touched_at old c.in-Some.i c.args.page new low (here new), same_touched old c.in-Some.i new new low (sym (here new)))
+    inl (changed_at old c.in-Some.i c.args.page new low (here new), same_changed old c.in-Some.i new new low (sym (here new)))
 
 pub returns-in-None-clause-changed : goal.returns-in-None-clause-changed
 returns-in-None-clause-changed c = λ once.
@@ -46,13 +46,13 @@ pub returns-in-None-clause-once : goal.returns-in-None-clause-once
 returns-in-None-clause-once c = λ once.
     let new : Change = record { page = c.args.page; bytes = c.args.bytes } in
     let away : Away c.args.page c.args.changes.now.items = subst (Away c.args.page) c.deref.ensures.value c.in-None.ensures.absent in
-    on_ok c.push_change.result (λ items. subst (λ (l : List Change). NamesOnce (touched l)) (sym items) (push_touched c.args.changes.now.items new once away)) c.push_change.ensures.ok
+    on_ok c.push_change.result (λ items. subst (λ (l : List Change). NamesOnce (changed_pages l)) (sym items) (push_changed c.args.changes.now.items new once away)) c.push_change.ensures.ok
 
-pub returns-in-None-clause-touches : goal.returns-in-None-clause-touches
-returns-in-None-clause-touches c =
+pub returns-in-None-clause-changes_page : goal.returns-in-None-clause-changes_page
+returns-in-None-clause-changes_page c =
     let new : Change = record { page = c.args.page; bytes = c.args.bytes } in
     let away : Away c.args.page c.args.changes.now.items = subst (Away c.args.page) c.deref.ensures.value c.in-None.ensures.absent in
-    on_ok c.push_change.result (λ items. inr (away_touched c.args.changes.now.items c.args.page away, ap touched items ∙ map_push (λ (x : Change). x.page) c.args.changes.now.items new)) c.push_change.ensures.ok
+    on_ok c.push_change.result (λ items. inr (away_changed c.args.changes.now.items c.args.page away, ap changed_pages items ∙ map_push (λ (x : Change). x.page) c.args.changes.now.items new)) c.push_change.ensures.ok
 
 pub returns-in-Some-clause-filled : goal.returns-in-Some-clause-filled
 returns-in-Some-clause-filled c = λ once.

@@ -23,7 +23,7 @@ loop-change-preserved c =
     record {
       size = same_size_then c.args.volume.now c.loop-change.volume c.stage_change.new.volume before.size here.size;
       maps = here.maps ∙ before.maps;
-      dirty = here.dirty ∙ before.dirty;
+      changed_maps = here.changed_maps ∙ before.changed_maps;
       staged = λ v draft. subst (λ (l : List Change). IsDraft v c.stage_change.new.volume c.stage_change.new.draft l) next
           (here.staged v (take i changes) some (before.staged v draft));
       counted = λ v once start. subst (λ (l : List Change). IsCounted v c.stage_change.new.volume c.stage_change.new.draft l 0) next

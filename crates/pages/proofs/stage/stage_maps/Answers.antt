@@ -13,7 +13,7 @@ loop-map-preserved c =
     let here = c.in_ok-stage_map.ensures in
     record {
       size = same_size_then c.args.volume.now c.loop-map.volume c.stage_map.new.volume before.size here.size;
-      dirty = ap (λ (x : Vec Bool Global). length x.items) here.dirty ∙ before.dirty;
+      changed_maps = ap (λ (x : Vec Bool Global). length x.items) here.changed_maps ∙ before.changed_maps;
       mapped = λ v changes draft. here.mapped v changes (before.mapped v changes draft);
       counted = λ v changes start. here.counted v changes (before.counted v changes start);
     }

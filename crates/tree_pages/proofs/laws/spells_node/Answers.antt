@@ -2,4 +2,4 @@ use Rattle.tree_pages.proofs.Views.{spells_node}
 use Rattle.tree_pages.proofs.laws.spells_node.Goals as goal
 
 pub returns : goal.returns
-returns c = λ form bytes node sound long e. spells_node form bytes node sound long e
+returns c = λ layout bytes node sound long e. spells_node layout bytes node sound long e

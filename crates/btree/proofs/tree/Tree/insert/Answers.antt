@@ -2,7 +2,7 @@ use Rattle.std.proofs.Common.{◌≡◌, ℕ, false, Err, sym, subst}
 use Rattle.std.specs.Prelude.{Option, Some}
 use Rattle.pages.specs.Pages.{is_spent}
 use Rattle.pages.specs.declared.error.PagesError.TheVariants.{Full, Spent}
-use Rattle.tree_pages.specs.declared.form.TreeForm.{TreeForm}
+use Rattle.tree_pages.specs.declared.row_layout.RowLayout.{RowLayout}
 use Rattle.btree.specs.Tree.{Holds}
 use Rattle.btree.specs.Changes.{pages_of_map, Inserts}
 use Rattle.btree.proofs.Frames.{false_unless}
@@ -14,7 +14,7 @@ returns-in_err-added-clause-damaged g c = λ honest agrees is levels holds.
     let before = pages_of_map c.args.pages.now (g.D.Device.state c.args.device.now).disk.present in
     let told = rw is at c.from_residual.ensures.1 in
     c.in_err-added.ensures.damaged honest agrees (cc told) levels
-    (subst (λ (f : TreeForm). Holds f before c.root-top.result levels) (sym c.form-form.ensures.is) (subst (λ (r : ℕ). Holds c.args.self.now.form before r levels) (sym c.root-top.ensures) holds))
+    (subst (λ (f : RowLayout). Holds f before c.root-top.result levels) (sym c.layout-layout.ensures.is) (subst (λ (r : ℕ). Holds c.args.self.now.layout before r levels) (sym c.root-top.ensures) holds))
 
 pub returns-in-Some-clause-inserted : goal.returns-in-Some-clause-inserted
 returns-in-Some-clause-inserted g c = λ honest agrees levels holds is.
@@ -24,47 +24,47 @@ returns-in-Some-clause-inserted g c = λ honest agrees levels holds is.
     let key = c.args.key.now in
     let value = c.args.value.now in
     let raw = c.in_ok-added.ensures.inserted honest agrees levels
-    (subst (λ (f : TreeForm). Holds f before c.root-top.result levels) (sym c.form-form.ensures.is) (subst (λ (r : ℕ). Holds c.args.self.now.form before r levels) (sym c.root-top.ensures) holds)) in
-    let added = subst (λ (new : Option ℕ). Inserts c.form-form.result before levels after key value new) c.in-Some.is raw in
-    subst (λ (r : ℕ). Inserts c.args.self.now.form before levels after key value (Some r)) (sym c.set_root.ensures.root)
-    (subst (λ (f : TreeForm). Inserts f before levels after key value (Some c.in-Some.root)) c.form-form.ensures.is added)
+    (subst (λ (f : RowLayout). Holds f before c.root-top.result levels) (sym c.layout-layout.ensures.is) (subst (λ (r : ℕ). Holds c.args.self.now.layout before r levels) (sym c.root-top.ensures) holds)) in
+    let added = subst (λ (new : Option ℕ). Inserts c.layout-layout.result before levels after key value new) c.in-Some.is raw in
+    subst (λ (r : ℕ). Inserts c.args.self.now.layout before levels after key value (Some r)) (sym c.set_root.ensures.root)
+    (subst (λ (f : RowLayout). Inserts f before levels after key value (Some c.in-Some.root)) c.layout-layout.ensures.is added)
 
-pub returns-in-Some-clause-touched : goal.returns-in-Some-clause-touched
-returns-in-Some-clause-touched g c = λ honest agrees levels holds.
+pub returns-in-Some-clause-changed_pages : goal.returns-in-Some-clause-changed_pages
+returns-in-Some-clause-changed_pages g c = λ honest agrees levels holds.
     let before = pages_of_map c.args.pages.now (g.D.Device.state c.args.device.now).disk.present in
-    c.in_ok-added.ensures.touched honest agrees levels
-    (subst (λ (f : TreeForm). Holds f before c.root-top.result levels) (sym c.form-form.ensures.is) (subst (λ (r : ℕ). Holds c.args.self.now.form before r levels) (sym c.root-top.ensures) holds))
+    c.in_ok-added.ensures.changed_pages honest agrees levels
+    (subst (λ (f : RowLayout). Holds f before c.root-top.result levels) (sym c.layout-layout.ensures.is) (subst (λ (r : ℕ). Holds c.args.self.now.layout before r levels) (sym c.root-top.ensures) holds))
 
 pub returns-in_err-added-clause-full : goal.returns-in_err-added-clause-full
 returns-in_err-added-clause-full g c = λ is.
     let told = rw is at c.from_residual.ensures.1 in
     c.in_err-added.ensures.full (cc told)
 
-pub returns-in_err-added-clause-touched : goal.returns-in_err-added-clause-touched
-returns-in_err-added-clause-touched g c = λ honest agrees levels holds.
+pub returns-in_err-added-clause-changed_pages : goal.returns-in_err-added-clause-changed_pages
+returns-in_err-added-clause-changed_pages g c = λ honest agrees levels holds.
     let before = pages_of_map c.args.pages.now (g.D.Device.state c.args.device.now).disk.present in
-    c.in_err-added.ensures.touched honest agrees levels
-    (subst (λ (f : TreeForm). Holds f before c.root-top.result levels) (sym c.form-form.ensures.is) (subst (λ (r : ℕ). Holds c.args.self.now.form before r levels) (sym c.root-top.ensures) holds))
+    c.in_err-added.ensures.changed_pages honest agrees levels
+    (subst (λ (f : RowLayout). Holds f before c.root-top.result levels) (sym c.layout-layout.ensures.is) (subst (λ (r : ℕ). Holds c.args.self.now.layout before r levels) (sym c.root-top.ensures) holds))
 
 pub returns-in_err-added-clause-room : goal.returns-in_err-added-clause-room
 returns-in_err-added-clause-room g c = λ honest agrees levels holds is.
     let old = c.args.pages.now in
     let before = pages_of_map old (g.D.Device.state c.args.device.now).disk.present in
     let told = rw is at c.from_residual.ensures.1 in
-    let touched = c.in_err-added.ensures.touched honest agrees levels
-    (subst (λ (f : TreeForm). Holds f before c.root-top.result levels) (sym c.form-form.ensures.is) (subst (λ (r : ℕ). Holds c.args.self.now.form before r levels) (sym c.root-top.ensures) holds)) in
+    let changed_pages = c.in_err-added.ensures.changed_pages honest agrees levels
+    (subst (λ (f : RowLayout). Holds f before c.root-top.result levels) (sym c.layout-layout.ensures.is) (subst (λ (r : ℕ). Holds c.args.self.now.layout before r levels) (sym c.root-top.ensures) holds)) in
     let full : c.insert_entry.result ≡ Err Full = cc told in
     let unspent : is_spent old ≡ false = false_unless (is_spent old) (λ was. let other : c.insert_entry.result ≡ Err Spent = c.insert_entry.ensures.spent.1 was in cc) in
-    few_left old c.insert_entry.new.pages 42 c.few_free.ensures c.insert_entry.ensures.open c.insert_entry.ensures.committed unspent (c.insert_entry.ensures.full full) touched
+    few_left old c.insert_entry.new.pages 42 c.few_free.ensures c.insert_entry.ensures.open c.insert_entry.ensures.committed unspent (c.insert_entry.ensures.full full) changed_pages
 
 pub returns-in-Some-clause-filled : goal.returns-in-Some-clause-filled
 returns-in-Some-clause-filled g c = λ honest agrees levels holds.
     let before = pages_of_map c.args.pages.now (g.D.Device.state c.args.device.now).disk.present in
     c.in_ok-added.ensures.filled honest agrees levels
-    (subst (λ (f : TreeForm). Holds f before c.root-top.result levels) (sym c.form-form.ensures.is) (subst (λ (r : ℕ). Holds c.args.self.now.form before r levels) (sym c.root-top.ensures) holds))
+    (subst (λ (f : RowLayout). Holds f before c.root-top.result levels) (sym c.layout-layout.ensures.is) (subst (λ (r : ℕ). Holds c.args.self.now.layout before r levels) (sym c.root-top.ensures) holds))
 
 pub returns-in_err-added-clause-filled : goal.returns-in_err-added-clause-filled
 returns-in_err-added-clause-filled g c = λ honest agrees levels holds.
     let before = pages_of_map c.args.pages.now (g.D.Device.state c.args.device.now).disk.present in
     c.in_err-added.ensures.filled honest agrees levels
-    (subst (λ (f : TreeForm). Holds f before c.root-top.result levels) (sym c.form-form.ensures.is) (subst (λ (r : ℕ). Holds c.args.self.now.form before r levels) (sym c.root-top.ensures) holds))
+    (subst (λ (f : RowLayout). Holds f before c.root-top.result levels) (sym c.layout-layout.ensures.is) (subst (λ (r : ℕ). Holds c.args.self.now.layout before r levels) (sym c.root-top.ensures) holds))

@@ -1,7 +1,7 @@
 use Rattle.std.proofs.Common.{◌≡◌, ◌<◌, ◌+◌, ◌/◌, ◌^◌, ◌∙◌, ⊎_elim, ℕ, List, [], length, get_or, sym, ap, subst, arith, refl}
 use Rattle.std.specs.Prelude.{false}
 use Rattle.pages.specs.Image.{NamesOnce}
-use Rattle.pages.specs.Changes.{touched, kept, ArePlaced}
+use Rattle.pages.specs.Changes.{changed_pages, kept, ArePlaced}
 use Rattle.pages.specs.declared.change.Change.{Change}
 use Rattle.pages.proofs.Edits.{unused_none, used_some}
 use Rattle.pages.proofs.page_map.PageMap.allocate.Goals as goal
@@ -14,7 +14,7 @@ unused_page-requires c =
     let low : length c.args.self.now.volume.table.items < 2 ^ 32 = omega (arith, sound.count, maps, sound.most) in
     record {
       few = subst (λ (l : List ℕ). length l < 2 ^ 32) (sym c.deref.ensures.value) low;
-      once = subst (λ (l : List Change). NamesOnce (touched l)) (sym c.deref-2.ensures.value) ready.once;
+      once = subst (λ (l : List Change). NamesOnce (changed_pages l)) (sym c.deref-2.ensures.value) ready.once;
       placed = subst (λ (l : List Change). ArePlaced l c.args.self.now.places) (sym c.deref-2.ensures.value) ready.placed;
     }
 

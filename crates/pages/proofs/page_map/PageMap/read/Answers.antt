@@ -7,11 +7,11 @@ use Rattle.station.specs.Disk.{Sector}
 use Rattle.pages.specs.Image.{pages_in, page_at}
 use Rattle.pages.specs.declared.change.Change.{Change}
 use Rattle.pages.specs.Image.{IsCommitted}
-use Rattle.pages.specs.Changes.{touched}
+use Rattle.pages.specs.Changes.{changed_pages}
 use Rattle.pages.specs.Cache.{IsCacheOf}
 use Rattle.pages.specs.Pages.{committed_of}
 use Rattle.station.specs.State.{State}
-use Rattle.pages.proofs.Edits.{Away, is_only, only_same, away_same, away_touched}
+use Rattle.pages.proofs.Edits.{Away, is_only, only_same, away_same, away_changed}
 use Rattle.pages.proofs.page_map.PageMap.read.Goals as goal
 
 pub recall_page-requires : goal.recall_page-requires
@@ -42,11 +42,11 @@ returns-in-None-clause-page g c = λ honest agrees.
     let changes = c.args.self.now.changes.items in
     let entries = c.args.self.now.cache.entries in
     let away : Away c.args.page changes = subst (Away c.args.page) c.deref.ensures.value c.in-None.ensures.absent in
-    let cache = subst (λ (l : List ℕ). IsCacheOf (pages_in present l) (touched changes) entries) (sym c.deref-in-None.ensures.value) agrees.cache in
+    let cache = subst (λ (l : List ℕ). IsCacheOf (pages_in present l) (changed_pages changes) entries) (sym c.deref-in-None.ensures.value) agrees.cache in
     subst (λ (o : Option Sector). IfOk c.recall_page.result (λ bytes. bytes ≡ o))
     (ap (λ (l : List ℕ). get_or (pages_in present l) c.args.page None) c.deref-in-None.ensures.value
     ∙ sym (away_same (λ (o : Option Sector). o) (pages_in present table) changes c.args.page None away))
-    (c.recall_page.ensures.page (touched changes) honest cache)
+    (c.recall_page.ensures.page (changed_pages changes) honest cache)
 
 pub returns-in-None-clause-agrees : goal.returns-in-None-clause-agrees
 returns-in-None-clause-agrees g c = λ honest agrees.
@@ -54,17 +54,17 @@ returns-in-None-clause-agrees g c = λ honest agrees.
     let table = c.args.self.now.volume.table.items in
     let changes = c.args.self.now.changes.items in
     let away : Away c.args.page changes = subst (Away c.args.page) c.deref.ensures.value c.in-None.ensures.absent in
-    let before = subst (λ (l : List ℕ). IsCacheOf (pages_in present l) (touched changes) c.args.self.now.cache.entries) (sym c.deref-in-None.ensures.value) agrees.cache in
-    let after = c.recall_page.ensures.right (touched changes) (away_touched changes c.args.page away) honest before in
+    let before = subst (λ (l : List ℕ). IsCacheOf (pages_in present l) (changed_pages changes) c.args.self.now.cache.entries) (sym c.deref-in-None.ensures.value) agrees.cache in
+    let after = c.recall_page.ensures.right (changed_pages changes) (away_changed changes c.args.page away) honest before in
     let same = sym (c.recall_page.ensures.only.state honest) in
     record {
       committed = subst (λ (s : State). IsCommitted (committed_of c.args.self.now) s.disk) same agrees.committed;
-      cache = subst (λ (s : State). IsCacheOf (pages_in s.disk.present table) (touched changes) c.recall_page.new.cache.entries) same
-          (subst (λ (l : List ℕ). IsCacheOf (pages_in present l) (touched changes) c.recall_page.new.cache.entries) c.deref-in-None.ensures.value after);
+      cache = subst (λ (s : State). IsCacheOf (pages_in s.disk.present table) (changed_pages changes) c.recall_page.new.cache.entries) same
+          (subst (λ (l : List ℕ). IsCacheOf (pages_in present l) (changed_pages changes) c.recall_page.new.cache.entries) c.deref-in-None.ensures.value after);
     }
 
 pub returns-in-None-clause-changed : goal.returns-in-None-clause-changed
 returns-in-None-clause-changed g c = λ has.
     let changes = c.args.self.now.changes.items in
     let away : Away c.args.page changes = subst (Away c.args.page) c.deref.ensures.value c.in-None.ensures.absent in
-    absurd (away_touched changes c.args.page away has)
+    absurd (away_changed changes c.args.page away has)

@@ -5,9 +5,9 @@ use Rattle.std.proofs.lemmas.List.{length-map}
 use Rattle.station.specs.Disk.{Sector}
 use Rattle.pages.specs.Image.{pages_in, page_at}
 use Rattle.pages.specs.declared.change.Change.{Change}
-use Rattle.pages.specs.Changes.{touched}
+use Rattle.pages.specs.Changes.{changed_pages}
 use Rattle.pages.specs.Pages.{map_now, page_of}
-use Rattle.pages.proofs.Edits.{Away, is_only, only_same, away_same, away_touched}
+use Rattle.pages.proofs.Edits.{Away, is_only, only_same, away_same, away_changed}
 use Rattle.pages.proofs.Caches.{viewed, held_page}
 use Rattle.pages.proofs.page_map.PageMap.view.Goals as goal
 
@@ -35,11 +35,11 @@ returns-in-None-clause-page c = λ disk agrees.
     let table = c.args.self.now.volume.table.items in
     let changes = c.args.self.now.changes.items in
     let away : Away c.args.page changes = subst (Away c.args.page) c.deref.ensures.value c.in-None.ensures.absent in
-    held_page (pages_in disk.present table) (touched changes) c.args.self.now.cache.entries c.args.page (page_of (map_now c.args.self.now disk.present) c.args.page) c.seen_page.result agrees.cache c.seen_page.ensures
+    held_page (pages_in disk.present table) (changed_pages changes) c.args.self.now.cache.entries c.args.page (page_of (map_now c.args.self.now disk.present) c.args.page) c.seen_page.result agrees.cache c.seen_page.ensures
     (away_same (λ (o : Option Sector). o) (pages_in disk.present table) changes c.args.page None away)
 
 pub returns-in-None-clause-changed : goal.returns-in-None-clause-changed
 returns-in-None-clause-changed c = λ unspent has image.
     let changes = c.args.self.now.changes.items in
     let away : Away c.args.page changes = subst (Away c.args.page) c.deref.ensures.value c.in-None.ensures.absent in
-    absurd (away_touched changes c.args.page away has)
+    absurd (away_changed changes c.args.page away has)

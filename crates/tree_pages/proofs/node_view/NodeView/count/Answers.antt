@@ -4,10 +4,10 @@ use Rattle.tree_pages.proofs.node_view.NodeView.count.Goals as goal
 pub returns-clause-rows : goal.returns-clause-rows
 returns-clause-rows c =
     let page = c.self.inside in
-    counted page.form page.kind page.count page.rows.now c.args.self.now c.self.view_is
+    counted page.layout page.kind page.count page.rows.now c.args.self.now c.self.view_is
 
 pub returns-clause-node : goal.returns-clause-node
 returns-clause-node c =
     let page = c.self.inside in
     let known = c.self.invariant in
-    is_node_at page.form page.kind page.count page.rows.now known.0 known.1 known.2 c.args.self.now c.self.view_is
+    is_node_at page.layout page.kind page.count page.rows.now known.0 known.1 known.2 c.args.self.now c.self.view_is

@@ -1,0 +1,104 @@
+//! A new row comes into a tree.
+ghost use Rattle.std.specs.Prelude.{◌≡◌, ◌≤◌, ◌<◌, ◌+◌, ◌*◌, Err, Some, List, length, IfOk, IfErr, IfSome};
+ghost use Rattle.station.specs.Disk.{Sector};
+ghost use Rattle.station.specs.Calls.{OnlyReads};
+ghost use Rattle.pages.specs.Pages.{IsOpen, Agrees, SameCommitted, catalog_of, sectors_of, changed_pages_of, filled_of, Keeps};
+ghost use Rattle.tree_pages.specs.RowLayouts.{IsRowLayout};
+ghost use Rattle.btree.specs.Tree.{TreeNode, IsTree};
+ghost use Rattle.btree.specs.Path.{EndsAt};
+ghost use Rattle.btree.specs.Changes.{pages_of_map, HasKeys, Settles, InsertsIntoLeaf};
+ghost use Rattle.btree.specs.Refusals.{IsWriteRefusal, IsInsertRefusal};
+ghost use Rattle.btree.specs.Calls.{Agreed, OnPages, OnChange};
+ghost use Rattle.btree.specs.Told.{OnlyIfSpent, FullIfUsed, FewChanged, FewFilled};
+
+use crate::descend::Descent;
+use crate::propagate_split::propagate_split;
+use crate::put_new::new_root;
+use crate::put_row::put_row;
+use crate::split_result::SplitResult;
+use crate::update_parent::told;
+use pages::{PageMap, PagesError};
+use station::Device;
+use tree_pages::{Kind, RowLayout};
+
+/// The page of the root, after what is told of the one there was.
+pub(crate) fn settle(
+    pages: &mut PageMap,
+    layout: RowLayout,
+    root: u32,
+    told: Option<SplitResult>,
+) -> Result<u32, PagesError>
+    requires open { IsOpen pages.old }
+    requires layout { IsRowLayout layout }
+    requires keys { IfSome told (HasKeys layout) }
+    ensures settles { IfOk result (λ new. (image : List Sector) → Settles layout root told (pages_of_map pages.old image) (pages_of_map pages.new image) new) }
+    ensures some { 0 < root → IfOk result (λ new. 0 < new) }
+    ensures changed_pages { FewChanged 1 pages.old pages.new }
+    ensures filled { FewFilled 1 pages.old pages.new }
+    ensures keeps { Keeps pages.old pages.new }
+    ensures cause { IfErr result IsWriteRefusal }
+    ensures full { FullIfUsed pages.new result }
+    ensures spent { OnlyIfSpent pages.old result }
+{
+    let split = match told {
+        Some(split) => split,
+        None => return Ok(root),
+    };
+    match &split.right {
+        Some(right) => {
+            let new = new_root(pages, layout, &split, right)?;
+            Ok(new)
+        }
+        None => Ok(root),
+    }
+}
+
+/// Puts a row into the leaf that a descent ended at, and tells the pages above it. The answer is the page of the root then.
+pub(crate) fn insert_into_leaf<D: Device>(
+    pages: &mut PageMap,
+    device: &mut D,
+    layout: RowLayout,
+    root: u32,
+    descent: Descent,
+    place: usize,
+    key: &[u8],
+    value: &[u8],
+) -> Result<u32, PagesError>
+    requires open { IsOpen pages.old }
+    requires sectors { sectors_of pages.old ≤ D.sectors device.old }
+    requires layout { IsRowLayout layout }
+    requires leaf { (descent.leaf.layout ≡ layout) × (descent.leaf.kind ≡ Kind.Leaf) }
+    requires place { place ≤ length descent.leaf.rows }
+    requires key { length key.now ≡ layout.key_length }
+    requires value { length value.now ≡ layout.value_length }
+    ensures only { OnlyReads D.Device (result ≡ Err PagesError.Device) device.old device.new }
+    ensures entered { OnChange D.Device pages.old pages.new device.old
+        (λ before after. IfOk result (λ new. InsertsIntoLeaf layout root before after descent.path.items descent.page descent.leaf.rows descent.right place key.now value.now new)) }
+    ensures damaged { OnPages D.Device pages.old device.old
+        (λ before. result ≡ Err PagesError.Damaged → (levels : List (List TreeNode)) → IsTree layout before root levels → EndsAt layout key.now levels descent.path.items descent.page descent.leaf.rows descent.right → ⊥) }
+    ensures some { 0 < root → IfOk result (λ new. 0 < new) }
+    ensures changed_pages { length (changed_pages_of pages.new) ≤ length (changed_pages_of pages.old) + 2 * length descent.path.items + 3 }
+    ensures filled { filled_of pages.new ≤ filled_of pages.old + 2 * length descent.path.items + 3 }
+    ensures committed { SameCommitted pages.old pages.new }
+    ensures catalog { catalog_of pages.new ≡ catalog_of pages.old }
+    ensures agrees { Agreed D.Device pages.old device.old (Agrees pages.new (D.state device.new).disk) }
+    ensures open { IsOpen pages.new }
+    ensures cause { IfErr result IsInsertRefusal }
+    ensures full { FullIfUsed pages.new result }
+    ensures spent { OnlyIfSpent pages.old result }
+{
+    if descent.page == 0 {
+        return Err(PagesError::Damaged);
+    }
+    if pages.page_count() <= descent.page as usize {
+        return Err(PagesError::Damaged);
+    }
+    let put = put_row(pages, descent.page, descent.leaf, place, key, value)?;
+    let split = match told(put, place) {
+        Some(split) => split,
+        None => return Ok(root),
+    };
+    let up = propagate_split(pages, device, layout, descent.path.as_slice(), split)?;
+    let new = settle(pages, layout, root, up)?;
+    Ok(new)
+}

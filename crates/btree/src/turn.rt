@@ -1,8 +1,0 @@
-//! A turn on the way down a tree.
-
-/// An inner page, and the place of the row that leads on.
-#[derive(Clone, Copy, Debug, PartialEq, Eq, Default)]
-pub(crate) struct Turn {
-    pub page: u32,
-    pub place: usize,
-}
