@@ -184,6 +184,14 @@ module _ {T E : Type 0} (old now new : Performs) (procedures : List Procedure) (
       (λ (more : AddsPhrase procedures number now new second). subst (λ (l : List Performance). Adds old new (in_paragraph number l)) (sym same)
       (adds_within number (phrase_performs (statement_performs procedures) first) (phrase_performs (statement_performs procedures) second) before.added more.added)) after
 
+-- a phrase behind others
+pub adds_behind : {T E : Type 0} (old now new : Performs) (procedures : List Procedure) (number : ℕ) (rest : Result T E) (first : List Performance) (second : Option (List Statement))
+    → Adds old now (in_paragraph number first) → OnOk rest (AddsPhrase procedures number now new second)
+    → OnOk rest (Adds old new (in_paragraph number (first ++ phrase_performs (statement_performs procedures) second)))
+adds_behind old now new procedures number rest first second before after =
+    on_ok_weaker rest
+    (λ (more : AddsPhrase procedures number now new second). adds_within number first (phrase_performs (statement_performs procedures) second) before more.added) after
+
 -- a phrase that is absent, or its statements
 pub phrase_none : (procedures : List Procedure) (number : ℕ) (all : Performs) (phrase : Option (List Statement)) → phrase ≡ None → AddsPhrase procedures number all all phrase
 phrase_none procedures number all phrase is = subst (AddsPhrase procedures number all all) (sym is) (record { added = adds_nothing all })

@@ -7,7 +7,9 @@ pub mod Permitted
 pub mod Layers
 pub mod ConditionLayers
 pub mod SideLayers
+pub mod QuestionLayers
 pub mod ConditionItems
+pub mod Looking
 pub mod Adding
 pub mod PerformedRanges
 pub mod Back

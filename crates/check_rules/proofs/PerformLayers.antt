@@ -4,7 +4,9 @@ use Rattle.std.specs.Prelude.{Option, map}
 use Rattle.lexical.specs.declared.place.Place.{Place}
 use Rattle.source_tree.specs.declared.arithmetic.Operation.{Operation}
 use Rattle.source_tree.specs.declared.condition.Condition.{Condition}
-use Rattle.source_tree.specs.declared.branching.Branching.TheVariants.{If}
+use Rattle.source_tree.specs.declared.branching.Branching.TheVariants.{If, Evaluate}
+use Rattle.source_tree.specs.declared.evaluate.Subject.{Subject}
+use Rattle.source_tree.specs.declared.evaluate.Selected.{Selected}
 use Rattle.source_tree.specs.declared.performing.Performed.{Performed}
 use Rattle.source_tree.specs.declared.performing.Performed.TheVariants.{Procedures, Statements}
 use Rattle.source_tree.specs.declared.performing.Turns.{Turns}
@@ -14,7 +16,7 @@ use Rattle.source_tree.specs.declared.statement.Statement.{Statement, out-Statem
 use Rattle.source_tree.specs.declared.statement.Statement.TheOpen.{Statement-F}
 use Rattle.source_tree.specs.declared.statement.Statement.TheFolds.{map-Statement, fold_out-Statement, fold-roll-Statement}
 use Rattle.source_tree.specs.Procedures.{Procedure}
-use Rattle.source_tree.specs.Recursion.{Performance, each_performs, verb_performs, performs_layer, statement_performs}
+use Rattle.source_tree.specs.Recursion.{Performance, each_performs, selected_performs, verb_performs, performs_layer, statement_performs}
 
 module _ {A B : Type 0} (f : A → B) (performs : B → List Performance) where
   pub each_map : (all : List A) → each_performs performs (map f all) ≡ each_performs (λ a. performs (f a)) all
@@ -35,6 +37,25 @@ module _ {A B : Type 0} (f : A → B) (performs : B → List Performance) where
       ap (λ l. l ++ each_performs performs (map f other)) (each_map statements)
       ∙ ap (λ l. each_performs (λ a. performs (f a)) statements ++ l) (each_map other)
 
+  -- the statements behind WHENs
+  selected_map : (all : List (Selected A))
+      → each_performs (selected_performs performs) (map (λ (one : Selected A). record { whens = one.whens; statements = map f one.statements }) all)
+      ≡ each_performs (selected_performs (λ a. performs (f a))) all
+  selected_map [] = refl
+  selected_map (one ∷ more) =
+      let others : List (Selected B) = map (λ (one : Selected A). record { whens = one.whens; statements = map f one.statements }) more in
+      ap (λ l. l ++ each_performs (selected_performs performs) others) (each_map one.statements)
+      ∙ ap (λ l. each_performs (λ a. performs (f a)) one.statements ++ l) (selected_map more)
+
+  evaluate_map : (procedures : List Procedure) (place : Place) (subjects : List Subject) (selected : List (Selected A)) (other : Option (List A))
+      → verb_performs procedures performs
+      (map-Statement A B f (record { place = place; verb = verb.Branching (Evaluate (record { subjects = subjects; selected = selected; other = other })) })).verb
+      ≡ verb_performs procedures (λ a. performs (f a)) (verb.Branching (Evaluate (record { subjects = subjects; selected = selected; other = other })))
+  evaluate_map procedures place subjects selected None = ap (λ l. l ++ []) (selected_map selected)
+  evaluate_map procedures place subjects selected (Some statements) =
+      ap (λ l. l ++ each_performs performs (map f statements)) (selected_map selected)
+      ∙ ap (λ l. each_performs (selected_performs (λ a. performs (f a))) selected ++ l) (each_map statements)
+
   phrases_map : (procedures : List Procedure) (place : Place) (operation : Operation) (arose did_not : Option (List A))
       → verb_performs procedures performs (map-Statement A B f (record { place = place; verb = verb.Arithmetic (record { operation = operation; phrases = record { arose = arose; did_not = did_not } }) })).verb
       ≡ verb_performs procedures (λ a. performs (f a)) (verb.Arithmetic (record { operation = operation; phrases = record { arose = arose; did_not = did_not } }))
@@ -50,6 +71,7 @@ module _ {A B : Type 0} (f : A → B) (performs : B → List Performance) where
   verb_map procedures place (verb.Moving one) = refl
   verb_map procedures place (verb.Arithmetic one) = phrases_map procedures place one.operation one.phrases.arose one.phrases.did_not
   verb_map procedures place (verb.Branching (If condition statements otherwise)) = branching_map procedures place condition statements otherwise
+  verb_map procedures place (verb.Branching (Evaluate one)) = evaluate_map procedures place one.subjects one.selected one.other
   verb_map procedures place (verb.Performing one) = performing_map procedures place one.turns one.performed
   verb_map procedures place (verb.Text one) = refl
   verb_map procedures place (verb.Ending one) = refl

@@ -10,7 +10,9 @@ use Rattle.perform_order.specs.declared.performed.PerformedRange.{PerformedRange
 use Rattle.perform_order.specs.Order.{IsRange}
 use Rattle.source_tree.specs.declared.name.Name.{Name}
 use Rattle.source_tree.specs.declared.branching.Branching.{Branching}
-use Rattle.source_tree.specs.declared.branching.Branching.TheVariants.{If}
+use Rattle.source_tree.specs.declared.branching.Branching.TheVariants.{If, Evaluate}
+use Rattle.source_tree.specs.declared.evaluate.Subject.{Subject}
+use Rattle.source_tree.specs.declared.evaluate.Selected.{Selected}
 use Rattle.source_tree.specs.declared.performing.Performed.{Performed}
 use Rattle.source_tree.specs.declared.performing.Performed.TheVariants.{Procedures, Statements}
 use Rattle.source_tree.specs.declared.phrases.Phrases.{Phrases}
@@ -26,9 +28,10 @@ use Rattle.source_tree.specs.declared.statement.Statement.TheFolds.{map-Statemen
 use Rattle.source_tree.specs.ArithmeticRules.{operation_rules}
 use Rattle.source_tree.specs.Broken.{Broken, where_so, each}
 use Rattle.source_tree.specs.ConditionRules.{condition_rules}
+use Rattle.source_tree.specs.EvaluateRules.{subject_rules, when_rules, selected_rules}
 use Rattle.source_tree.specs.PerformRules.{procedure_named, last_named, last_place, found_rules, range_rules}
 use Rattle.source_tree.specs.Procedures.{Range, Procedure, paragraphs_or_one, paragraphs_in, paragraph_procedures, procedures_from, procedures_of, is_procedure, procedures_named, only_range, range_named, to_end_of, through, range_of}
-use Rattle.source_tree.specs.Recursion.{Performance, each_performs, phrase_performs, range_performs, performed_performs, branching_performs, verb_performs, statement_performs, paragraph_performs, performs_from, performs, performed}
+use Rattle.source_tree.specs.Recursion.{Performance, each_performs, phrase_performs, selected_performs, range_performs, performed_performs, branching_performs, verb_performs, statement_performs, paragraph_performs, performs_from, performs, performed}
 use Rattle.source_tree.specs.Rules.{phrase_rules, phrases_rules, performed_rules, turns_rules, branching_rules, verb_rules, all_permitted, statement_rules, sentence_rules, paragraph_rules, sections_rules}
 use Rattle.source_tree.specs.Setting.{Scope, paragraphs}
 use Rattle.check_rules.specs.declared.declarations.Declarations.{Declarations}
@@ -169,6 +172,15 @@ module _ (items_and : Scope) (count : ℕ) (below : AllByRecursion (LiesBelow co
     performed_in_order (Procedures first last) e = range_in_order first last e
     performed_in_order (Statements statements) e = each_in_order statements e
 
+    selected_in_order : (subjects : List Subject) (all : List (Selected S)) → each (selected_rules items_and.items rules subjects) all ≡ []
+        → AreInOrder (each_performs (selected_performs performs) all)
+    selected_in_order subjects [] e = tt
+    selected_in_order subjects (one ∷ more) e =
+        let front = left_none (selected_rules items_and.items rules subjects one) (each (selected_rules items_and.items rules subjects) more) e in
+        all_both IsInOrder (each_performs performs one.statements) (each_performs (selected_performs performs) more)
+        (each_in_order one.statements (right_none (each (when_rules items_and.items subjects) one.whens) (each rules one.statements) front))
+        (selected_in_order subjects more (right_none (selected_rules items_and.items rules subjects one) (each (selected_rules items_and.items rules subjects) more) e))
+
     branching_in_order : (one : Branching S) → branching_rules items_and.items rules one ≡ [] → AreInOrder (branching_performs performs one)
     branching_in_order (If condition statements otherwise) e =
         let asks = condition_rules items_and.items condition in
@@ -176,6 +188,12 @@ module _ (items_and : Scope) (count : ℕ) (below : AllByRecursion (LiesBelow co
         all_both IsInOrder (each_performs performs statements) (phrase_performs performs otherwise)
         (each_in_order statements (right_none asks (each rules statements) front))
         (phrase_in_order otherwise (right_none (asks ++ each rules statements) (phrase_rules rules otherwise) e))
+    branching_in_order (Evaluate one) e =
+        let asks = each (subject_rules items_and.items) one.subjects in
+        let all = each (selected_rules items_and.items rules one.subjects) one.selected in
+        all_both IsInOrder (each_performs (selected_performs performs) one.selected) (phrase_performs performs one.other)
+        (selected_in_order one.subjects one.selected (right_none asks all (left_none (asks ++ all) (phrase_rules rules one.other) e)))
+        (phrase_in_order one.other (right_none (asks ++ all) (phrase_rules rules one.other) e))
 
     verb_in_order : (one : Verb S) → verb_rules items_and all_permitted rules one ≡ [] → AreInOrder (verb_performs procedures performs one)
     verb_in_order (verb.Moving one) e = tt

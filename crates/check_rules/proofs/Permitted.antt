@@ -5,7 +5,9 @@ use Rattle.std.specs.List.{AllByRecursion}
 use Rattle.std.proofs.lemmas.List.Elements.{recursion_from_All}
 use Rattle.source_tree.specs.declared.name.Name.{Name}
 use Rattle.source_tree.specs.declared.branching.Branching.{Branching}
-use Rattle.source_tree.specs.declared.branching.Branching.TheVariants.{If}
+use Rattle.source_tree.specs.declared.branching.Branching.TheVariants.{If, Evaluate}
+use Rattle.source_tree.specs.declared.evaluate.Subject.{Subject}
+use Rattle.source_tree.specs.declared.evaluate.Selected.{Selected}
 use Rattle.source_tree.specs.declared.performing.Performed.{Performed}
 use Rattle.source_tree.specs.declared.performing.Performed.TheVariants.{Procedures, Statements}
 use Rattle.source_tree.specs.declared.phrases.Phrases.{Phrases}
@@ -17,9 +19,10 @@ use Rattle.source_tree.specs.declared.statement.Statement.TheFolds.{map-Statemen
 use Rattle.source_tree.specs.ArithmeticRules.{operation_rules}
 use Rattle.source_tree.specs.Broken.{Broken, where_so, each}
 use Rattle.source_tree.specs.ConditionRules.{condition_rules}
+use Rattle.source_tree.specs.EvaluateRules.{subject_rules, when_rules, selected_rules}
 use Rattle.source_tree.specs.PerformRules.{procedure_named, last_named, last_place, found_rules, range_rules}
 use Rattle.source_tree.specs.Procedures.{Range, range_of}
-use Rattle.source_tree.specs.Recursion.{Performance, each_performs, phrase_performs, range_performs, performed_performs, branching_performs, verb_performs, statement_performs}
+use Rattle.source_tree.specs.Recursion.{Performance, each_performs, phrase_performs, selected_performs, range_performs, performed_performs, branching_performs, verb_performs, statement_performs}
 use Rattle.source_tree.specs.Rules.{phrase_rules, phrases_rules, performed_rules, turns_rules, branching_rules, verb_rules, all_permitted, statement_rules}
 use Rattle.source_tree.specs.Setting.{Scope}
 use Rattle.check_rules.proofs.RuleLayers.{mapped_rules}
@@ -79,12 +82,26 @@ module _ (scope : Scope) (permits : Range → Bool) where
     performed_same (Procedures first last) h = range_same first last h
     performed_same (Statements statements) h = each_same statements h
 
+    selected_same : (subjects : List Subject) (all : List (Selected S)) → ArePermitted (each_performs (selected_performs performs) all)
+        → each (selected_rules scope.items rules subjects) all ≡ each (selected_rules scope.items others subjects) all
+    selected_same subjects [] h = refl
+    selected_same subjects (one ∷ more) h =
+        let asks = each (when_rules scope.items subjects) one.whens in
+        let front = each_same one.statements (all_front IsPermitted (each_performs performs one.statements) (each_performs (selected_performs performs) more) h) in
+        let back = selected_same subjects more (all_back IsPermitted (each_performs performs one.statements) (each_performs (selected_performs performs) more) h) in
+        ap (λ l. asks ++ l ++ each (selected_rules scope.items rules subjects) more) front ∙ ap (λ l. asks ++ each others one.statements ++ l) back
+
     branching_same : (one : Branching S) → ArePermitted (branching_performs performs one) → branching_rules scope.items rules one ≡ branching_rules scope.items others one
     branching_same (If condition statements otherwise) h =
         let asks = condition_rules scope.items condition in
         let front = each_same statements (all_front IsPermitted (each_performs performs statements) (phrase_performs performs otherwise) h) in
         let back = phrase_same otherwise (all_back IsPermitted (each_performs performs statements) (phrase_performs performs otherwise) h) in
         ap (λ l. asks ++ l ++ phrase_rules rules otherwise) front ∙ ap (λ l. asks ++ each others statements ++ l) back
+    branching_same (Evaluate one) h =
+        let asks = each (subject_rules scope.items) one.subjects in
+        let front = selected_same one.subjects one.selected (all_front IsPermitted (each_performs (selected_performs performs) one.selected) (phrase_performs performs one.other) h) in
+        let back = phrase_same one.other (all_back IsPermitted (each_performs (selected_performs performs) one.selected) (phrase_performs performs one.other) h) in
+        ap (λ l. asks ++ l ++ phrase_rules rules one.other) front ∙ ap (λ l. asks ++ each (selected_rules scope.items others one.subjects) one.selected ++ l) back
 
     verb_same : (one : Verb S) → ArePermitted (verb_performs scope.procedures performs one) → verb_rules scope permits rules one ≡ verb_rules scope all_permitted others one
     verb_same (verb.Moving one) h = refl

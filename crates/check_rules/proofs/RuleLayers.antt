@@ -4,7 +4,9 @@ use Rattle.std.specs.Prelude.{Bool, Option, map}
 use Rattle.lexical.specs.declared.place.Place.{Place}
 use Rattle.source_tree.specs.declared.arithmetic.Operation.{Operation}
 use Rattle.source_tree.specs.declared.condition.Condition.{Condition}
-use Rattle.source_tree.specs.declared.branching.Branching.TheVariants.{If}
+use Rattle.source_tree.specs.declared.branching.Branching.TheVariants.{If, Evaluate}
+use Rattle.source_tree.specs.declared.evaluate.Subject.{Subject}
+use Rattle.source_tree.specs.declared.evaluate.Selected.{Selected}
 use Rattle.source_tree.specs.declared.performing.Performed.{Performed}
 use Rattle.source_tree.specs.declared.performing.Performed.TheVariants.{Procedures, Statements}
 use Rattle.source_tree.specs.declared.performing.Turns.{Turns}
@@ -16,6 +18,8 @@ use Rattle.source_tree.specs.declared.statement.Statement.TheFolds.{map-Statemen
 use Rattle.source_tree.specs.Broken.{Broken, each}
 use Rattle.source_tree.specs.ArithmeticRules.{operation_rules}
 use Rattle.source_tree.specs.ConditionRules.{condition_rules}
+use Rattle.source_tree.specs.EvaluateRules.{subject_rules, when_rules, selected_rules}
+use Rattle.source_tree.specs.Places.{Placed}
 use Rattle.source_tree.specs.Procedures.{Range}
 use Rattle.source_tree.specs.Setting.{Scope}
 use Rattle.source_tree.specs.Rules.{turns_rules, verb_rules, statement_layer, statement_rules}
@@ -24,6 +28,16 @@ module _ {A B : Type 0} (f : A → B) (rules : B → List Broken) where
   pub each_map : (all : List A) → each rules (map f all) ≡ each (λ a. rules (f a)) all
   each_map [] = refl
   each_map (one ∷ more) = ap (λ l. rules (f one) ++ l) (each_map more)
+
+  -- the statements behind WHENs
+  selected_map : (items : List Placed) (subjects : List Subject) (all : List (Selected A))
+      → each (selected_rules items rules subjects) (map (λ (one : Selected A). record { whens = one.whens; statements = map f one.statements }) all)
+      ≡ each (selected_rules items (λ a. rules (f a)) subjects) all
+  selected_map items subjects [] = refl
+  selected_map items subjects (one ∷ more) =
+      let others : List (Selected B) = map (λ (one : Selected A). record { whens = one.whens; statements = map f one.statements }) more in
+      ap (λ l. each (when_rules items subjects) one.whens ++ l ++ each (selected_rules items rules subjects) others) (each_map one.statements)
+      ∙ ap (λ l. each (when_rules items subjects) one.whens ++ each (λ a. rules (f a)) one.statements ++ l) (selected_map items subjects more)
 
   module _ (scope : Scope) (permits : Range → Bool) where
     performing_map : (place : Place) (often : Turns) (what : Performed A)
@@ -39,6 +53,15 @@ module _ {A B : Type 0} (f : A → B) (rules : B → List Broken) where
     branching_map place condition statements (Some other) =
         ap (λ l. condition_rules scope.items condition ++ l ++ each rules (map f other)) (each_map statements)
         ∙ ap (λ l. condition_rules scope.items condition ++ each (λ a. rules (f a)) statements ++ l) (each_map other)
+
+    evaluate_map : (place : Place) (subjects : List Subject) (selected : List (Selected A)) (other : Option (List A))
+        → verb_rules scope permits rules
+        (map-Statement A B f (record { place = place; verb = verb.Branching (Evaluate (record { subjects = subjects; selected = selected; other = other })) })).verb
+        ≡ verb_rules scope permits (λ a. rules (f a)) (verb.Branching (Evaluate (record { subjects = subjects; selected = selected; other = other })))
+    evaluate_map place subjects selected None = ap (λ l. each (subject_rules scope.items) subjects ++ l ++ []) (selected_map scope.items subjects selected)
+    evaluate_map place subjects selected (Some statements) =
+        ap (λ l. each (subject_rules scope.items) subjects ++ l ++ each rules (map f statements)) (selected_map scope.items subjects selected)
+        ∙ ap (λ l. each (subject_rules scope.items) subjects ++ each (selected_rules scope.items (λ a. rules (f a)) subjects) selected ++ l) (each_map statements)
 
     phrases_map : (place : Place) (operation : Operation) (arose did_not : Option (List A))
         → verb_rules scope permits rules
@@ -56,6 +79,7 @@ module _ {A B : Type 0} (f : A → B) (rules : B → List Broken) where
     verb_map place (verb.Moving one) = refl
     verb_map place (verb.Arithmetic one) = phrases_map place one.operation one.phrases.arose one.phrases.did_not
     verb_map place (verb.Branching (If condition statements otherwise)) = branching_map place condition statements otherwise
+    verb_map place (verb.Branching (Evaluate one)) = evaluate_map place one.subjects one.selected one.other
     verb_map place (verb.Performing one) = performing_map place one.turns one.performed
     verb_map place (verb.Text one) = refl
     verb_map place (verb.Ending one) = refl

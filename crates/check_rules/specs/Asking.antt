@@ -6,6 +6,7 @@ use Rattle.edited_move.specs.Moves.{wants_number}
 use Rattle.lexical.specs.declared.place.Place.{Place}
 use Rattle.source_tree.specs.Places.{Placed}
 use Rattle.source_tree.specs.Broken.{Broken, where_so}
+use Rattle.source_tree.specs.NameRules.{is_integer_kind}
 use Rattle.source_tree.specs.ArithmeticRules.{is_numeric_kind}
 use Rattle.check_rules.specs.declared.asked.Asked.{Asked}
 use Rattle.check_rules.specs.declared.asked.Asked.TheVariants as asked
@@ -16,6 +17,7 @@ asks_kind asked.Nothing kind place = []
 asks_kind (asked.Receives sent) kind place = where_so (not (may_go sent kind)) 49 place
 asks_kind asked.Numeric kind place = where_so (not (is_numeric_kind kind)) 51 place
 asks_kind asked.StoresNumber kind place = where_so (not (wants_number kind)) 51 place
+asks_kind asked.Integer kind place = where_so (not (is_integer_kind kind)) 51 place
 
 abbrev pub asks : Asked → Place → Placed → List Broken
 asks one place found = asks_kind one found.item.kind place

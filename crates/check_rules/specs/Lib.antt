@@ -6,3 +6,4 @@ pub mod Comparing
 pub mod Kept
 pub mod Told
 pub mod Performs
+pub mod Looking

@@ -1,7 +1,8 @@
-//! What is asked of the item that a reference names: 49 of a receiver of a MOVE, and 51 where a number is wanted.
+//! What is asked of the item that a reference names: 49 of a receiver of a MOVE, and 51 where a number or an integer is wanted.
 
 ghost use Rattle.std.specs.Prelude.{◌≡◌};
 ghost use Rattle.entry_rules.specs.Checks.{Finds};
+ghost use Rattle.source_tree.specs.NameRules.{is_integer_kind};
 ghost use Rattle.check_rules.specs.Asking as spec;
 
 use crate::sent::Sent;
@@ -20,6 +21,17 @@ pub enum Asked {
     Numeric,
     /// A number can be stored in it: it is numeric, or numeric edited.
     StoresNumber,
+    /// It holds an integer: it is numeric, and has no decimals.
+    Integer,
+}
+
+fn is_integer(kind: Kind) -> bool
+    ensures { result ≡ is_integer_kind kind }
+{
+    match kind {
+        Kind::Numeric(numeric) => numeric.scale == 0,
+        _ => false,
+    }
 }
 
 impl Asked {
@@ -35,6 +47,7 @@ impl Asked {
                 let stores = matches!(kind, Kind::Numeric(_) | Kind::NumericEdited { .. });
                 Rule::Number.broken_if(!stores, place)
             }
+            Asked::Integer => Rule::Number.broken_if(!is_integer(kind), place),
         }
     }
 }

@@ -57,7 +57,7 @@ impl<'a> Checked<'a> {
     }
 }
 
-/// Whether a program keeps the rules: 17, 18, 40 to 52, 54 to 56, 67 and 69. Otherwise the answer is the first that it breaks, in
+/// Whether a program keeps the rules: 17, 18, 40 to 56, 67 and 69. Otherwise the answer is the first that it breaks, in
 /// the order of the definition: those of its entries, those of the names of its procedures, those of its statements in the order of
 /// the text, and then 56; and 54 only where it breaks no other.
 pub fn check(alloc: Global, program: &Program) -> Result<Checked<'_>, CheckError>

@@ -60,7 +60,7 @@ impl<'a> Declarations<'a> {
     }
 
     /// A condition name, with its subscripts.
-    fn condition_name_rules(&self, one: &Reference) -> Result<(), BrokenRule>
+    pub(crate) fn condition_name_rules(&self, one: &Reference) -> Result<(), BrokenRule>
         requires { IsDeclared self.now }
         ensures { Finds result (spec.condition_name_rules (items_in self.now) one.now) }
     {

@@ -3,15 +3,15 @@
 ghost use Rattle.std.specs.Prelude.{◌≡◌, ◌+◌, ◌<◌, ◌^◌, [], ◌∷◌, length, IfOk, OnOk};
 ghost use Rattle.source_tree.specs.Procedures.{paragraphs_in, paragraphs_or_one, range_of};
 ghost use Rattle.source_tree.specs.Recursion as spec;
-ghost use Rattle.source_tree.specs.Recursion.{each_performs, performs_from};
+ghost use Rattle.source_tree.specs.Recursion.{each_performs, performs_from, selected_performs};
 ghost use Rattle.check_rules.specs.Named.{IsDeclared, procedures_in};
 ghost use Rattle.check_rules.specs.Performs.{Adds, AddsPhrase, in_paragraph};
 
 use crate::declarations::Declarations;
 use perform_order::PerformedRange;
 use source_tree::{
-    Arithmetic, Branching, Name, Paragraph, Performed, Performing, Phrases, Place, Section,
-    Sentence, Statement, Verb,
+    Arithmetic, Branching, Evaluate, Name, Paragraph, Performed, Performing, Phrases, Place,
+    Section, Selected, Sentence, Statement, Verb,
 };
 use sqlite_items::Items;
 use std::alloc::{AllocError, Global};
@@ -99,14 +99,10 @@ impl<'a> Declarations<'a> {
                 self.statements_performs(number, statements.as_slice(), all)?;
                 self.phrase_performs(number, otherwise, all)
             }
-            Verb::Performing(Performing { performed, .. }) => match performed {
-                Performed::Procedures { first, last } => {
-                    self.range_performs(number, first, last, all)
-                }
-                Performed::Statements(inside) => {
-                    self.statements_performs(number, inside.as_slice(), all)
-                }
-            },
+            Verb::Branching(Branching::Evaluate(one)) => self.evaluate_performs(number, one, all),
+            Verb::Performing(Performing { performed, .. }) => {
+                self.performed_performs(number, performed, all)
+            }
             Verb::Moving(_) | Verb::Text(_) | Verb::Ending(_) => Ok(()),
         }
     }
@@ -143,6 +139,57 @@ impl<'a> Declarations<'a> {
             None => Ok(()),
             Some(inside) => self.statements_performs(number, inside.as_slice(), all),
         }
+    }
+
+    /// What a PERFORM performs, or those of the statements in it.
+    #[cycle(performs)]
+    fn performed_performs(
+        &self,
+        number: usize,
+        performed: &Performed<Statement>,
+        all: &mut Performs,
+    ) -> Result<(), AllocError>
+        requires { IsDeclared self.now }
+        ensures { OnOk result (Adds all.old all.new (in_paragraph number (spec.performed_performs (procedures_in self.now) (spec.statement_performs (procedures_in self.now)) performed.now))) }
+    {
+        match performed {
+            Performed::Procedures { first, last } => self.range_performs(number, first, last, all),
+            Performed::Statements(inside) => {
+                self.statements_performs(number, inside.as_slice(), all)
+            }
+        }
+    }
+
+    /// Those of the statements behind WHENs, in order.
+    #[cycle(performs)]
+    fn selections_performs(
+        &self,
+        number: usize,
+        selections: &[Selected<Statement>],
+        all: &mut Performs,
+    ) -> Result<(), AllocError>
+        requires { IsDeclared self.now }
+        ensures { OnOk result (Adds all.old all.new (in_paragraph number (each_performs (selected_performs (spec.statement_performs (procedures_in self.now))) selections.now))) }
+    {
+        for one in selections {
+            self.statements_performs(number, one.statements.as_slice(), all)?;
+        }
+        Ok(())
+    }
+
+    /// Those of EVALUATE.
+    #[cycle(performs)]
+    fn evaluate_performs(
+        &self,
+        number: usize,
+        one: &Evaluate<Statement>,
+        all: &mut Performs,
+    ) -> Result<(), AllocError>
+        requires { IsDeclared self.now }
+        ensures { OnOk result (Adds all.old all.new (in_paragraph number (spec.evaluate_performs (spec.statement_performs (procedures_in self.now)) one.now))) }
+    {
+        self.selections_performs(number, one.selected.as_slice(), all)?;
+        self.phrase_performs(number, &one.other, all)
     }
 
     /// Those of a paragraph, which has that number.

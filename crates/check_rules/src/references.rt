@@ -12,17 +12,7 @@ use crate::asked::Asked;
 use crate::declarations::Declarations;
 use crate::forms::{adjustment_rules, integer_rules};
 use entry_rules::{BrokenRule, Rule};
-use items::Kind;
 use source_tree::{QualifiedName, Reference, Subscript};
-
-fn is_integer(kind: Kind) -> bool
-    ensures { result ≡ spec.is_integer_kind kind }
-{
-    match kind {
-        Kind::Numeric(numeric) => numeric.scale == 0,
-        _ => false,
-    }
-}
 
 impl<'a> Declarations<'a> {
     /// The item of a subscript is an integer, and has no subscripts.
@@ -33,7 +23,7 @@ impl<'a> Declarations<'a> {
         let place = item.name.place;
         let found = self.item_named(item)?;
         Rule::Subscripts.broken_if(found.dimensions.as_slice().len() != 0, place)?;
-        Rule::Number.broken_if(!is_integer(found.item.kind), place)
+        Asked::Integer.kind_rules(found.item.kind, place)
     }
 
     /// A subscript.

@@ -17,7 +17,7 @@ use source_tree::{Expression, Operand, Place, Side};
 
 /// The operand that an expression is, if it is one alone.
 #[tactic(auto, using(crate::proofs::SideLayers::alone_operand, crate::proofs::SideLayers::alone_negated, crate::proofs::SideLayers::alone_chain))]
-fn operand_alone(one: &Expression) -> Option<&Operand>
+pub(crate) fn operand_alone(one: &Expression) -> Option<&Operand>
     ensures { option_copied result ≡ tree.alone (out-Expression one.now) }
 {
     match one {
@@ -71,7 +71,7 @@ fn side_place(one: &Side) -> Place
 
 impl<'a> Declarations<'a> {
     /// A side by itself: an operand alone of any kind, or numbers.
-    fn side_rules(&self, one: &Side) -> Result<(), BrokenRule>
+    pub(crate) fn side_rules(&self, one: &Side) -> Result<(), BrokenRule>
         requires { IsDeclared self.now }
         ensures { Finds result (spec.side_rules (items_in self.now) one.now) }
     {

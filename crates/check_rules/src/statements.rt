@@ -3,6 +3,7 @@
 ghost use Rattle.std.specs.Prelude.{◌≡◌};
 ghost use Rattle.entry_rules.specs.Checks.{Finds};
 ghost use Rattle.source_tree.specs.Broken.{each};
+ghost use Rattle.source_tree.specs.EvaluateRules.{selected_rules};
 ghost use Rattle.source_tree.specs.Rules as spec;
 ghost use Rattle.source_tree.specs.Rules.{all_permitted};
 ghost use Rattle.check_rules.specs.Named.{IsDeclared, items_in, scope_in};
@@ -10,8 +11,8 @@ ghost use Rattle.check_rules.specs.Named.{IsDeclared, items_in, scope_in};
 use crate::declarations::Declarations;
 use entry_rules::BrokenRule;
 use source_tree::{
-    Arithmetic, Branching, Moving, Paragraph, Performed, Performing, Phrases, Section, Sentence,
-    Statement, Text, Verb,
+    Arithmetic, Branching, Evaluate, Moving, Paragraph, Performed, Performing, Phrases, Section,
+    Selected, Sentence, Statement, Subject, Text, Verb,
 };
 use sqlite_items::Items;
 
@@ -66,6 +67,7 @@ impl<'a> Declarations<'a> {
                 self.statements_rules(statements.as_slice())?;
                 self.phrase_rules(otherwise)
             }
+            Verb::Branching(Branching::Evaluate(one)) => self.evaluate_rules(one),
             Verb::Performing(Performing { performed, turns }) => {
                 self.turns_rules(turns)?;
                 match performed {
@@ -100,6 +102,48 @@ impl<'a> Declarations<'a> {
             None => Ok(()),
             Some(inside) => self.statements_rules(inside.as_slice()),
         }
+    }
+
+    /// WHENs, and the statements behind them.
+    #[cycle(statement)]
+    fn selected_rules(
+        &self,
+        subjects: &[Subject],
+        one: &Selected<Statement>,
+    ) -> Result<(), BrokenRule>
+        requires { IsDeclared self.now }
+        ensures { Finds result (selected_rules (items_in self.now) (spec.statement_rules (scope_in self.now) all_permitted) subjects.now one.now) }
+    {
+        self.whens_rules(subjects, one.whens.as_slice())?;
+        self.statements_rules(one.statements.as_slice())
+    }
+
+    /// Those of EVALUATE, in order.
+    #[cycle(statement)]
+    fn selections_rules(
+        &self,
+        subjects: &[Subject],
+        all: &[Selected<Statement>],
+    ) -> Result<(), BrokenRule>
+        requires { IsDeclared self.now }
+        ensures { Finds result (each (selected_rules (items_in self.now) (spec.statement_rules (scope_in self.now) all_permitted) subjects.now) all.now) }
+    {
+        for one in all {
+            self.selected_rules(subjects, one)?;
+        }
+        Ok(())
+    }
+
+    /// EVALUATE: its subjects, its WHENs with their statements, and those of OTHER.
+    #[cycle(statement)]
+    fn evaluate_rules(&self, one: &Evaluate<Statement>) -> Result<(), BrokenRule>
+        requires { IsDeclared self.now }
+        ensures { Finds result (spec.evaluate_rules (items_in self.now) (spec.statement_rules (scope_in self.now) all_permitted) one.now) }
+    {
+        let subjects = one.subjects.as_slice();
+        self.subjects_rules(subjects)?;
+        self.selections_rules(subjects, one.selected.as_slice())?;
+        self.phrase_rules(&one.other)
     }
 
     fn sentence_rules(&self, one: &Sentence) -> Result<(), BrokenRule>

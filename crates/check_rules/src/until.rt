@@ -1,4 +1,5 @@
-//! The rules of how often a PERFORM turns: those of UNTIL and VARYING (COBOL-85, Nucleus, "The PERFORM statement").
+//! The rules of how often a PERFORM turns: 51 of an item before TIMES that is no integer, and those of UNTIL and VARYING (COBOL-85,
+//! Nucleus, "The PERFORM statement").
 
 ghost use Rattle.std.specs.Prelude.{◌≡◌, Some};
 ghost use Rattle.entry_rules.specs.Checks.{Finds};
@@ -43,6 +44,7 @@ impl<'a> Declarations<'a> {
         match one {
             Turns::Once => Ok(()),
             Turns::Times(_) => Ok(()),
+            Turns::CountedBy(item) => self.item_rules(Asked::Integer, item),
             Turns::Until(until) => self.until_rules(until),
         }
     }

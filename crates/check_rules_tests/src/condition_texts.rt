@@ -19,7 +19,8 @@ fn is_number(one: &Literal) -> bool {
     )
 }
 
-fn side(rt: &impl Abort, alloc: Global, line: u32, text: &str) -> Side {
+/// A side.
+pub fn side(rt: &impl Abort, alloc: Global, line: u32, text: &str) -> Side {
     let Some(value) = text.strip_prefix('=') else {
         return Side::Expression(sum(rt, alloc, line, text));
     };

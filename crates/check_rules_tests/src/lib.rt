@@ -13,6 +13,10 @@ mod condition_rows;
 #[cfg(test)]
 mod condition_texts;
 #[cfg(test)]
+mod evaluate_rows;
+#[cfg(test)]
+mod evaluate_texts;
+#[cfg(test)]
 mod name_rows;
 #[cfg(test)]
 mod procedure_rows;
@@ -28,3 +32,5 @@ mod reference_texts;
 mod statement_rows;
 #[cfg(test)]
 mod texts;
+#[cfg(test)]
+mod times_rows;

@@ -12,7 +12,7 @@ use std::alloc::Global;
 use std::process::Abort;
 
 /// The procedures of a program, one a line, and the first rule that it breaks, with its place.
-type Row = (&'static [&'static str], Expected);
+pub type Row = (&'static [&'static str], Expected);
 
 const NAMED: &[Row] = &[
     (&["A: PERFORM B", "B: CONTINUE"], None),
@@ -45,6 +45,10 @@ const NAMED: &[Row] = &[
         Some((Rule::UnknownName, (1, OPERAND))),
     ),
     (&["A: UNTIL SMALL>PERFORM B", "B:"], None),
+    (
+        &["A: EVALUATE M WHEN =1 THEN PERFORM B OTHER PERFORM Z", "B:"],
+        Some((Rule::UnknownName, (1, OPERAND))),
+    ),
 ];
 
 const GIVEN: &[Row] = &[
@@ -169,6 +173,29 @@ const RECURSION: &[Row] = &[
     (&["A: PERFORM B;PERFORM B", "B:"], None),
     (
         &[
+            "A:",
+            "B: EVALUATE M WHEN =1 THEN CONTINUE WHEN =2 THEN PERFORM B",
+        ],
+        Some((Rule::Recursion, (2, OPERAND))),
+    ),
+    (
+        &[
+            "A: EVALUATE M WHEN =1 THEN PERFORM C OTHER PERFORM B",
+            "B: PERFORM A",
+            "C:",
+        ],
+        Some((Rule::Recursion, (1, OPERAND))),
+    ),
+    (
+        &[
+            "A: EVALUATE M WHEN =1 THEN PERFORM C OTHER PERFORM B",
+            "B: PERFORM C",
+            "C:",
+        ],
+        None,
+    ),
+    (
+        &[
             "A: PERFORM C THRU D;PERFORM B THRU C",
             "B: PERFORM D",
             "C: PERFORM D",
@@ -187,7 +214,8 @@ const RECURSION: &[Row] = &[
     ),
 ];
 
-fn as_expected(rt: &impl Abort, alloc: Global, rows: &[Row]) {
+/// Procedures of the rows break first what the rows say.
+pub fn as_expected(rt: &impl Abort, alloc: Global, rows: &[Row]) {
     for (texts, expected) in rows {
         let one = program(rt, alloc, ENTRIES, procedures(rt, alloc, texts));
         same_in(rt, texts, told(rt, alloc, &one), *expected);

@@ -25,6 +25,9 @@ pub const ENTRIES: &[&str] = &[
     "77 E PIC=Z9",
     "77 W PIC=XBX",
     "77 C PIC=99 COMP",
+    "77 K PIC=S9(5) COMP-3",
+    "01 I",
+    "05 D PIC=9V9 OCCURS=2",
 ];
 
 const WITHOUT_PICTURE: &[&str] = &["77 M PIC=9", "77 N"];

@@ -2,14 +2,16 @@
 //! `CONTINUE`. Behind `>` stands what is performed, with a `P` before it for each PERFORM around it, as `PP>MOVE M N;CONTINUE`. Behind
 //! an arithmetic statement stand, each behind a `|`, the statement of ON SIZE ERROR and that of NOT ON SIZE ERROR; nothing there
 //! is no phrase. IF stands as `IF SMALL THEN MOVE M N ELSE CONTINUE`, and UNTIL in front of `>`, as `UNTIL SMALL>CONTINUE`. PERFORM of
-//! procedures stands as `PERFORM A` or `PERFORM A THRU B`.
-use crate::arithmetic_texts::operation;
+//! procedures stands as `PERFORM A` or `PERFORM A THRU B`, and EVALUATE as `EVALUATE M WHEN =1 WHEN =2 THEN MOVE M N OTHER CONTINUE`.
+//! The item before TIMES stands in front of `>`, as `T,2 TIMES>CONTINUE`, and behind procedures, as `PERFORM A THRU B M TIMES`.
+use crate::arithmetic_texts::{cut, operation};
 use crate::condition_texts::{condition, until};
+use crate::evaluate_texts::{subjects, when};
 use crate::reference_texts::{OPERAND, operand, push, reference};
 use crate::texts::{entries, name};
 use source_tree::{
-    Arithmetic, Branching, Ending, Moving, Paragraph, Performed, Performing, Phrases, Place,
-    Program, Section, Sentence, Statement, Text, Turns, Verb,
+    Arithmetic, Branching, Ending, Evaluate, Moving, Paragraph, Performed, Performing, Phrases,
+    Place, Program, Section, Selected, Sentence, Statement, Text, Turns, Verb,
 };
 use sqlite_items::Items;
 use std::alloc::Global;
@@ -23,6 +25,9 @@ pub const SECTION: u8 = 9;
 
 /// Where the name behind THRU stands in a line.
 pub const LAST: u8 = 40;
+
+/// Where the item before TIMES stands in a line.
+pub const COUNT: u8 = 45;
 
 pub fn alone<T: Drop>(rt: &impl Abort, alloc: Global, one: T) -> Items<T> {
     let mut all = Vec::new(alloc);
@@ -67,7 +72,21 @@ fn accept(rt: &impl Abort, alloc: Global, line: u32, words: &str) -> Text {
     }
 }
 
-fn perform(rt: &impl Abort, alloc: Global, line: u32, words: &str) -> Performing<Statement> {
+/// As often as an item says.
+fn counted(rt: &impl Abort, alloc: Global, line: u32, text: &str) -> Turns {
+    let mut one = reference(rt, alloc, line, text);
+    one.item.name.place.column = COUNT;
+    Turns::CountedBy(one)
+}
+
+fn perform(rt: &impl Abort, alloc: Global, line: u32, text: &str) -> Performing<Statement> {
+    let (words, turns) = match text.strip_suffix(" TIMES") {
+        Some(rest) => {
+            let (words, item) = rest.rsplit_once(' ').unwrap_or((rest, ""));
+            (words, counted(rt, alloc, line, item))
+        }
+        None => (text, Turns::Once),
+    };
     let (first, last) = match words.split_once(" THRU ") {
         Some((first, last)) => (first, Some(name(rt, alloc, line, LAST, last))),
         None => (words, None),
@@ -75,7 +94,7 @@ fn perform(rt: &impl Abort, alloc: Global, line: u32, words: &str) -> Performing
     let first = name(rt, alloc, line, OPERAND, first);
     Performing {
         performed: Performed::Procedures { first, last },
-        turns: Turns::Once,
+        turns,
     }
 }
 
@@ -116,9 +135,46 @@ fn branching(rt: &impl Abort, alloc: Global, line: u32, text: &str) -> Statement
     at(line, Verb::Branching(one))
 }
 
+/// WHENs, and the statement behind the last of them.
+fn selections(rt: &impl Abort, alloc: Global, line: u32, text: &str) -> Items<Selected<Statement>> {
+    let mut all = Vec::new(alloc);
+    let mut whens = Vec::new(alloc);
+    for (index, words) in text.split(" WHEN ").enumerate() {
+        let (objects, behind) = cut(words, " THEN ");
+        push(
+            rt,
+            &mut whens,
+            when(rt, alloc, line, (index % 10) as u8, objects),
+        );
+        if !behind.is_empty() {
+            let one = Selected {
+                whens: Items::from_vec(whens),
+                statements: alone(rt, alloc, plain(rt, alloc, line, behind)),
+            };
+            push(rt, &mut all, one);
+            whens = Vec::new(alloc);
+        }
+    }
+    Items::from_vec(all)
+}
+
+fn evaluate(rt: &impl Abort, alloc: Global, line: u32, text: &str) -> Statement {
+    let (selecting, other) = cut(text, " OTHER ");
+    let (asking, whens) = cut(selecting, " WHEN ");
+    let one = Evaluate {
+        subjects: subjects(rt, alloc, line, asking),
+        selected: selections(rt, alloc, line, whens),
+        other: phrase(rt, alloc, line, other),
+    };
+    at(line, Verb::Branching(Branching::Evaluate(one)))
+}
+
 fn statement(rt: &impl Abort, alloc: Global, line: u32, text: &str) -> Statement {
     if let Some(rest) = text.strip_prefix("IF ") {
         return branching(rt, alloc, line, rest);
+    }
+    if let Some(rest) = text.strip_prefix("EVALUATE ") {
+        return evaluate(rt, alloc, line, rest);
     }
     let (words, phrases) = text.split_once('|').unwrap_or((text, ""));
     let Some(operation) = operation(rt, alloc, line, words) else {
@@ -137,6 +193,14 @@ fn performing(line: u32, turns: Turns, inside: Items<Statement>) -> Statement {
     at(line, Verb::Performing(Performing { performed, turns }))
 }
 
+/// How often a PERFORM turns, if the text says it.
+fn turns(rt: &impl Abort, alloc: Global, line: u32, text: &str) -> Option<Turns> {
+    match text.strip_suffix(" TIMES") {
+        Some(item) => Some(counted(rt, alloc, line, item)),
+        None => Some(Turns::Until(until(rt, alloc, line, text)?)),
+    }
+}
+
 pub fn sentence(rt: &impl Abort, alloc: Global, line: u32, text: &str) -> Sentence {
     let (around, inside) = text.split_once('>').unwrap_or(("", text));
     let mut all = Vec::new(alloc);
@@ -145,8 +209,7 @@ pub fn sentence(rt: &impl Abort, alloc: Global, line: u32, text: &str) -> Senten
         push(rt, &mut all, one);
     }
     let mut statements = Items::from_vec(all);
-    if let Some(until) = until(rt, alloc, line, around) {
-        let turns = Turns::Until(until);
+    if let Some(turns) = turns(rt, alloc, line, around) {
         statements = alone(rt, alloc, performing(line, turns, statements));
         return Sentence { statements };
     }

@@ -1,18 +1,21 @@
 -- A run ends in one way, and what was told stays told.
-use Rattle.std.proofs.Common.{◌≡◌, ℕ, zero, suc, ◌+◌, ◌≤◌, Bool, true, false, List, [], ◌∷◌, Option, Some, None, sym, ◌∙◌, ⊎_elim, arith}
+use Rattle.std.proofs.Common.{◌≡◌, ℕ, zero, suc, ◌+◌, ◌≤◌, Bool, true, false, List, [], ◌∷◌, Option, Some, None, Ok, Err, sym, ◌∙◌, ⊎_elim, arith}
 use Rattle.std.specs.Prelude.{◌==◌, slice_get, slice_index, slice_set}
 use Rattle.std.proofs.lemmas.Bool.{cases_lt}
+use Rattle.decimal18.specs.Fraction.{Fraction}
 use Rattle.source_tree.specs.State.{State}
+use Rattle.source_tree.specs.Evaluated.{Evaluated, ◌>>=◌, needed}
+use Rattle.source_tree.specs.Performing.{turns_by}
 use Rattle.source_tree.specs.Given.{Given}
 use Rattle.source_tree.specs.Meaning.{Run}
 use Rattle.source_tree.specs.Accepting.{next_line}
 use Rattle.code_image.specs.declared.code.Code.{Code}
 use Rattle.code_image.specs.declared.instruction.Instruction.{Instruction}
-use Rattle.code_image.specs.declared.instruction.Instruction.TheVariants.{Tick, Show, Stop, Count, Turn, Accept, Date, Branch, Jump, Join, Perform, Back, Data}
+use Rattle.code_image.specs.declared.instruction.Instruction.TheVariants.{Tick, Show, Stop, Count, CountNumber, Turn, Accept, Date, Branch, Jump, Join, Perform, Back, Data}
 use Rattle.data_instructions.specs.Scratch.{Step, Went, Faulted, Stuck}
 use Rattle.data_instructions.specs.Table.{work, accepted, dated}
 use Rattle.code_image.specs.Points.{Return, Point, scratch_of, first_point}
-use Rattle.code_image.specs.Table.{Next, onward, tick_from, shown_point, worked_point, data_from, turn_from, branch_from, performing, perform_at, back_if, back_from, line_taken, act, exec_code, Runs}
+use Rattle.code_image.specs.Table.{Next, onward, tick_from, shown_point, worked_point, data_from, counted_turns, counted_by, counted_from, turn_from, branch_from, performing, perform_at, back_if, back_from, line_taken, act, exec_code, Runs}
 
 -- where f is over, g is over with the same run
 abbrev Extends : Next → Next → Type 0
@@ -28,6 +31,22 @@ module _ (f g : Next) (h : Extends f g) where
   data_extends (Went s) p run e = h (worked_point s p) run e
   data_extends (Faulted fault) p run e = e
   data_extends Stuck p run e = absurd cc
+
+  counted_turns_extends : (turns : ℕ) (older : List (Option Fraction)) (counter : ℕ) (p : Point) (run : Run) → counted_turns turns older counter f p ≡ Some run
+      → counted_turns turns older counter g p ≡ Some run
+  counted_turns_extends zero older counter p run e = h (record p { address = p.address + 1; own = record p.own { numbers = older; truth = false } }) run e
+  counted_turns_extends (suc more) older counter p run e =
+      h (record p { address = p.address + 1; own = record p.own { counters = slice_set p.own.counters counter more; numbers = older; truth = true } }) run e
+
+  counted_by_extends : (turns : Evaluated ℕ) (older : List (Option Fraction)) (counter : ℕ) (p : Point) (run : Run) → counted_by turns older counter f p ≡ Some run
+      → counted_by turns older counter g p ≡ Some run
+  counted_by_extends (Ok turns) older counter p run e = counted_turns_extends turns older counter p run e
+  counted_by_extends (Err fault) older counter p run e = e
+
+  counted_extends : (numbers : List (Option Fraction)) (counter : ℕ) (p : Point) (run : Run) → counted_from numbers counter f p ≡ Some run
+      → counted_from numbers counter g p ≡ Some run
+  counted_extends [] counter p run e = absurd cc
+  counted_extends (newest ∷ older) counter p run e = counted_by_extends (needed newest >>= turns_by) older counter p run e
 
   turn_extends : (left counter to : ℕ) (p : Point) (run : Run) → turn_from left counter to f p ≡ Some run → turn_from left counter to g p ≡ Some run
   turn_extends zero counter to p run e = h (record p { address = p.address + 1 }) run e
@@ -60,6 +79,7 @@ module _ (f g : Next) (h : Extends f g) where
   act_extends code (Some Stop) p run e = e
   act_extends code (Some (Count counter turns)) p run e =
       h (record p { address = p.address + 1; own = record p.own { counters = slice_set p.own.counters counter.number turns } }) run e
+  act_extends code (Some (CountNumber counter)) p run e = counted_extends p.own.numbers counter.number p run e
   act_extends code (Some (Turn counter to)) p run e = turn_extends (slice_index p.own.counters counter.number) counter.number to p run e
   act_extends code (Some Accept) p run e = data_extends (accepted code.tables (next_line p.state.lines) (scratch_of p.state p.own)) (line_taken p) run e
   act_extends code (Some Date) p run e = data_extends (dated code.tables p.state.day (scratch_of p.state p.own)) p run e

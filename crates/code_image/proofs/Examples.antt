@@ -1,6 +1,6 @@
 -- Worked examples: the code of a program that shows HELLO and stops, two loops, code that works on data, ways on, a way back, code
 -- paragraphs, console lines, and images.
-use Rattle.std.proofs.Common.{◌≡◌, ◌≤◌, ℕ, ◌+◌, true, false, List, [], ◌∷◌, ◌++◌, zero, suc, length, take, Option, Some, None, Ok, Err, map, refl, subst, inl, inr, pos, arith}
+use Rattle.std.proofs.Common.{◌≡◌, ◌≤◌, ℕ, ◌+◌, true, false, List, [], ◌∷◌, ◌++◌, zero, suc, length, take, Option, Some, None, Ok, Err, map, refl, subst, inl, inr, ℤ, pos, negsuc, arith}
 use Rattle.std.specs.Prelude.{◌<◌, All, codes, slice_get, slice_index, slice_index_or}
 use Rattle.std.proofs.lemmas.List.Elements.{All-nil, All-cons}
 use Rattle.items.specs.declared.item.Kind.TheVariants as kind
@@ -10,6 +10,7 @@ use Rattle.items.specs.Values.{bytes_of}
 use Rattle.decimal18.specs.Quotient.{quotient, greatest}
 use Rattle.decimal18.specs.Receiver.{fitted}
 use Rattle.station.specs.State.{Shown}
+use Rattle.source_tree.specs.Evaluated as evaluated
 use Rattle.source_tree.specs.Evaluated.{Subscript}
 use Rattle.source_tree.specs.State.{Stopped, Budget, Faulted}
 use Rattle.source_tree.specs.Meaning.{Run}
@@ -31,7 +32,7 @@ use Rattle.code_image.specs.declared.code.Code.{Code}
 use Rattle.code_image.specs.declared.counter.CounterIndex.{CounterIndex}
 use Rattle.code_image.specs.declared.paragraph.ParagraphIndex.{ParagraphIndex}
 use Rattle.code_image.specs.declared.instruction.Instruction.{Instruction}
-use Rattle.code_image.specs.declared.instruction.Instruction.TheVariants.{Tick, Show, Stop, Count, Turn, Accept, Date, Branch, Jump, Join, Perform, Back, Data}
+use Rattle.code_image.specs.declared.instruction.Instruction.TheVariants.{Tick, Show, Stop, Count, CountNumber, Turn, Accept, Date, Branch, Jump, Join, Perform, Back, Data}
 use Rattle.code_image.specs.Spelling.{mark, instruction_bytes, spelling}
 use Rattle.code_image.specs.Reading.{after_mark, instruction_at, code_at}
 use Rattle.code_image.specs.Known.{known_along}
@@ -253,6 +254,39 @@ verified_back = record {
 no_way_back : IsVerified (until_true 2) → ⊥
 no_way_back verified = elim (verified.shape.leads 3 (omega arith)) [ inl on ↦ absurd (let later = on.later in omega arith) | inr back ↦ back.budget ]
 
+-- ---- as many turns as a number says
+
+-- PERFORM N TIMES DISPLAY "A" NO ADVANCING END-PERFORM, with a number in place of N: where it is an integer above 0, its loop counts at the
+-- address of its `count number`
+abbrev counting : ℤ → ℕ → Code
+counting coefficient scale = record {
+  tables = record { areas = []; items = []; numbers = record { coefficient = coefficient; scale = scale } ∷ []; senders = []; texts = codes "A" ∷ [] };
+  starts = 0 ∷ [];
+  instructions =
+      Tick 1 ∷ number 0 ∷ CountNumber (counter 2) ∷ Branch 10
+      ∷ Tick 1 ∷ append 0 ∷ Show ∷ Turn (counter 2) 4 ∷ Jump 11 ∷ Join ∷ Join ∷ Stop ∷ [];
+}
+
+abbrev counted : ℤ → ℕ → ℕ → Option Run
+counted coefficient scale budget = exec_code (counting coefficient scale) 99 (with_budget (counting coefficient scale) budget)
+
+two_turns : counted (pos 2) 0 9 ≡ Some (record { events = map Shown (codes "AA"); end = Stopped; lines = [] })
+two_turns = refl
+
+-- 20 with one decimal
+two_with_decimals : counted (pos 20) 1 9 ≡ Some (record { events = map Shown (codes "AA"); end = Stopped; lines = [] })
+two_with_decimals = refl
+
+no_turn : counted (pos 0) 0 9 ≡ Some (record { events = []; end = Stopped; lines = [] })
+no_turn = refl
+
+none_below_zero : counted (negsuc 1) 0 9 ≡ Some (record { events = []; end = Stopped; lines = [] })
+none_below_zero = refl
+
+-- 2.5 is no integer
+no_integer : counted (pos 25) 1 9 ≡ Some (record { events = []; end = Faulted evaluated.Data 1; lines = [] })
+no_integer = refl
+
 -- ---- code paragraphs
 
 -- MAIN performs A thru B, shows "C" and stops. A shows "A", B shows "B". What MAIN performs last, and the address to which a jump in A leads,
@@ -441,6 +475,13 @@ number_left = refl
 finds_no_place : known_along code.tables (Accept ∷ []) empty ≡ None
 finds_no_place = refl
 
+-- `count number` wants a number, and takes it
+finds_none_to_count : known_along code.tables (CountNumber (counter 0) ∷ []) empty ≡ None
+finds_none_to_count = refl
+
+number_taken : known_along table_of_three (number 0 ∷ CountNumber (counter 1) ∷ Join ∷ []) empty ≡ Some empty
+number_taken = refl
+
 -- ---- bytes of instructions
 
 tick_spelt : instruction_bytes (Tick 258) ≡ 1 ∷ 0 ∷ 0 ∷ 1 ∷ 2 ∷ []
@@ -490,12 +531,16 @@ back_spelt : instruction_bytes (Back (paragraph 258)) ≡ 12 ∷ 0 ∷ 0 ∷ 0 �
 unfolding count_bytes
 back_spelt = refl
 
--- no instruction begins with 0 or 13
+count_number_spelt : instruction_bytes (CountNumber (counter 258)) ≡ 13 ∷ 0 ∷ 0 ∷ 0 ∷ 0 ∷ 0 ∷ 0 ∷ 1 ∷ 2 ∷ []
+unfolding count_bytes
+count_number_spelt = refl
+
+-- no instruction begins with 0 or 14
 no_instruction : instruction_at (0 ∷ []) ≡ Err faults.Value
 unfolding instruction_at data_instruction_at byte_at plain_instruction_of
 no_instruction = refl
 
-unknown : instruction_at (13 ∷ []) ≡ Err faults.Value
+unknown : instruction_at (14 ∷ []) ≡ Err faults.Value
 unfolding instruction_at data_instruction_at byte_at plain_instruction_of
 unknown = refl
 

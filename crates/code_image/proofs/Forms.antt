@@ -16,9 +16,9 @@ use Rattle.image_tables.proofs.Forms.{IsBytes-drop, guard_passed, ok_is, failed,
 use Rattle.image_tables.proofs.Numbers.{count_form, short_form}
 use Rattle.image_tables.proofs.Instructions.{data_instruction_form}
 use Rattle.code_image.specs.declared.instruction.Instruction.{Instruction}
-use Rattle.code_image.specs.declared.instruction.Instruction.TheVariants.{Tick, Show, Stop, Count, Turn, Accept, Date, Branch, Jump, Join, Perform, Back, Data}
+use Rattle.code_image.specs.declared.instruction.Instruction.TheVariants.{Tick, Show, Stop, Count, CountNumber, Turn, Accept, Date, Branch, Jump, Join, Perform, Back, Data}
 use Rattle.code_image.specs.Spelling.{mark, instruction_bytes, HasNumbers}
-use Rattle.code_image.specs.Reading.{after_mark, alone_at, count_instruction_at, turn_at, branch_at, jump_at, perform_at, back_at, data_at, instruction_at}
+use Rattle.code_image.specs.Reading.{after_mark, alone_at, count_instruction_at, turn_at, branch_at, jump_at, perform_at, back_at, count_number_at, data_at, instruction_at}
 
 -- ---- the mark
 
@@ -90,11 +90,16 @@ data_took bytes x is e =
 back_took : (rest : List ℕ) (x : Instruction × List ℕ) → IsBytes rest → back_at rest ≡ Ok x → Reads 12 rest x
 back_took rest x is e = behind_took instruction_bytes HasNumbers count_form 12 (λ a. Back (record { number = a })) (λ a. refl) (λ a h. h) rest x is e
 
+count_number_took : (rest : List ℕ) (x : Instruction × List ℕ) → IsBytes rest → count_number_at rest ≡ Ok x → Reads 13 rest x
+count_number_took rest x is e =
+    behind_took instruction_bytes HasNumbers count_form 13 (λ a. CountNumber (record { number = a })) (λ a. refl) (λ a h. h) rest x is e
+
 -- what is read where the first byte is none of the first ten
 abbrev last_at : ℕ → List ℕ → Read Instruction
 last_at n rest =
     if n == 11 then perform_at rest
     else if n == 12 then back_at rest
+    else if n == 13 then count_number_at rest
     else data_at (n ∷ rest)
 
 last_took : (n : ℕ) (rest : List ℕ) (x : Instruction × List ℕ) → IsBytes (n ∷ rest) → last_at n rest ≡ Ok x → Reads n rest x
@@ -104,7 +109,10 @@ last_took n rest x all e =
       | inl p ↦ byte_is instruction_bytes HasNumbers 11 n rest x p.0 (perform_took rest x is p.1)
       | inr q ↦ elim (chosen (eqb n 12) _ _ _ q.1) [
         | inl p ↦ byte_is instruction_bytes HasNumbers 12 n rest x p.0 (back_took rest x is p.1)
-        | inr r ↦ data_took (n ∷ rest) x all r.1
+        | inr r ↦ elim (chosen (eqb n 13) _ _ _ r.1) [
+          | inl p ↦ byte_is instruction_bytes HasNumbers 13 n rest x p.0 (count_number_took rest x is p.1)
+          | inr s ↦ data_took (n ∷ rest) x all s.1
+        ]
       ]
     ]
 
@@ -226,6 +234,7 @@ instruction_again (Perform line first last) rest h =
     ∙ part_again count_form first.number (count_bytes last.number ++ rest) (λ first. count_at first.1 >>= last_from line first.0) h.1
     ∙ part_again count_form last.number rest (last_from line first.number) h.2
 instruction_again (Back paragraph) rest h = part_again count_form paragraph.number rest (λ paragraph. Ok (Back (record { number = paragraph.0 }), paragraph.1)) h
+instruction_again (CountNumber counter) rest h = part_again count_form counter.number rest (λ counter. Ok (CountNumber (record { number = counter.0 }), counter.1)) h
 instruction_again (Data one) rest h = data_again one rest h
 
 pub instruction_form : IsForm instruction_at instruction_bytes HasNumbers

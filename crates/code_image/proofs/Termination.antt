@@ -1,11 +1,14 @@
 -- Verified code comes to an end, whatever the budget: each instruction finds what it needs, each way back, of a turn, a branch or a jump,
 -- goes to what uses one of the budget, and so does each code paragraph that is performed. Between two of them each step takes a `perform`
 -- that has not come back from those that there are, or it leaves them as they are and goes to a later address.
-use Rattle.std.proofs.Common.{◌≡◌, ◌==◌, ℕ, zero, suc, ◌+◌, ◌<◌, ◌≤◌, List, [], ◌∷◌, length, get_or, All, Bool, true, false, Option, Some, refl, ◌∙◌, ap, subst, inl, inr, arith}
+use Rattle.std.proofs.Common.{◌≡◌, ◌==◌, ℕ, zero, suc, ◌+◌, ◌<◌, ◌≤◌, List, [], ◌∷◌, length, get_or, All, Bool, true, false, Option, Some, Ok, Err, refl, ◌∙◌, ap, subst, inl, inr, arith}
 use Rattle.std.specs.Prelude.{slice_get, slice_index, slice_set}
 use Rattle.std.proofs.lemmas.List.Elements.{All-cons, All-head, All-tail}
 use Rattle.std.proofs.lemmas.Option.{slice_get-get_or, same_Some}
+use Rattle.decimal18.specs.Fraction.{Fraction}
 use Rattle.source_tree.specs.State.{Stopped, Budget, Faulted}
+use Rattle.source_tree.specs.Evaluated.{Evaluated, ◌>>=◌, needed}
+use Rattle.source_tree.specs.Performing.{turns_by}
 use Rattle.source_tree.specs.Given.{Given}
 use Rattle.source_tree.specs.Meaning.{Run}
 use Rattle.source_tree.specs.Accepting.{next_line}
@@ -20,12 +23,12 @@ use Rattle.code_image.specs.declared.code.Code.{Code}
 use Rattle.code_image.specs.declared.counter.CounterIndex.{CounterIndex}
 use Rattle.code_image.specs.declared.paragraph.ParagraphIndex.{ParagraphIndex}
 use Rattle.code_image.specs.declared.instruction.Instruction.{Instruction}
-use Rattle.code_image.specs.declared.instruction.Instruction.TheVariants.{Tick, Show, Stop, Count, Turn, Accept, Date, Branch, Jump, Join, Perform, Back, Data}
+use Rattle.code_image.specs.declared.instruction.Instruction.TheVariants.{Tick, Show, Stop, Count, CountNumber, Turn, Accept, Date, Branch, Jump, Join, Perform, Back, Data}
 use Rattle.code_image.specs.Demands.{UsesBudget, IsVerified}
 use Rattle.code_image.specs.Points.{Return, Point, scratch_of, first_point}
-use Rattle.code_image.specs.Table.{onward, over, tick_from, shown_point, worked_point, data_from, turn_from, branch_from, performing, perform_at, back_if, back_from, line_taken, act, exec_code, Runs}
+use Rattle.code_image.specs.Table.{onward, over, tick_from, shown_point, worked_point, data_from, counted_turns, counted_by, counted_from, turn_from, branch_from, performing, perform_at, back_if, back_from, line_taken, act, exec_code, Runs}
 use Rattle.code_image.proofs.WellFormed.{IsWellFormed, BudgetAt, LeadsWithin, GoesWithin, PerformsWithin, well_formed, begins}
-use Rattle.code_image.proofs.Standing.{Known, known_next, known_behind_rest, known_behind_join, known_at_start, known_behind_perform, ComesBack, Stands, StandsAtRest, stands_first, rests_here, stands_elsewhere, stands_after_count}
+use Rattle.code_image.proofs.Standing.{Known, known_next, known_behind_rest, known_behind_join, known_at_start, known_behind_perform, ComesBack, Stands, StandsAtRest, stands_first, rests_here, stands_elsewhere, stands_after_count, number_here, stands_after_number}
 
 module _ (code : Code) (verified : IsVerified code) where
   -- the run ends from this point on
@@ -88,6 +91,7 @@ module _ (code : Code) (verified : IsVerified code) where
   budget_ends Show uses p here rest is sooner = absurd uses
   budget_ends Stop uses p here rest is sooner = absurd uses
   budget_ends (Count counter turns) uses p here rest is sooner = absurd uses
+  budget_ends (CountNumber counter) uses p here rest is sooner = absurd uses
   budget_ends (Turn counter to) uses p here rest is sooner = absurd uses
   budget_ends Accept uses p here rest is sooner = absurd uses
   budget_ends Date uses p here rest is sooner = absurd uses
@@ -115,6 +119,32 @@ module _ (code : Code) (verified : IsVerified code) where
       → Onward p → Ends (record p { address = to })
   goes_ends p stands rest to known later within onward_ends =
       onward_ends.by (record p { address = to }) later within (omega arith) (omega arith) (stands_elsewhere code verified p stands rest to known)
+
+  -- at a `count number`, whatever the number says
+  module _ (counter : CounterIndex) (p : Point) (here : slice_get code.instructions p.address ≡ Some (CountNumber counter)) (stands : Stands code p)
+      (within : p.address + 1 < length code.instructions) (onward_ends : Onward p) where
+    counted_ends : (turns : ℕ) (newest : Option Fraction) (older : List (Option Fraction)) → p.own.numbers ≡ newest ∷ older
+        → (m : ℕ) × (run : Run) × (counted_turns turns older counter.number (exec_code code m) p ≡ Some run)
+    counted_ends zero newest older is =
+        onward_ends.by (record p { address = p.address + 1; own = record p.own { numbers = older; truth = false } }) (omega arith) within (omega arith) (omega arith)
+        (stands_after_number code verified p stands counter here newest older is p.own.counters false)
+    counted_ends (suc more) newest older is =
+        let counters = slice_set p.own.counters counter.number more in
+        onward_ends.by (record p { address = p.address + 1; own = record p.own { counters = counters; numbers = older; truth = true } })
+        (omega arith) within (omega arith) (omega arith)
+        (stands_after_number code verified p stands counter here newest older is counters true)
+
+    counted_by_ends : (turns : Evaluated ℕ) (newest : Option Fraction) (older : List (Option Fraction)) → p.own.numbers ≡ newest ∷ older
+        → (m : ℕ) × (run : Run) × (counted_by turns older counter.number (exec_code code m) p ≡ Some run)
+    counted_by_ends (Ok turns) newest older is = counted_ends turns newest older is
+    counted_by_ends (Err fault) newest older is = (0, over (Faulted fault p.state.line) p.state, refl)
+
+    number_ends : (numbers : List (Option Fraction)) → p.own.numbers ≡ numbers
+        → (m : ℕ) × (run : Run) × (counted_from numbers counter.number (exec_code code m) p ≡ Some run)
+    number_ends [] none =
+        let some = number_here code verified p stands counter here in
+        absurd (omega (arith, some, ap length none))
+    number_ends (newest ∷ older) is = counted_by_ends (needed newest >>= turns_by) newest older is
 
   turn_ends : (left : ℕ) (counter : CounterIndex) (to : ℕ) (p : Point) → slice_get code.instructions p.address ≡ Some (Turn counter to)
       → Stands code p
@@ -193,6 +223,8 @@ module _ (code : Code) (verified : IsVerified code) where
       let counters = slice_set p.own.counters counter.number turns in
       onward_ends.by (record p { address = p.address + 1; own = record p.own { counters = counters } }) (omega arith) is.0 (omega arith) (omega arith)
       (stands_after_count code verified p stands counter turns here counters)
+  act_ends (CountNumber counter) p here stands is onward_ends shorter sooner =
+      number_ends counter p here stands is.0 onward_ends p.own.numbers refl
   act_ends (Turn counter to) p here stands is onward_ends shorter sooner =
       turn_ends (slice_index p.own.counters counter.number) counter to p here stands is onward_ends sooner
   act_ends Accept p here stands is onward_ends shorter sooner =

@@ -8,7 +8,7 @@ use Rattle.image_tables.specs.Tables.{tables_at}
 use Rattle.image_tables.specs.Instructions.{data_instruction_at}
 use Rattle.code_image.specs.declared.code.Code.{Code}
 use Rattle.code_image.specs.declared.instruction.Instruction.{Instruction}
-use Rattle.code_image.specs.declared.instruction.Instruction.TheVariants.{Tick, Show, Stop, Count, Turn, Accept, Date, Branch, Jump, Join, Perform, Back, Data}
+use Rattle.code_image.specs.declared.instruction.Instruction.TheVariants.{Tick, Show, Stop, Count, CountNumber, Turn, Accept, Date, Branch, Jump, Join, Perform, Back, Data}
 use Rattle.code_image.specs.Spelling.{mark}
 
 -- the bytes after the mark
@@ -57,6 +57,11 @@ back_at bytes = do
   paragraph ← count_at bytes
   Ok (Back (record { number = paragraph.0 }), paragraph.1)
 
+abbrev pub count_number_at : List ℕ → Read Instruction
+count_number_at bytes = do
+  counter ← count_at bytes
+  Ok (CountNumber (record { number = counter.0 }), counter.1)
+
 -- an instruction on data, with its first byte
 abbrev pub data_at : List ℕ → Read Instruction
 data_at bytes = do
@@ -78,6 +83,7 @@ instruction_at (byte ∷ bytes) =
     else if byte == 10 then alone_at Join bytes
     else if byte == 11 then perform_at bytes
     else if byte == 12 then back_at bytes
+    else if byte == 13 then count_number_at bytes
     else data_at (byte ∷ bytes)
 
 -- all of the bytes

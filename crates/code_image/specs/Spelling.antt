@@ -5,7 +5,7 @@ use Rattle.image_tables.specs.Tables.{tables_bytes, HasTables}
 use Rattle.image_tables.specs.Instructions.{data_instruction_bytes, HasShorts}
 use Rattle.code_image.specs.declared.code.Code.{Code}
 use Rattle.code_image.specs.declared.instruction.Instruction.{Instruction}
-use Rattle.code_image.specs.declared.instruction.Instruction.TheVariants.{Tick, Show, Stop, Count, Turn, Accept, Date, Branch, Jump, Join, Perform, Back, Data}
+use Rattle.code_image.specs.declared.instruction.Instruction.TheVariants.{Tick, Show, Stop, Count, CountNumber, Turn, Accept, Date, Branch, Jump, Join, Perform, Back, Data}
 
 -- COBIMG01
 abbrev pub mark : List ℕ
@@ -25,6 +25,7 @@ instruction_bytes (Jump to) = 9 ∷ count_bytes to
 instruction_bytes Join = 10 ∷ []
 instruction_bytes (Perform line first last) = 11 ∷ (short_bytes line ++ count_bytes first.number ++ count_bytes last.number)
 instruction_bytes (Back paragraph) = 12 ∷ count_bytes paragraph.number
+instruction_bytes (CountNumber counter) = 13 ∷ count_bytes counter.number
 instruction_bytes (Data one) = data_instruction_bytes one
 
 -- The mark; the tables of data; the starts of code paragraphs; the instructions.
@@ -44,6 +45,7 @@ HasNumbers (Jump to) = IsCount to
 HasNumbers Join = Unit {0}
 HasNumbers (Perform line first last) = IsShort line × IsCount first.number × IsCount last.number
 HasNumbers (Back paragraph) = IsCount paragraph.number
+HasNumbers (CountNumber counter) = IsCount counter.number
 HasNumbers (Data one) = HasShorts one
 
 -- Each number of the code fits its bytes. This is so of each `Code` that a program holds.

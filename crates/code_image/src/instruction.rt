@@ -6,7 +6,7 @@ ghost use Rattle.image_tables.specs.Faults.{fault_of};
 ghost use Rattle.image_tables.specs.Spelling.{count_bytes, short_bytes, IsCount, IsShort};
 ghost use Rattle.code_image.specs.Demands.{NamesData, NamesCounter, NamesParagraph};
 ghost use Rattle.code_image.specs.Spelling.{instruction_bytes, HasNumbers};
-ghost use Rattle.code_image.specs.Reading.{tick_at, count_instruction_at, turn_at, branch_at, jump_at, perform_at, back_at, instruction_at};
+ghost use Rattle.code_image.specs.Reading.{tick_at, count_instruction_at, turn_at, branch_at, jump_at, perform_at, back_at, count_number_at, instruction_at};
 
 use crate::counter::CounterIndex;
 use crate::paragraph::ParagraphIndex;
@@ -32,6 +32,11 @@ pub enum Instruction {
     Count {
         counter: CounterIndex,
         turns: u64,
+    },
+    /// Takes a number, which has to be an integer. Where it is above 0, sets a counter to one less, at most to 2^64 - 2, and the truth to
+    /// true; else the truth to false.
+    CountNumber {
+        counter: CounterIndex,
     },
     /// Where a counter is above 0, lowers it by one and goes to the address; else goes on.
     Turn {
@@ -79,6 +84,7 @@ impl Instruction {
             | Instruction::Show
             | Instruction::Stop
             | Instruction::Count { .. }
+            | Instruction::CountNumber { .. }
             | Instruction::Turn { .. }
             | Instruction::Accept
             | Instruction::Date
@@ -95,9 +101,9 @@ impl Instruction {
         ensures { IsTrue result ↔ NamesCounter count self }
     {
         match self {
-            Instruction::Count { counter, .. } | Instruction::Turn { counter, .. } => {
-                counter.number < count
-            }
+            Instruction::Count { counter, .. }
+            | Instruction::CountNumber { counter }
+            | Instruction::Turn { counter, .. } => counter.number < count,
             Instruction::Tick { .. }
             | Instruction::Show
             | Instruction::Stop
@@ -123,6 +129,7 @@ impl Instruction {
             | Instruction::Show
             | Instruction::Stop
             | Instruction::Count { .. }
+            | Instruction::CountNumber { .. }
             | Instruction::Turn { .. }
             | Instruction::Accept
             | Instruction::Date
@@ -159,6 +166,8 @@ const PERFORM: u8 = 11;
 
 const BACK: u8 = 12;
 
+const COUNT_NUMBER: u8 = 13;
+
 fn put_tick(out: &mut Vec<u8>, line: u32) -> Result<(), AllocError>
     ensures bytes { OnOk result (out.new.items ≡ out.old.items ++ (1 ∷ short_bytes line)) }
     ensures fits { IsShort line }
@@ -182,7 +191,7 @@ fn put_counting(
     put_count(out, number)
 }
 
-/// An instruction that names an address.
+/// An instruction that names an address, a code paragraph or a counter, and nothing else.
 fn put_leading(out: &mut Vec<u8>, first: u8, to: usize) -> Result<(), AllocError>
     ensures bytes { OnOk result (out.new.items ≡ out.old.items ++ (first ∷ count_bytes to)) }
     ensures fits { IsCount to }
@@ -265,6 +274,14 @@ fn read_back(bytes: &[u8]) -> Result<(Instruction, &[u8]), ImageError>
     Ok((Instruction::Back { paragraph }, rest))
 }
 
+fn read_count_number(bytes: &[u8]) -> Result<(Instruction, &[u8]), ImageError>
+    ensures { Gives (λ x. (x.0, x.1.now)) fault_of result (count_number_at bytes.now) }
+{
+    let (number, rest) = read_count(bytes)?;
+    let counter = CounterIndex { number };
+    Ok((Instruction::CountNumber { counter }, rest))
+}
+
 impl TableEntry for Instruction {
     ghost spelled = { instruction_bytes };
 
@@ -288,6 +305,7 @@ impl TableEntry for Instruction {
             Instruction::Join => Ok(out.push(JOIN)?),
             Instruction::Perform { line, first, last } => put_perform(out, line, first, last),
             Instruction::Back { paragraph } => put_leading(out, BACK, paragraph.number),
+            Instruction::CountNumber { counter } => put_leading(out, COUNT_NUMBER, counter.number),
             Instruction::Data(one) => one.put(out),
         }
     }
@@ -308,6 +326,7 @@ impl TableEntry for Instruction {
             [JOIN, rest @ ..] => Ok((Instruction::Join, rest)),
             [PERFORM, rest @ ..] => read_perform(rest),
             [BACK, rest @ ..] => read_back(rest),
+            [COUNT_NUMBER, rest @ ..] => read_count_number(rest),
             [_, ..] => {
                 let (one, rest) = DataInstruction::read(alloc, bytes)?;
                 Ok((Instruction::Data(one), rest))

@@ -6,7 +6,7 @@ ghost use Rattle.code_image.specs.Known.{FindsOperands};
 
 use crate::code::Code;
 use crate::instruction::Instruction;
-use data_instructions::{DataTables, Shape, accepting, dating, effect, showing};
+use data_instructions::{DataTables, Shape, Stacks, accepting, dating, effect, showing};
 use std::alloc::{AllocError, Global};
 
 /// What is known where a statement begins, if nothing is on the stacks or in the line.
@@ -18,6 +18,30 @@ fn at_rest(alloc: Global, shape: &Shape) -> Option<Shape>
     } else {
         None
     }
+}
+
+/// What is known after `count number`, which takes a number.
+fn taking_number(shape: Shape) -> Option<Shape>
+    ensures { result ≡ spec.taking_number shape }
+{
+    let Shape {
+        stacks,
+        line,
+        sender,
+    } = shape;
+    let Stacks { numbers, places } = stacks;
+    if numbers == 0 {
+        return None;
+    }
+    let stacks = Stacks {
+        numbers: numbers - 1,
+        places,
+    };
+    Some(Shape {
+        stacks,
+        line,
+        sender,
+    })
 }
 
 impl Instruction {
@@ -41,6 +65,7 @@ impl Instruction {
             Instruction::Show => Ok(Some(showing(shape))),
             Instruction::Stop => Ok(Some(Shape::empty(alloc))),
             Instruction::Count { .. } => Ok(Some(shape)),
+            Instruction::CountNumber { .. } => Ok(taking_number(shape)),
             Instruction::Accept => Ok(accepting(shape)),
             Instruction::Date => Ok(dating(tables, shape)),
             Instruction::Data(one) => effect(tables, one, shape),

@@ -1,34 +1,40 @@
 -- The code of a statement doesn't depend on the instructions before it, but on how many there are.
 use Rattle.std.proofs.Common.{ℕ, zero, suc, List, [], ◌∷◌, length, Option, Some, None, ap, ◌∙◌, subst}
+use Rattle.source_tree.specs.declared.condition.Condition.{Condition}
 use Rattle.source_tree.specs.declared.branching.Branching.{Branching}
-use Rattle.source_tree.specs.declared.branching.Branching.TheVariants.{If}
+use Rattle.source_tree.specs.declared.branching.Branching.TheVariants as branch
+use Rattle.source_tree.specs.declared.evaluate.Subject.{Subject}
+use Rattle.source_tree.specs.declared.evaluate.Selected.{Selected}
 use Rattle.source_tree.specs.declared.ending.Ending.{Ending}
 use Rattle.source_tree.specs.declared.ending.Ending.TheVariants as ending
 use Rattle.source_tree.specs.declared.performing.Performed.{Performed}
 use Rattle.source_tree.specs.declared.performing.Performed.TheVariants.{Procedures, Statements}
 use Rattle.source_tree.specs.declared.performing.Turns.{Turns}
-use Rattle.source_tree.specs.declared.performing.Turns.TheVariants.{Once, Times, Until}
+use Rattle.source_tree.specs.declared.performing.Turns.TheVariants.{Once, Times, CountedBy, Until}
 use Rattle.source_tree.specs.declared.statement.Verb.{Verb}
 use Rattle.source_tree.specs.declared.statement.Verb.TheVariants as verb
 use Rattle.source_tree.specs.declared.statement.Statement.{Statement, roll-Statement}
 use Rattle.source_tree.specs.declared.statement.Statement.TheOpen.{Statement-F}
 use Rattle.source_tree.specs.declared.statement.Statement.TheFolds.{map-Statement, ind-Statement}
 use Rattle.source_tree.specs.Arithmetic.{is_there}
+use Rattle.source_tree.specs.Evaluate.{selected_asked}
 use Rattle.source_tree.specs.Performing.{turns_of}
 use Rattle.source_tree.specs.Places.{Placed}
 use Rattle.source_tree.specs.Procedures.{Range, range_of}
 use Rattle.source_tree.specs.Setting.{Scope}
+use Rattle.data_instructions.specs.declared.instruction.DataInstruction.TheVariants as i
 use Rattle.code_image.specs.declared.code.Code.{Code}
-use Rattle.code_image.specs.declared.instruction.Instruction.TheVariants.{Tick, Stop, Count}
+use Rattle.code_image.specs.declared.instruction.Instruction.TheVariants.{Tick, Stop, Count, CountNumber}
 use Rattle.codegen.specs.Pieces.{Piece, nothing, joined, both, in_order, plain}
+use Rattle.codegen.specs.DataCode.{taking_piece}
 use Rattle.codegen.specs.ArithmeticCode.{arithmetic_piece}
-use Rattle.codegen.specs.Meeting.{either_piece}
+use Rattle.codegen.specs.Meeting.{either_piece, nothing_piece}
 use Rattle.codegen.specs.ConditionCode.{condition_piece}
 use Rattle.codegen.specs.UntilCode.{tick_piece, until_piece}
-use Rattle.codegen.specs.Layout.{ending_piece, loop_begin, loop_end, times_piece, turns_piece, moving_piece, texts_piece, range_piece, turn_piece, phrase_piece, phrases_from, branching_piece, verb_piece, statement_piece}
-use Rattle.codegen.proofs.Blind.{alike_joined, Blind, blind_as, constant_blind, count_blind, both_blind, in_order_blind, moving_blind, texts_blind}
+use Rattle.codegen.specs.Layout.{ending_piece, loop_begin, count_begin, turn_end, counted_turn, times_piece, counted_piece, turns_piece, moving_piece, texts_piece, range_piece, turn_piece, phrase_piece, phrases_from, selecting_piece, branching_piece, verb_piece, statement_piece}
+use Rattle.codegen.proofs.Blind.{Blind, blind_as, constant_blind, count_blind, both_blind, in_order_blind, taking_blind, moving_blind, texts_blind}
 use Rattle.codegen.proofs.BlindArithmetic.{arithmetic_blind}
-use Rattle.codegen.proofs.ConditionBlind.{condition_blind}
+use Rattle.codegen.proofs.ConditionBlind.{nothing_blind, condition_blind}
 use Rattle.codegen.proofs.Either.{either_blind}
 use Rattle.codegen.proofs.Layers.{verb_map, rolled_is}
 use Rattle.codegen.proofs.UntilBlind.{tick_blind, until_blind}
@@ -43,17 +49,34 @@ ending_blind line ending.Exit = tick_blind line
 begin_blind : (more : ℕ) → Blind (loop_begin more)
 begin_blind more = count_blind (λ (n : ℕ). plain (Count (record { number = n }) more ∷ []))
 
+count_begin_blind : Blind count_begin
+count_begin_blind = count_blind (λ (n : ℕ). plain (CountNumber (record { number = n }) ∷ []))
+
+-- the way back knows how many instructions stand before the turn
+pub counted_turn_blind : (begin : ℕ) (turn : Piece) → Blind turn → Blind (counted_turn begin turn)
+counted_turn_blind begin turn f = record {
+  by = λ a b alike.
+      ap (λ (c : Code). joined c (turn_end begin (length a.instructions))) (f.by a b alike)
+      ∙ ap (λ (n : ℕ). joined (turn b) (turn_end begin n)) alike.count;
+}
+
+-- what begins a loop, and what comes behind it, which knows where that is
+loop_blind : (begin : Piece) (inner : ℕ → Piece) → Blind begin → ((n : ℕ) → Blind (inner n))
+    → Blind (λ before. both begin (inner (length before.instructions)) before)
+loop_blind begin inner f g = record {
+  by = λ a b alike.
+      (both_blind begin (inner (length a.instructions)) f (g (length a.instructions))).by a b alike
+      ∙ ap (λ (n : ℕ). both begin (inner n) b) alike.count;
+}
+
 times_blind : (count : ℕ) (turn : Piece) → Blind turn → Blind (times_piece count turn)
 times_blind zero turn f = constant_blind nothing
-times_blind (suc more) turn f = record {
-  by = λ a b alike.
-      let begin = (begin_blind more).by a b alike in
-      let inner = alike_joined a b (loop_begin more a) (loop_begin more b) alike begin in
-      ap (λ (c : Code). joined c (joined (turn (joined a (loop_begin more a))) (loop_end (length a.instructions)))) begin
-      ∙ ap (λ (c : Code). joined (loop_begin more b) (joined c (loop_end (length a.instructions))))
-      (f.by (joined a (loop_begin more a)) (joined b (loop_begin more b)) inner)
-      ∙ ap (λ (n : ℕ). joined (loop_begin more b) (joined (turn (joined b (loop_begin more b))) (loop_end n))) alike.count;
-}
+times_blind (suc more) turn f = loop_blind (loop_begin more) (λ n. counted_turn n turn) (begin_blind more) (λ n. counted_turn_blind n turn f)
+
+counted_blind : (turn : Piece) → Blind turn → Blind (counted_piece turn)
+counted_blind turn f =
+    loop_blind count_begin (λ n. either_piece (counted_turn n turn) nothing_piece) count_begin_blind
+    (λ n. either_blind (counted_turn n turn) nothing_piece (counted_turn_blind n turn f) nothing_blind)
 
 -- the paragraphs of a range
 range_blind : (line : ℕ) (range : Option Range) → Blind (range_piece line range)
@@ -66,6 +89,10 @@ turns_blind : (items : List Placed) (line : ℕ) (often : Turns) (turn : Piece) 
 turns_blind items line Once turn f = f
 turns_blind items line (Times count) turn f =
     both_blind (tick_piece line) (times_piece (turns_of count) turn) (tick_blind line) (times_blind (turns_of count) turn f)
+turns_blind items line (CountedBy one) turn f =
+    let number = taking_piece items i.Push one in
+    both_blind (tick_piece line) (both number (counted_piece turn)) (tick_blind line)
+    (both_blind number (counted_piece turn) (taking_blind items i.Push one) (counted_blind turn f))
 turns_blind items line (Until one) turn f =
     both_blind (tick_piece line) (until_piece items one turn) (tick_blind line) (until_blind items one turn f)
 
@@ -92,14 +119,28 @@ module _ (scope : Scope) where
         either_blind (phrase_piece scope inside None) (phrase_piece scope inside (Some statements)) (phrase_blind None)
         (phrase_blind (Some statements))
 
+    -- a condition, and the two ways behind it
+    tested_blind : (condition : Condition) (first second : Piece) → Blind first → Blind second
+        → Blind (both (condition_piece items condition) (either_piece first second))
+    tested_blind condition first second f g =
+        both_blind (condition_piece items condition) (either_piece first second) (condition_blind items condition) (either_blind first second f g)
+
+    pub selecting_blind : (subjects : List Subject) (selected : List (Selected S)) (other : Option (List S))
+        → Blind (selecting_piece scope inside subjects selected other)
+    selecting_blind subjects [] other = phrase_blind other
+    selecting_blind subjects (one ∷ more) other =
+        tested_blind (selected_asked items subjects one) (in_order inside one.statements) (selecting_piece scope inside subjects more other)
+        (in_order_blind inside each_one one.statements) (selecting_blind subjects more other)
+
     branching_blind : (line : ℕ) (one : Branching S) → Blind (branching_piece scope inside line one)
-    branching_blind line (If condition statements otherwise) =
-        let test = condition_piece items condition in
-        let ways = either_piece (in_order inside statements) (phrase_piece scope inside otherwise) in
-        both_blind (tick_piece line) (both test ways) (tick_blind line)
-        (both_blind test ways (condition_blind items condition)
-        (either_blind (in_order inside statements) (phrase_piece scope inside otherwise) (in_order_blind inside each_one statements)
-        (phrase_blind otherwise)))
+    branching_blind line (branch.If condition statements otherwise) =
+        let first = in_order inside statements in
+        let second = phrase_piece scope inside otherwise in
+        both_blind (tick_piece line) (both (condition_piece items condition) (either_piece first second)) (tick_blind line)
+        (tested_blind condition first second (in_order_blind inside each_one statements) (phrase_blind otherwise))
+    branching_blind line (branch.Evaluate one) =
+        both_blind (tick_piece line) (selecting_piece scope inside one.subjects one.selected one.other) (tick_blind line)
+        (selecting_blind one.subjects one.selected one.other)
 
     verb_blind : (line : ℕ) (one : Verb S) → Blind (verb_piece scope inside line one)
     verb_blind line (verb.Moving one) = both_blind (tick_piece line) (moving_piece items one) (tick_blind line) (moving_blind items one)

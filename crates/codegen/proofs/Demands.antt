@@ -1,16 +1,19 @@
 -- The code of a program names what is there, and its ways lead where they may, where the rules are kept.
-use Rattle.std.proofs.Common.{◌≡◌, ℕ, zero, suc, ◌+◌, List, [], ◌∷◌, ◌++◌, length, Option, Some, None, refl, sym, ap, ◌∙◌, subst, inr, arith, append_assoc, length-append}
+use Rattle.std.proofs.Common.{◌≡◌, ℕ, zero, suc, ◌+◌, ◌<◌, List, [], ◌∷◌, ◌++◌, length, Option, Some, None, refl, sym, ap, ◌∙◌, subst, inr, arith, append_assoc, length-append}
 use Rattle.std.specs.Prelude.{Bool, false, slice_get}
 use Rattle.std.specs.List.{AllByRecursion}
 use Rattle.lexical.specs.declared.place.Place.{Place}
 use Rattle.source_tree.specs.declared.branching.Branching.{Branching}
-use Rattle.source_tree.specs.declared.branching.Branching.TheVariants.{If}
+use Rattle.source_tree.specs.declared.branching.Branching.TheVariants as branch
+use Rattle.source_tree.specs.declared.condition.Condition.{Condition}
+use Rattle.source_tree.specs.declared.evaluate.Subject.{Subject}
+use Rattle.source_tree.specs.declared.evaluate.Selected.{Selected}
 use Rattle.source_tree.specs.declared.ending.Ending.TheVariants as ending
 use Rattle.source_tree.specs.declared.moving.Moving.TheVariants.{Move}
 use Rattle.source_tree.specs.declared.performing.Performed.{Performed}
 use Rattle.source_tree.specs.declared.performing.Performed.TheVariants.{Procedures, Statements}
 use Rattle.source_tree.specs.declared.performing.Turns.{Turns}
-use Rattle.source_tree.specs.declared.performing.Turns.TheVariants.{Once, Times, Until}
+use Rattle.source_tree.specs.declared.performing.Turns.TheVariants.{Once, Times, CountedBy, Until}
 use Rattle.source_tree.specs.declared.until.TestTime.{TestTime}
 use Rattle.source_tree.specs.declared.until.TestTime.TheVariants.{Before, After}
 use Rattle.source_tree.specs.declared.until.Until as until
@@ -25,10 +28,12 @@ use Rattle.source_tree.specs.Arithmetic.{is_there}
 use Rattle.source_tree.specs.ArithmeticRules.{number_rules, operation_rules}
 use Rattle.source_tree.specs.Broken.{Broken, each}
 use Rattle.source_tree.specs.ConditionRules.{condition_rules, varying_rules, until_rules}
+use Rattle.source_tree.specs.Evaluate.{selected_asked}
+use Rattle.source_tree.specs.EvaluateRules.{selected_rules}
 use Rattle.source_tree.specs.MoveRules.{move_rules}
 use Rattle.source_tree.specs.Performing.{turns_of}
 use Rattle.source_tree.specs.Procedures.{Range, range_of}
-use Rattle.source_tree.specs.Recursion.{Performance, each_performs, phrase_performs, range_performs, performed_performs, branching_performs, verb_performs, statement_performs, sentence_performs}
+use Rattle.source_tree.specs.Recursion.{Performance, each_performs, phrase_performs, range_performs, performed_performs, selected_performs, branching_performs, verb_performs, statement_performs, sentence_performs}
 use Rattle.source_tree.specs.Setting.{Scope}
 use Rattle.source_tree.specs.Places.{Placed}
 use Rattle.source_tree.specs.Until.{vary_operation}
@@ -36,27 +41,28 @@ use Rattle.source_tree.specs.Rules.{phrase_rules, phrases_rules, performed_rules
 use Rattle.data_instructions.specs.declared.instruction.DataInstruction.TheVariants as i
 use Rattle.code_image.specs.declared.code.Code.{Code}
 use Rattle.code_image.specs.declared.instruction.Instruction.{Instruction}
-use Rattle.code_image.specs.declared.instruction.Instruction.TheVariants.{Tick, Stop, Count, Turn, Branch, Perform}
-use Rattle.code_image.specs.Demands.{UsesBudget, ends_in}
+use Rattle.code_image.specs.declared.instruction.Instruction.TheVariants.{Tick, Stop, Turn, Branch, Perform}
+use Rattle.code_image.specs.Demands.{UsesBudget, ends_in, LeadsBack}
 use Rattle.check_rules.proofs.RuleLayers.{mapped_rules}
 use Rattle.check_rules.proofs.PerformLayers.{mapped_performs}
 use Rattle.codegen.specs.Pieces.{Piece, joined, both, in_order}
 use Rattle.codegen.specs.Meeting.{branch_code, either_piece, nothing_piece}
-use Rattle.codegen.specs.DataCode.{work_piece}
+use Rattle.codegen.specs.DataCode.{work_piece, taking_piece}
 use Rattle.codegen.specs.ArithmeticCode.{arithmetic_piece}
 use Rattle.codegen.specs.ConditionCode.{condition_piece}
 use Rattle.codegen.specs.UntilCode.{tick_piece, turning_piece, until_before_piece, until_after_piece, until_from_piece, vary_begin_piece, vary_on_piece, until_piece}
-use Rattle.codegen.specs.Layout.{loop_begin, loop_end, times_piece, range_piece, turn_piece, turns_piece, moving_piece, texts_piece, phrase_piece, phrases_from, phrases_piece, branching_piece, stop_run_piece, verb_piece, statement_piece, sentence_piece}
+use Rattle.codegen.specs.Layout.{loop_begin, count_begin, turn_end, counted_turn, times_piece, counted_piece, range_piece, turn_piece, turns_piece, moving_piece, texts_piece, phrase_piece, phrases_from, phrases_piece, selecting_piece, branching_piece, stop_run_piece, verb_piece, statement_piece, sentence_piece}
 use Rattle.codegen.proofs.Codes.{left_none, right_none}
 use Rattle.codegen.proofs.Layers.{verb_map, rolled_is}
 use Rattle.codegen.proofs.Standing.{at_seam}
 use Rattle.codegen.proofs.Blind.{Blind, in_order_blind}
 use Rattle.codegen.proofs.ConditionBlind.{nothing_blind, condition_blind}
 use Rattle.codegen.proofs.UntilBlind.{turn_before_blind, onward_blind, vary_on_blind}
-use Rattle.codegen.proofs.BlindStatements.{turn_blind, phrase_blind, statement_blind}
-use Rattle.codegen.proofs.Straight.{AlwaysStraight, work_straight, moving_straight, texts_straight}
+use Rattle.codegen.proofs.EvaluateKept.{statements_of, selected_kept, first_group, other_groups, groups_of, other_of}
+use Rattle.codegen.proofs.BlindStatements.{counted_turn_blind, turn_blind, phrase_blind, selecting_blind, statement_blind}
+use Rattle.codegen.proofs.Straight.{AlwaysStraight, work_straight, taking_straight, moving_straight, texts_straight}
 use Rattle.codegen.proofs.ArithmeticStraight.{arithmetic_straight}
-use Rattle.codegen.proofs.Leading.{none_end, stays_within, plain_names, Meets, both_meet, nothing_meets, straight_meets, either_meets}
+use Rattle.codegen.proofs.Leading.{none_end, stays_within, plain_names, Meets, both_meet, nothing_meets, straight_meets, branch_meets, either_meets}
 use Rattle.codegen.proofs.Ranges.{IsWithin, EndsWithin, FoundWithin, range_within}
 use Rattle.codegen.proofs.ConditionValues.{AreFormed}
 use Rattle.codegen.proofs.ConditionMeets.{condition_meets}
@@ -68,6 +74,36 @@ pub record BeginsWith (part : Code) : Type 0 where
   pub more : List Instruction
   pub is : part.instructions ≡ one ∷ more
   pub budget : UsesBudget (Some one)
+
+-- whatever comes behind it
+begins_longer : (part behind : Code) → BeginsWith part → BeginsWith (joined part behind)
+begins_longer part behind b = record {
+  one = b.one;
+  more = b.more ++ behind.instructions;
+  is = ap (λ (l : List Instruction). l ++ behind.instructions) b.is;
+  budget = b.budget;
+}
+
+-- The last instruction of such a part may lead back to its begin.
+leads_back : (before part : Code) (last : List Instruction) → BeginsWith part → ends_in part.instructions ≡ 0 → ends_in last ≡ 0
+    → LeadsBack ((before.instructions ++ part.instructions) ++ last) (length (before.instructions ++ part.instructions)) (length before.instructions)
+leads_back before part last b none ends =
+    let front = before.instructions in
+    let inner = part.instructions in
+    let whole = (front ++ inner) ++ last in
+    let n1 = length-append front inner in
+    let n2 : length inner ≡ length (b.one ∷ b.more) = ap length b.is in
+    let n3 : length (b.one ∷ b.more) ≡ 1 + length b.more = omega arith in
+    let is : whole ≡ front ++ (inner ++ last) = append_assoc front inner last in
+    let same : whole ≡ front ++ b.one ∷ (b.more ++ last) = is ∙ ap (λ (l : List Instruction). front ++ (l ++ last)) b.is in
+    let here : slice_get whole (length front) ≡ Some b.one =
+    ap (λ (l : List Instruction). slice_get l (length front)) same ∙ at_seam front b.one (b.more ++ last) in
+    record {
+      before = omega (arith, n1, n2, n3);
+      budget = subst UsesBudget (sym here) b.budget;
+      stays = stays_within whole front (inner ++ last) (length (front ++ inner)) (length front) is (none_end inner last none ends) (omega (arith, n1))
+          (omega arith);
+    }
 
 -- a piece, behind whatever code
 abbrev pub Begins : Piece → Type 0
@@ -137,84 +173,66 @@ module _ (Q : Range → Type 0) where
     performs = (tt, tt);
   }
 
+  count_begin_meets : AlwaysMeets count_begin
+  count_begin_meets before = record {
+    names = plain_names before (count_begin before).instructions (omega arith, tt);
+    leads = (tt, tt);
+    starts = refl;
+    none = refl;
+    performs = (tt, tt);
+  }
+
   -- The end of a turn leads back to what the turn begins with, behind the begin of its loop.
-  end_meets : (before begin part : Code) (count : Instruction) → begin.instructions ≡ count ∷ [] → BeginsWith part → ends_in part.instructions ≡ 0
-      → Meets Q (joined (joined before begin) part) (loop_end (length before.instructions))
-  end_meets before begin part count begin_is b none =
-      let to : ℕ = length before.instructions + 1 in
-      let front = before.instructions ++ begin.instructions in
-      let turn = part.instructions in
-      let all = front ++ turn in
-      let last : List Instruction = Turn (record { number = length before.instructions }) to ∷ [] in
-      let n1 = length-append before.instructions begin.instructions in
-      let n2 : length begin.instructions ≡ 1 = ap length begin_is in
-      let second : length front ≡ to = omega (arith, n1, n2) in
-      let n3 = length-append front turn in
-      let n4 : length turn ≡ length (b.one ∷ b.more) = ap length b.is in
-      let n5 : length (b.one ∷ b.more) ≡ 1 + length b.more = omega arith in
-      let whole = all ++ last in
-      let same : whole ≡ front ++ b.one ∷ (b.more ++ last) = append_assoc front turn last
-      ∙ ap (λ (l : List Instruction). front ++ (l ++ last)) b.is in
-      let here : slice_get whole to ≡ Some b.one =
-      ap (slice_get whole) (sym second) ∙ ap (λ (l : List Instruction). slice_get l (length front)) same ∙ at_seam front b.one (b.more ++ last) in
+  turn_end_meets : (before part : Code) (begin : ℕ) → begin < length before.instructions → BeginsWith part → ends_in part.instructions ≡ 0
+      → Meets Q (joined before part) (turn_end begin (length before.instructions))
+  turn_end_meets before part begin lt b none =
+      let last : List Instruction = Turn (record { number = begin }) (length before.instructions) ∷ [] in
+      let n = length-append before.instructions part.instructions in
       record {
-        names = plain_names (joined (joined before begin) part) last (omega (arith, second, n3, n4, n5), tt);
-        leads = (
-          record {
-            before = omega (arith, second, n3, n4, n5);
-            budget = subst UsesBudget (sym here) b.budget;
-            stays = stays_within whole front (turn ++ last) (length all) to (append_assoc front turn last) (none_end turn last none refl)
-                (omega (arith, n3)) (omega (arith, second));
-          },
-          tt,
-        );
+        names = plain_names (joined before part) last (omega (arith, lt, n), tt);
+        leads = (leads_back before part last b none refl, tt);
         starts = refl;
         none = refl;
         performs = (tt, tt);
       }
+
+  counted_turn_meets : (begin : ℕ) (turn : Piece) → Begins turn → AlwaysMeets turn → (before : Code) → begin < length before.instructions
+      → Meets Q before (counted_turn begin turn before)
+  counted_turn_meets begin turn begins met before lt =
+      let part = turn before in
+      both_meet Q before part (turn_end begin (length before.instructions)) (met before)
+      (turn_end_meets before part begin lt (begins before) (met before).none)
 
   times_meets : (count : ℕ) (turn : Piece) → Begins turn → AlwaysMeets turn → AlwaysMeets (times_piece count turn)
   times_meets zero turn begins met before = nothing_meets Q before
   times_meets (suc more) turn begins met before =
       let begin = loop_begin more before in
       let here = joined before begin in
-      let part = turn here in
-      let last = loop_end (length before.instructions) in
-      both_meet Q before begin (joined part last) (begin_meets more before)
-      (both_meet Q here part last (met here)
-      (end_meets before begin part (Count (record { number = length before.instructions }) more) refl (begins here) (met here).none))
+      let n : ℕ = length before.instructions in
+      let l = length-append before.instructions begin.instructions in
+      both_meet Q before begin (counted_turn n turn here) (begin_meets more before)
+      (counted_turn_meets n turn begins met here (omega (arith, l)))
+
+  counted_meets : (turn : Piece) → Blind turn → Begins turn → AlwaysMeets turn → AlwaysMeets (counted_piece turn)
+  counted_meets turn blind begins met before =
+      let begin = count_begin before in
+      let here = joined before begin in
+      let n : ℕ = length before.instructions in
+      let l = length-append before.instructions begin.instructions in
+      both_meet Q before begin (either_piece (counted_turn n turn) nothing_piece here) (count_begin_meets before)
+      (branch_meets Q (counted_turn n turn) nothing_piece (counted_turn_blind n turn blind) nothing_blind here
+      (λ now behind. counted_turn_meets n turn begins met now (omega (arith, l, behind))) (nothing_meets Q))
 
   -- ---- turns up to where a condition is true
 
   -- The branch at the end of a turn leads back to what the turn begins with.
-  back_meets : (before turn behind : Code) → BeginsWith turn → ends_in (turn.instructions ++ behind.instructions) ≡ 0
-      → Meets Q (joined before (joined turn behind)) (branch_code (length before.instructions))
-  back_meets before turn behind b none =
-      let begin = length before.instructions in
-      let part = turn.instructions ++ behind.instructions in
-      let all = before.instructions ++ part in
-      let last : List Instruction = Branch begin ∷ [] in
-      let whole = all ++ last in
-      let n1 = length-append before.instructions part in
-      let n2 = length-append turn.instructions behind.instructions in
-      let n3 : length turn.instructions ≡ length (b.one ∷ b.more) = ap length b.is in
-      let n4 : length (b.one ∷ b.more) ≡ 1 + length b.more = omega arith in
-      let is : whole ≡ before.instructions ++ (part ++ last) = append_assoc before.instructions part last in
-      let same : whole ≡ before.instructions ++ b.one ∷ ((b.more ++ behind.instructions) ++ last) =
-      is ∙ ap (λ (l : List Instruction). before.instructions ++ ((l ++ behind.instructions) ++ last)) b.is in
-      let here : slice_get whole begin ≡ Some b.one =
-      ap (λ (l : List Instruction). slice_get l begin) same ∙ at_seam before.instructions b.one ((b.more ++ behind.instructions) ++ last) in
+  back_meets : (before part : Code) → BeginsWith part → ends_in part.instructions ≡ 0
+      → Meets Q (joined before part) (branch_code (length before.instructions))
+  back_meets before part b none =
+      let last : List Instruction = Branch (length before.instructions) ∷ [] in
       record {
-        names = plain_names (joined before (joined turn behind)) last (tt, tt);
-        leads = (
-          inr (record {
-            before = omega (arith, n1, n2, n3, n4);
-            budget = subst UsesBudget (sym here) b.budget;
-            stays = stays_within whole before.instructions (part ++ last) (length all) begin is (none_end part last none refl) (omega (arith, n1))
-                (omega arith);
-          }),
-          tt,
-        );
+        names = plain_names (joined before part) last (tt, tt);
+        leads = (inr (leads_back before part last b none refl), tt);
         starts = refl;
         none = refl;
         performs = (tt, tt);
@@ -225,7 +243,8 @@ module _ (Q : Range → Type 0) where
       let part = turn before in
       let rest = behind (joined before part) in
       let inner = both_meet Q before part rest (met before) (behind_met (joined before part)) in
-      both_meet Q before (joined part rest) (branch_code (length before.instructions)) inner (back_meets before part rest (begins before) inner.none)
+      both_meet Q before (joined part rest) (branch_code (length before.instructions)) inner
+      (back_meets before (joined part rest) (begins_longer part rest (begins before)) inner.none)
 
   module _ (test onward turn : Piece) (f : Blind test) (g : Blind onward) (h : Blind turn)
       (tests : AlwaysMeets test) (goes : AlwaysMeets onward) (begins : Begins turn) (met : AlwaysMeets turn) where
@@ -280,6 +299,11 @@ module _ (Q : Range → Type 0) where
     turns_meet line Once turn blind e begins met = met
     turns_meet line (Times count) turn blind e begins met =
         pieces_meet (tick_piece line) (times_piece (turns_of count) turn) (tick_meets line) (times_meets (turns_of count) turn begins met)
+    turns_meet line (CountedBy one) turn blind e begins met =
+        let number = taking_piece items i.Push one in
+        pieces_meet (tick_piece line) (both number (counted_piece turn)) (tick_meets line)
+        (pieces_meet number (counted_piece turn) (λ before. straight_meets Q before (number before) (taking_straight items i.Push one before))
+        (counted_meets turn blind begins met))
     turns_meet line (Until one) turn blind e begins met =
         pieces_meet (tick_piece line) (until_piece items one turn) (tick_meets line) (until_meets one turn blind e begins met)
 
@@ -356,22 +380,51 @@ module _ (scope : Scope) (permits : Range → Bool) (formed : AreFormed scope.it
     phrases_meet (Some statements) other e q before = two_meet (Some statements) other e q before
     phrases_meet None (Some statements) e q before = two_meet None (Some statements) e q before
 
+    -- a condition, and the two ways behind it
+    tested_meets : (condition : Condition) (first second : Piece) → condition_rules items condition ≡ [] → Blind first → Blind second
+        → AlwaysMeets Q first → AlwaysMeets Q second → AlwaysMeets Q (both (condition_piece items condition) (either_piece first second))
+    tested_meets condition first second e f g one two =
+        pieces_meet Q (condition_piece items condition) (either_piece first second) (condition_meets Q items formed condition e)
+        (either_meets Q first second f g one two)
+
+    selecting_meets : (subjects : List Subject) (selected : List (Selected S)) (other : Option (List S))
+        → each (selected_rules items rules subjects) selected ≡ [] → phrase_rules rules other ≡ []
+        → Asked asked (each_performs (selected_performs performs) selected) → Asked asked (phrase_performs performs other)
+        → AlwaysMeets Q (selecting_piece scope inside subjects selected other)
+    selecting_meets subjects [] other e others q r = phrase_meets other others r
+    selecting_meets subjects (one ∷ more) other e others q r =
+        let P = λ (p : Performance). asked p.range in
+        let first = first_group items rules subjects one more e in
+        let here = each_performs performs one.statements in
+        let later = each_performs (selected_performs performs) more in
+        tested_meets (selected_asked items subjects one) (in_order inside one.statements) (selecting_piece scope inside subjects more other)
+        (selected_kept items rules subjects one first) (in_order_blind inside blind one.statements)
+        (selecting_blind scope inside blind subjects more other)
+        (in_order_meets rules performs inside each_one one.statements (statements_of items rules subjects one first) (all_front P here later q))
+        (selecting_meets subjects more other (other_groups items rules subjects one more e) others (all_back P here later q) r)
+
     branching_meets : (line : ℕ) (one : Branching S) → branching_rules items rules one ≡ [] → Asked asked (branching_performs performs one)
         → AlwaysMeets Q (branching_piece scope inside line one)
-    branching_meets line (If condition statements otherwise) e q =
+    branching_meets line (branch.If condition statements otherwise) e q =
         let P = λ (p : Performance). asked p.range in
-        let test = condition_piece items condition in
         let first = in_order inside statements in
         let second = phrase_piece scope inside otherwise in
         let asks = condition_rules items condition in
         let front = left_none (asks ++ each rules statements) (phrase_rules rules otherwise) e in
         let back = right_none (asks ++ each rules statements) (phrase_rules rules otherwise) e in
-        pieces_meet Q (tick_piece line) (both test (either_piece first second)) (tick_meets Q line)
-        (pieces_meet Q test (either_piece first second) (condition_meets Q items formed condition (left_none asks (each rules statements) front))
-        (either_meets Q first second (in_order_blind inside blind statements) (phrase_blind scope inside blind otherwise)
+        pieces_meet Q (tick_piece line) (both (condition_piece items condition) (either_piece first second)) (tick_meets Q line)
+        (tested_meets condition first second (left_none asks (each rules statements) front) (in_order_blind inside blind statements)
+        (phrase_blind scope inside blind otherwise)
         (in_order_meets rules performs inside each_one statements (right_none asks (each rules statements) front)
         (all_front P (each_performs performs statements) (phrase_performs performs otherwise) q))
-        (phrase_meets otherwise back (all_back P (each_performs performs statements) (phrase_performs performs otherwise) q))))
+        (phrase_meets otherwise back (all_back P (each_performs performs statements) (phrase_performs performs otherwise) q)))
+    branching_meets line (branch.Evaluate one) e q =
+        let P = λ (p : Performance). asked p.range in
+        let groups = each_performs (selected_performs performs) one.selected in
+        let others = phrase_performs performs one.other in
+        pieces_meet Q (tick_piece line) (selecting_piece scope inside one.subjects one.selected one.other) (tick_meets Q line)
+        (selecting_meets one.subjects one.selected one.other (groups_of items rules one e) (other_of items rules one e)
+        (all_front P groups others q) (all_back P groups others q))
 
     -- straight code behind what uses one of the budget
     ticked : (line : ℕ) (piece : Piece) → AlwaysStraight piece → AlwaysMeets Q (both (tick_piece line) piece)

@@ -6,15 +6,19 @@ use Rattle.source_tree.specs.declared.moving.Moving.{Moving}
 use Rattle.source_tree.specs.declared.moving.Moving.TheVariants.{Move}
 use Rattle.source_tree.specs.declared.text.Text.{Text}
 use Rattle.source_tree.specs.declared.text.Text.TheVariants.{Display, Accept, AcceptDate}
+use Rattle.source_tree.specs.declared.reference.Reference.{Reference}
+use Rattle.source_tree.specs.declared.expression.Operand.TheVariants as operand
 use Rattle.source_tree.specs.declared.arithmetic.Operation.{Operation}
 use Rattle.source_tree.specs.declared.branching.Branching.{Branching}
-use Rattle.source_tree.specs.declared.branching.Branching.TheVariants.{If}
+use Rattle.source_tree.specs.declared.branching.Branching.TheVariants as branch
+use Rattle.source_tree.specs.declared.evaluate.Subject.{Subject}
+use Rattle.source_tree.specs.declared.evaluate.Selected.{Selected}
 use Rattle.source_tree.specs.declared.condition.Condition.{Condition}
 use Rattle.source_tree.specs.declared.ending.Ending.TheVariants as ending
 use Rattle.source_tree.specs.declared.performing.Performed.{Performed}
 use Rattle.source_tree.specs.declared.performing.Performed.TheVariants.{Procedures, Statements}
 use Rattle.source_tree.specs.declared.performing.Turns.{Turns}
-use Rattle.source_tree.specs.declared.performing.Turns.TheVariants.{Once, Times, Until}
+use Rattle.source_tree.specs.declared.performing.Turns.TheVariants.{Once, Times, CountedBy, Until}
 use Rattle.source_tree.specs.declared.until.TestTime.{TestTime}
 use Rattle.source_tree.specs.declared.until.TestTime.TheVariants.{Before, After}
 use Rattle.source_tree.specs.declared.until.Until as until
@@ -30,6 +34,8 @@ use Rattle.source_tree.specs.Arithmetic.{is_there}
 use Rattle.source_tree.specs.ArithmeticRules.{number_rules, operation_rules}
 use Rattle.source_tree.specs.Broken.{Broken, each}
 use Rattle.source_tree.specs.ConditionRules.{condition_rules, varying_rules, until_rules}
+use Rattle.source_tree.specs.Evaluate.{selected_asked}
+use Rattle.source_tree.specs.EvaluateRules.{selected_rules}
 use Rattle.source_tree.specs.MoveRules.{sent_by, receives, move_rules}
 use Rattle.source_tree.specs.NameRules.{item_rules, any_item, operand_rules}
 use Rattle.source_tree.specs.Performing.{turns_of}
@@ -37,7 +43,7 @@ use Rattle.source_tree.specs.Places.{Placed}
 use Rattle.source_tree.specs.Procedures.{Range, range_of}
 use Rattle.source_tree.specs.Setting.{Scope}
 use Rattle.source_tree.specs.Until.{vary_operation}
-use Rattle.source_tree.specs.Rules.{moving_rules, text_rules, phrase_rules, phrases_rules, performed_rules, turns_rules, branching_rules, verb_rules, statement_rules, sentence_rules, paragraph_rules}
+use Rattle.source_tree.specs.Rules.{integer_item, moving_rules, text_rules, phrase_rules, phrases_rules, performed_rules, turns_rules, branching_rules, verb_rules, statement_rules, sentence_rules, paragraph_rules}
 use Rattle.data_instructions.specs.declared.tables.DataTables.{DataTables}
 use Rattle.data_instructions.specs.declared.instruction.DataInstruction.{DataInstruction}
 use Rattle.data_instructions.specs.declared.instruction.DataInstruction.TheVariants as i
@@ -46,6 +52,7 @@ use Rattle.data_instructions.specs.Codes.{data_item}
 use Rattle.data_instructions.specs.Shapes.{and_then}
 use Rattle.data_instructions.specs.Chains.{effects, LiesWhole}
 use Rattle.data_instructions.proofs.Chains.{move_known, display_known, accept_known, date_known}
+use Rattle.data_instructions.proofs.Expressions.{value_known}
 use Rattle.data_instructions.proofs.ArithmeticChains.{arithmetic_known}
 use Rattle.code_image.specs.declared.code.Code.{Code}
 use Rattle.code_image.specs.declared.instruction.Instruction.{Instruction}
@@ -54,22 +61,24 @@ use Rattle.code_image.specs.Known.{known_after, known_along}
 use Rattle.check_rules.proofs.RuleLayers.{mapped_rules}
 use Rattle.codegen.specs.Pieces.{Piece, joined, both, in_order, plain}
 use Rattle.codegen.specs.Meeting.{branch_code, either_piece, nothing_piece}
-use Rattle.codegen.specs.DataCode.{work_piece, reference_piece, operands_piece, line_end_piece, show_piece}
+use Rattle.codegen.specs.DataCode.{work_piece, taking_piece, reference_piece, operands_piece, line_end_piece, show_piece}
 use Rattle.codegen.specs.ArithmeticCode.{arithmetic_piece}
 use Rattle.codegen.specs.ConditionCode.{condition_piece}
 use Rattle.codegen.specs.UntilCode.{tick_piece, turning_piece, until_before_piece, until_after_piece, until_from_piece, vary_begin_piece, vary_on_piece, until_piece}
-use Rattle.codegen.specs.Layout.{loop_begin, loop_end, times_piece, turns_piece, range_piece, turn_piece, moving_piece, texts_piece, phrase_piece, phrases_from, phrases_piece, branching_piece, verb_piece, statement_piece, sentence_piece, start_piece, back_piece, paragraph_piece}
-use Rattle.codegen.proofs.Codes.{left_none, right_none, move_coded, display_coded, accept_coded, date_coded}
+use Rattle.codegen.specs.Layout.{loop_begin, count_begin, turn_end, counted_turn, times_piece, counted_piece, turns_piece, range_piece, turn_piece, moving_piece, texts_piece, phrase_piece, phrases_from, phrases_piece, selecting_piece, branching_piece, verb_piece, statement_piece, sentence_piece, start_piece, back_piece, paragraph_piece}
+use Rattle.codegen.proofs.Codes.{left_none, right_none, taking_coded, move_coded, display_coded, accept_coded, date_coded}
 use Rattle.codegen.proofs.ArithmeticCodes.{arithmetic_coded}
 use Rattle.codegen.proofs.Lying.{lies_all, shows_all, sends, receives_one, receive_each, lies_operation}
 use Rattle.codegen.proofs.Layers.{verb_map, rolled_is}
 use Rattle.codegen.proofs.Standing.{Stands, front, back}
+use Rattle.codegen.proofs.Pieces.{joined_assoc}
 use Rattle.codegen.proofs.Blind.{Blind, in_order_blind}
 use Rattle.codegen.proofs.Flowing.{rest, along_append, along_data, only_one, Flows, both_flow, nothing_flows, branch_flows, AllFlow, in_order_flows, BodyFlows, either_flows}
 use Rattle.codegen.proofs.ConditionBlind.{nothing_blind, condition_blind}
 use Rattle.codegen.proofs.ConditionFlows.{condition_flows}
 use Rattle.codegen.proofs.UntilBlind.{turn_before_blind, onward_blind, vary_on_blind}
-use Rattle.codegen.proofs.BlindStatements.{turn_blind, phrase_blind, statement_blind}
+use Rattle.codegen.proofs.EvaluateKept.{statements_of, selected_kept, first_group, other_groups, groups_of, other_of}
+use Rattle.codegen.proofs.BlindStatements.{counted_turn_blind, turn_blind, phrase_blind, selecting_blind, statement_blind}
 
 module _ (tables : DataTables) where
   pub start_flows : (before : Code) → Flows tables (start_piece before)
@@ -81,8 +90,8 @@ module _ (tables : DataTables) where
   begin_flows : (more : ℕ) (before : Code) → Flows tables (loop_begin more before)
   begin_flows more before = record { by = λ sender. (sender, refl) }
 
-  end_flows : (begin : ℕ) → Flows tables (loop_end begin)
-  end_flows begin = record { by = λ sender. (None, refl) }
+  end_flows : (begin to : ℕ) → Flows tables (turn_end begin to)
+  end_flows begin to = record { by = λ sender. (None, refl) }
 
   range_flows : (line : ℕ) (range : Option Range) (before : Code) → Flows tables (range_piece line range before)
   range_flows line None before = record { by = λ sender. (None, refl) }
@@ -187,17 +196,48 @@ module _ (items : List Placed) (whole : Code)
 
   -- ---- turns
 
+  counted_turn_flows : (begin : ℕ) (turn : Piece) → BodyFlows whole turn → BodyFlows whole (counted_turn begin turn)
+  counted_turn_flows begin turn f = record {
+    by = λ before st.
+        let part = turn before in
+        let last = turn_end begin (length before.instructions) in
+        both_flow whole.tables part last (f.by before (front whole before part last st)) (end_flows whole.tables begin (length before.instructions));
+  }
+
   times_flow : (count : ℕ) (turn : Piece) → BodyFlows whole turn → BodyFlows whole (times_piece count turn)
   times_flow zero turn f = nothing_flows_always
   times_flow (suc more) turn f = record {
     by = λ before st.
         let begin = loop_begin more before in
-        let inner = turn (joined before begin) in
-        let last = loop_end (length before.instructions) in
-        both_flow whole.tables begin (joined inner last) (begin_flows whole.tables more before)
-        (both_flow whole.tables inner last
-        (f.by (joined before begin) (front whole (joined before begin) inner last (back whole before begin (joined inner last) st)))
-        (end_flows whole.tables (length before.instructions)));
+        let inner = counted_turn (length before.instructions) turn (joined before begin) in
+        both_flow whole.tables begin inner (begin_flows whole.tables more before)
+        ((counted_turn_flows (length before.instructions) turn f).by (joined before begin) (back whole before begin inner st));
+  }
+
+  -- The number of turns is pushed, and taken.
+  number_flows : (one : Reference) (before : Code) → item_rules items integer_item one ≡ [] → Stands whole before (taking_piece items i.Push one before)
+      → Flows whole.tables (joined (taking_piece items i.Push one before) (count_begin (joined before (taking_piece items i.Push one before))))
+  number_flows one before e st =
+      let part = taking_piece items i.Push one before in
+      let coded = taking_coded items whole entries i.Push integer_item one before e st in
+      let known = value_known items whole.tables (operand.Item one) coded.code coded.holds (lies_all items whole entries lie integer_item one e) in
+      let count = instruction.CountNumber (record { number = length (joined before part).instructions }) in
+      placed_flows count part coded.code coded.is
+      (λ sender. ap (λ o. and_then o (known_after whole.tables count)) (known (rest sender)))
+
+  counted_flows : (one : Reference) (turn : Piece) → Blind turn → item_rules items integer_item one ≡ [] → BodyFlows whole turn
+      → BodyFlows whole (both (taking_piece items i.Push one) (counted_piece turn))
+  counted_flows one turn blind e f = record {
+    by = λ before st.
+        let a = taking_piece items i.Push one before in
+        let middle = joined before a in
+        let begin = count_begin middle in
+        let n : ℕ = length middle.instructions in
+        let ways = either_piece (counted_turn n turn) nothing_piece (joined middle begin) in
+        subst (Flows whole.tables) (joined_assoc a begin ways)
+        (both_flow whole.tables (joined a begin) ways (number_flows one before e (front whole before a (joined begin ways) st))
+        ((ways_flow (counted_turn n turn) nothing_piece (counted_turn_blind n turn blind) nothing_blind (counted_turn_flows n turn f)
+        nothing_flows_always).by (joined middle begin) (back whole middle begin ways (back whole before a (joined begin ways) st))));
   }
 
   -- ---- turns up to where a condition is true
@@ -272,6 +312,8 @@ module _ (items : List Placed) (whole : Code)
   turns_flow line Once turn blind e f = f
   turns_flow line (Times count) turn blind e f =
       both_flows (tick_piece line) (times_piece (turns_of count) turn) (ticks_flow line) (times_flow (turns_of count) turn f)
+  turns_flow line (CountedBy one) turn blind e f =
+      both_flows (tick_piece line) (both (taking_piece items i.Push one) (counted_piece turn)) (ticks_flow line) (counted_flows one turn blind e f)
   turns_flow line (Until one) turn blind e f =
       both_flows (tick_piece line) (until_piece items one turn) (ticks_flow line) (until_flows one turn blind e f)
 
@@ -320,9 +362,27 @@ module _ (scope : Scope) (permits : Range → Bool) (whole : Code)
     phrases_flow (Some statements) other e = record { by = λ before st. (two_flow (Some statements) other e).by before st }
     phrases_flow None (Some statements) e = record { by = λ before st. (two_flow None (Some statements) e).by before st }
 
+    -- a condition, and the two ways behind it
+    tested_flows : (condition : Condition) (first second : Piece) → condition_rules items condition ≡ [] → Blind first → Blind second
+        → BodyFlows whole first → BodyFlows whole second → BodyFlows whole (both (condition_piece items condition) (either_piece first second))
+    tested_flows condition first second e blind_first blind_second one two =
+        pair_flows (condition_piece items condition) (either_piece first second) (tests_flow items whole entries order lie condition e)
+        (ways_flow items whole entries order lie first second blind_first blind_second one two)
+
+    selecting_flows : (subjects : List Subject) (selected : List (Selected S)) (other : Option (List S))
+        → each (selected_rules items rules subjects) selected ≡ [] → phrase_rules rules other ≡ []
+        → BodyFlows whole (selecting_piece scope inside subjects selected other)
+    selecting_flows subjects [] other e others = phrase_flows other others
+    selecting_flows subjects (one ∷ more) other e others =
+        let first = first_group items rules subjects one more e in
+        tested_flows (selected_asked items subjects one) (in_order inside one.statements) (selecting_piece scope inside subjects more other)
+        (selected_kept items rules subjects one first) (in_order_blind inside blind one.statements)
+        (selecting_blind scope inside blind subjects more other)
+        (each_flows one.statements (statements_of items rules subjects one first))
+        (selecting_flows subjects more other (other_groups items rules subjects one more e) others)
+
     branching_flows : (line : ℕ) (one : Branching S) → branching_rules items rules one ≡ [] → BodyFlows whole (branching_piece scope inside line one)
-    branching_flows line (If condition statements otherwise) e =
-        let test = condition_piece items condition in
+    branching_flows line (branch.If condition statements otherwise) e =
         let first = in_order inside statements in
         let second = phrase_piece scope inside otherwise in
         let asks = condition_rules items condition in
@@ -330,10 +390,12 @@ module _ (scope : Scope) (permits : Range → Bool) (whole : Code)
         let tests = left_none asks (each rules statements) kept in
         let firsts = right_none asks (each rules statements) kept in
         let others = right_none (asks ++ each rules statements) (phrase_rules rules otherwise) e in
-        behind_tick line (both test (either_piece first second))
-        (pair_flows test (either_piece first second) (tests_flow items whole entries order lie condition tests)
-        (ways_flow items whole entries order lie first second (in_order_blind inside blind statements) (phrase_blind scope inside blind otherwise)
-        (each_flows statements firsts) (phrase_flows otherwise others)))
+        behind_tick line (both (condition_piece items condition) (either_piece first second))
+        (tested_flows condition first second tests (in_order_blind inside blind statements) (phrase_blind scope inside blind otherwise)
+        (each_flows statements firsts) (phrase_flows otherwise others))
+    branching_flows line (branch.Evaluate one) e =
+        behind_tick line (selecting_piece scope inside one.subjects one.selected one.other)
+        (selecting_flows one.subjects one.selected one.other (groups_of items rules one e) (other_of items rules one e))
 
     verb_flows : (line : ℕ) (one : Verb S) → verb_rules scope permits rules one ≡ [] → BodyFlows whole (verb_piece scope inside line one)
     verb_flows line (verb.Moving one) e =

@@ -6,38 +6,51 @@ use Rattle.source_tree.specs.declared.arithmetic.Operation.{Operation}
 use Rattle.source_tree.specs.declared.performing.Performed.{Performed}
 use Rattle.source_tree.specs.declared.performing.Performed.TheVariants.{Procedures, Statements}
 use Rattle.source_tree.specs.declared.performing.Turns.{Turns}
-use Rattle.source_tree.specs.declared.performing.Turns.TheVariants.{Once, Times, Until}
+use Rattle.source_tree.specs.declared.performing.Turns.TheVariants.{Once, Times, CountedBy, Until}
 use Rattle.source_tree.specs.declared.statement.Verb.{Verb}
 use Rattle.source_tree.specs.declared.statement.Verb.TheVariants as verb
 use Rattle.source_tree.specs.declared.statement.Statement.{Statement, out-Statement, roll-Statement}
 use Rattle.source_tree.specs.declared.statement.Statement.TheOpen.{Statement-F}
 use Rattle.source_tree.specs.declared.statement.Statement.TheFolds.{map-Statement, fold_out-Statement, fold-roll-Statement}
 use Rattle.code_image.specs.declared.code.Code.{Code}
+use Rattle.source_tree.specs.Evaluate.{selected_asked}
 use Rattle.source_tree.specs.Performing.{turns_of}
 use Rattle.source_tree.specs.Places.{Placed}
 use Rattle.source_tree.specs.Setting.{Scope}
 use Rattle.codegen.specs.Pieces.{Piece, joined, both, in_order}
 use Rattle.codegen.specs.ArithmeticCode.{arithmetic_piece}
-use Rattle.source_tree.specs.declared.branching.Branching.TheVariants.{If}
+use Rattle.source_tree.specs.declared.branching.Branching.{Branching}
+use Rattle.source_tree.specs.declared.branching.Branching.TheVariants as branch
+use Rattle.source_tree.specs.declared.evaluate.Subject.{Subject}
+use Rattle.source_tree.specs.declared.evaluate.Selected.{Selected}
 use Rattle.source_tree.specs.declared.condition.Condition.{Condition}
 use Rattle.source_tree.specs.declared.until.TestTime.{TestTime}
 use Rattle.source_tree.specs.declared.until.TestTime.TheVariants.{Before, After}
 use Rattle.source_tree.specs.declared.until.Until as until
 use Rattle.data_instructions.specs.declared.instruction.DataInstruction.TheVariants as i
 use Rattle.codegen.specs.Meeting.{branch_code, either_piece, nothing_piece}
-use Rattle.codegen.specs.DataCode.{work_piece}
+use Rattle.codegen.specs.DataCode.{work_piece, taking_piece}
 use Rattle.codegen.specs.ConditionCode.{condition_piece}
 use Rattle.codegen.specs.UntilCode.{tick_piece, turning_piece, until_from_piece, vary_begin_piece, vary_on_piece, until_piece}
-use Rattle.codegen.specs.Layout.{loop_begin, loop_end, times_piece, turns_piece, turn_piece, phrase_piece, phrases_from, verb_piece, statement_layer, statement_piece}
+use Rattle.codegen.specs.Layout.{loop_begin, count_begin, turn_end, counted_turn, times_piece, counted_piece, turns_piece, turn_piece, phrase_piece, phrases_from, selecting_piece, verb_piece, statement_layer, statement_piece}
 use Rattle.codegen.proofs.Either.{either_map}
 
 -- turns of pieces that are the same
 module _ (turn other : Piece) (same : (before : Code) → turn before ≡ other before) where
+  counted_turn_map : (begin : ℕ) (before : Code) → counted_turn begin turn before ≡ counted_turn begin other before
+  counted_turn_map begin before = ap (λ (part : Code). joined part (turn_end begin (length before.instructions))) (same before)
+
   times_map : (count : ℕ) (before : Code) → times_piece count turn before ≡ times_piece count other before
   times_map zero before = refl
   times_map (suc more) before =
-      let begin = loop_begin more before in
-      ap (λ (part : Code). joined begin (joined part (loop_end (length before.instructions)))) (same (joined before begin))
+      let begin = loop_begin more before in ap (joined begin) (counted_turn_map (length before.instructions) (joined before begin))
+
+  counted_map : (before : Code) → counted_piece turn before ≡ counted_piece other before
+  counted_map before =
+      let n = length before.instructions in
+      let begin = count_begin before in
+      ap (joined begin)
+      (either_map (counted_turn n turn) (counted_turn n other) nothing_piece nothing_piece (counted_turn_map n) (λ now. refl) (joined before begin))
 
   turning_map : (behind : Piece) (before : Code) → turning_piece turn behind before ≡ turning_piece other behind before
   turning_map behind before =
@@ -61,6 +74,10 @@ module _ (items : List Placed) (line : ℕ) (turn other : Piece) (same : (before
   turns_map Once before = same before
   turns_map (Times count) before =
       let tick = tick_piece line before in ap (joined tick) (times_map turn other same (turns_of count) (joined before tick))
+  turns_map (CountedBy one) before =
+      let tick = tick_piece line before in
+      let number = taking_piece items i.Push one (joined before tick) in
+      ap (λ (c : Code). joined tick (joined number c)) (counted_map turn other same (joined (joined before tick) number))
   turns_map (Until one) before =
       let tick = tick_piece line before in ap (joined tick) (until_map one (joined before tick))
 
@@ -125,17 +142,50 @@ module _ (scope : Scope) {A B : Type 0} (f : A → B) (g : B → Piece) where
   calculating_map place operation None (Some other) before = behind_map place.line false operation None (Some other) before
   calculating_map place operation (Some inside) (Some other) before = behind_map place.line true operation (Some inside) (Some other) before
 
-  branching_map : (place : Place) (condition : Condition) (statements : List A) (otherwise : Option (List A)) (before : Code)
-      → verb_piece scope g place.line (map-Statement A B f (record { place = place; verb = verb.Branching (If condition statements otherwise) })).verb before
-      ≡ verb_piece scope (λ a. g (f a)) place.line (verb.Branching (If condition statements otherwise)) before
-  branching_map place condition statements None before = ways_map place.line condition statements None before
-  branching_map place condition statements (Some others) before = ways_map place.line condition statements (Some others) before
+  if_map : (place : Place) (condition : Condition) (statements : List A) (otherwise : Option (List A)) (before : Code)
+      → verb_piece scope g place.line (map-Statement A B f (record { place = place; verb = verb.Branching (branch.If condition statements otherwise) })).verb before
+      ≡ verb_piece scope (λ a. g (f a)) place.line (verb.Branching (branch.If condition statements otherwise)) before
+  if_map place condition statements None before = ways_map place.line condition statements None before
+  if_map place condition statements (Some others) before = ways_map place.line condition statements (Some others) before
+
+  -- a group of WHENs, with others of the statements
+  abbrev mapped_group : Selected A → Selected B
+  mapped_group one = record { whens = one.whens; statements = map f one.statements }
+
+  selecting_map : (subjects : List Subject) (selected : List (Selected A)) (other : Option (List A)) (before : Code)
+      → selecting_piece scope g subjects (map mapped_group selected) (mapped other) before ≡ selecting_piece scope (λ a. g (f a)) subjects selected other before
+  selecting_map subjects [] other before = phrase_map other before
+  selecting_map subjects (one ∷ more) other before =
+      let test = condition_piece items (selected_asked items subjects one) before in
+      ap (joined test)
+      (either_map (in_order g (map f one.statements)) (in_order (λ a. g (f a)) one.statements) (selecting_piece scope g subjects (map mapped_group more) (mapped other))
+      (selecting_piece scope (λ a. g (f a)) subjects more other) (in_order_map one.statements) (selecting_map subjects more other) (joined before test))
+
+  -- behind what uses one of the budget
+  groups_map : (line : ℕ) (subjects : List Subject) (selected : List (Selected A)) (other : Option (List A)) (before : Code)
+      → both (tick_piece line) (selecting_piece scope g subjects (map mapped_group selected) (mapped other)) before
+      ≡ both (tick_piece line) (selecting_piece scope (λ a. g (f a)) subjects selected other) before
+  groups_map line subjects selected other before =
+      let tick = tick_piece line before in ap (joined tick) (selecting_map subjects selected other (joined before tick))
+
+  evaluate_map : (place : Place) (subjects : List Subject) (selected : List (Selected A)) (other : Option (List A)) (before : Code)
+      → verb_piece scope g place.line
+      (map-Statement A B f (record { place = place; verb = verb.Branching (branch.Evaluate (record { subjects = subjects; selected = selected; other = other })) })).verb before
+      ≡ verb_piece scope (λ a. g (f a)) place.line (verb.Branching (branch.Evaluate (record { subjects = subjects; selected = selected; other = other }))) before
+  evaluate_map place subjects selected None before = groups_map place.line subjects selected None before
+  evaluate_map place subjects selected (Some others) before = groups_map place.line subjects selected (Some others) before
+
+  branching_map : (place : Place) (one : Branching A) (before : Code)
+      → verb_piece scope g place.line (map-Statement A B f (record { place = place; verb = verb.Branching one })).verb before
+      ≡ verb_piece scope (λ a. g (f a)) place.line (verb.Branching one) before
+  branching_map place (branch.If condition statements otherwise) before = if_map place condition statements otherwise before
+  branching_map place (branch.Evaluate one) before = evaluate_map place one.subjects one.selected one.other before
 
   pub verb_map : (place : Place) (one : Verb A) (before : Code)
       → verb_piece scope g place.line (map-Statement A B f (record { place = place; verb = one })).verb before ≡ verb_piece scope (λ a. g (f a)) place.line one before
   verb_map place (verb.Moving one) before = refl
   verb_map place (verb.Arithmetic one) before = calculating_map place one.operation one.phrases.arose one.phrases.did_not before
-  verb_map place (verb.Branching (If condition statements otherwise)) before = branching_map place condition statements otherwise before
+  verb_map place (verb.Branching one) before = branching_map place one before
   verb_map place (verb.Performing one) before = performing_map place one.turns one.performed before
   verb_map place (verb.Text one) before = refl
   verb_map place (verb.Ending one) before = refl

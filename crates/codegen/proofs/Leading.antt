@@ -5,7 +5,7 @@ use Rattle.std.specs.List.{AllByRecursion}
 use Rattle.source_tree.specs.Procedures.{Range}
 use Rattle.code_image.specs.declared.code.Code.{Code}
 use Rattle.code_image.specs.declared.instruction.Instruction.{Instruction}
-use Rattle.code_image.specs.declared.instruction.Instruction.TheVariants.{Tick, Show, Stop, Count, Turn, Accept, Date, Branch, Jump, Join, Perform, Back, Data}
+use Rattle.code_image.specs.declared.instruction.Instruction.TheVariants.{Tick, Show, Stop, Count, CountNumber, Turn, Accept, Date, Branch, Jump, Join, Perform, Back, Data}
 use Rattle.code_image.specs.Demands.{NamesCounter, UsesBudget, IsJoin, ends, ends_in, paragraph_at, Stays, LeadsOn, LeadsBack, Leads, AllLead}
 use Rattle.codegen.specs.Pieces.{Piece, nothing, joined, both, plain}
 use Rattle.codegen.specs.Meeting.{branch_code, jump_code, join_code, either_piece}
@@ -23,6 +23,7 @@ more_counters m n (Tick line) le h = tt
 more_counters m n Show le h = tt
 more_counters m n Stop le h = tt
 more_counters m n (Count counter turns) le h = omega arith
+more_counters m n (CountNumber counter) le h = omega arith
 more_counters m n (Turn counter to) le h = omega arith
 more_counters m n (Data one) le h = tt
 more_counters m n Accept le h = tt
@@ -134,6 +135,7 @@ leads_stay xs ys address (Tick line) from h = tt
 leads_stay xs ys address Show from h = tt
 leads_stay xs ys address Stop from h = tt
 leads_stay xs ys address (Count counter turns) from h = tt
+leads_stay xs ys address (CountNumber counter) from h = tt
 leads_stay xs ys address (Turn counter to) from h = back_stays xs ys address to from h
 leads_stay xs ys address Accept from h = tt
 leads_stay xs ys address Date from h = tt
@@ -206,6 +208,7 @@ PerformsOnly Q (Tick line) = Unit {0}
 PerformsOnly Q Show = Unit {0}
 PerformsOnly Q Stop = Unit {0}
 PerformsOnly Q (Count counter turns) = Unit {0}
+PerformsOnly Q (CountNumber counter) = Unit {0}
 PerformsOnly Q (Turn counter to) = Unit {0}
 PerformsOnly Q Accept = Unit {0}
 PerformsOnly Q Date = Unit {0}
@@ -246,6 +249,7 @@ names_none n Date h = tt
 names_none n (Tick line) h = absurd h
 names_none n Stop h = absurd h
 names_none n (Count counter turns) h = absurd h
+names_none n (CountNumber counter) h = absurd h
 names_none n (Turn counter to) h = absurd h
 names_none n (Branch to) h = absurd h
 names_none n (Jump to) h = absurd h
@@ -261,6 +265,7 @@ leads_nowhere whole address Date h = tt
 leads_nowhere whole address (Tick line) h = absurd h
 leads_nowhere whole address Stop h = absurd h
 leads_nowhere whole address (Count counter turns) h = absurd h
+leads_nowhere whole address (CountNumber counter) h = absurd h
 leads_nowhere whole address (Turn counter to) h = absurd h
 leads_nowhere whole address (Branch to) h = absurd h
 leads_nowhere whole address (Jump to) h = absurd h
@@ -276,6 +281,7 @@ ends_nowhere Date h = refl
 ends_nowhere (Tick line) h = absurd h
 ends_nowhere Stop h = absurd h
 ends_nowhere (Count counter turns) h = absurd h
+ends_nowhere (CountNumber counter) h = absurd h
 ends_nowhere (Turn counter to) h = absurd h
 ends_nowhere (Branch to) h = absurd h
 ends_nowhere (Jump to) h = absurd h
@@ -291,6 +297,7 @@ performs_none Q Date h = tt
 performs_none Q (Tick line) h = absurd h
 performs_none Q Stop h = absurd h
 performs_none Q (Count counter turns) h = absurd h
+performs_none Q (CountNumber counter) h = absurd h
 performs_none Q (Turn counter to) h = absurd h
 performs_none Q (Branch to) h = absurd h
 performs_none Q (Jump to) h = absurd h
@@ -340,12 +347,12 @@ module _ (Q : Range → Type 0) where
   -- ---- branches
 
   -- The branch leads behind the first `join`, and the jump behind the last one.
-  laid_meets : (first second : Piece) (before : Code) (other end : ℕ) → ((now : Code) → Meets Q now (first now))
-      → ((now : Code) → Meets Q now (second now))
+  laid_meets : (first second : Piece) (before : Code) (other end : ℕ)
       → (let inner = joined before (branch_code other) in let outer = joined (joined inner (first inner)) (jump_code end) in
-      other ≡ length outer.instructions → end ≡ length (joined outer (second outer)).instructions + 1
+      Meets Q inner (first inner) → Meets Q outer (second outer) → other ≡ length outer.instructions
+      → end ≡ length (joined outer (second outer)).instructions + 1
       → Meets Q before (both (λ now. branch_code other) (both first (both (λ now. jump_code end) (both second (λ now. join_code)))) before))
-  laid_meets first second before other end one_met two_met other_is end_is =
+  laid_meets first second before other end one two other_is end_is =
       let branch = branch_code other in
       let inner = joined before branch in
       let x = first inner in
@@ -367,8 +374,6 @@ module _ (Q : Range → Type 0) where
       let l2 = length-append inner.instructions x.instructions in
       let l3 = length-append middle.instructions jump.instructions in
       let l4 = length-append outer.instructions y.instructions in
-      let one = one_met inner in
-      let two = two_met outer in
       let front = middle.instructions ++ Jump end ∷ [] in
       let l5 = length-append middle.instructions (Jump end ∷ []) in
       let to_other : length front ≡ other - 1 = omega (arith, l3, l5, other_is) in
@@ -423,8 +428,18 @@ module _ (Q : Range → Type 0) where
         );
       }
 
+  -- The first way may rely on what stands before the branch.
+  pub branch_meets : (first second : Piece) → Blind first → Blind second → (before : Code)
+      → ((now : Code) → length before.instructions ≤ length now.instructions → Meets Q now (first now))
+      → ((now : Code) → Meets Q now (second now)) → Meets Q before (either_piece first second before)
+  branch_meets first second f g before one_met two_met =
+      let l = either_laid first second f g before in
+      let inner = joined before (branch_code l.other) in
+      let outer = joined (joined inner (first inner)) (jump_code l.end) in
+      let l1 = length-append before.instructions (branch_code l.other).instructions in
+      subst (Meets Q before) (sym l.is)
+      (laid_meets first second before l.other l.end (one_met inner (omega (arith, l1))) (two_met outer) l.other_is l.end_is)
+
   pub either_meets : (first second : Piece) → Blind first → Blind second → ((now : Code) → Meets Q now (first now))
       → ((now : Code) → Meets Q now (second now)) → (before : Code) → Meets Q before (either_piece first second before)
-  either_meets first second f g one_met two_met before =
-      let l = either_laid first second f g before in subst (Meets Q before) (sym l.is)
-      (laid_meets first second before l.other l.end one_met two_met l.other_is l.end_is)
+  either_meets first second f g one_met two_met before = branch_meets first second f g before (λ now behind. one_met now) two_met

@@ -13,6 +13,7 @@ pub mod BlindStatements
 pub mod Works
 pub mod Sequences
 pub mod Meeting
+pub mod Opening
 pub mod ExpressionForms
 pub mod Kept
 pub mod Operations
@@ -22,6 +23,8 @@ pub mod ConditionItems
 pub mod ConditionValues
 pub mod ConditionNames
 pub mod ConditionLayers
+pub mod EvaluateKept
+pub mod Questions
 pub mod Sides
 pub mod Varying
 -- The code of references, of statements on data and of conditions, and the machine along it
@@ -43,6 +46,7 @@ pub mod ConditionDoes
 pub mod Turning
 pub mod Branching
 pub mod UntilTurns
+pub mod Counting
 pub mod Simulation
 pub mod Procedures
 pub mod ProgramDoes

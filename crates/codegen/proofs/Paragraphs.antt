@@ -14,7 +14,7 @@ use Rattle.source_tree.specs.Rules.{paragraph_rules}
 use Rattle.source_tree.specs.Setting.{Scope}
 use Rattle.code_image.specs.declared.code.Code.{Code}
 use Rattle.code_image.specs.declared.instruction.Instruction.{Instruction}
-use Rattle.code_image.specs.declared.instruction.Instruction.TheVariants.{Tick, Show, Stop, Count, Turn, Accept, Date, Branch, Jump, Join, Perform, Back, Data}
+use Rattle.code_image.specs.declared.instruction.Instruction.TheVariants.{Tick, Show, Stop, Count, CountNumber, Turn, Accept, Date, Branch, Jump, Join, Perform, Back, Data}
 use Rattle.code_image.specs.Demands.{NamesParagraph, IsBack, ends, ends_in, paragraph_at, IsFront, StartsAt, performs, performed_from}
 use Rattle.codegen.specs.Pieces.{nothing, joined, in_order}
 use Rattle.codegen.specs.Layout.{sentence_piece, start_piece, back_piece, paragraph_piece}
@@ -46,6 +46,7 @@ module _ (number : ℕ) (Q : Range → Type 0) (R : PerformedRange → Type 0)
   one_performed Show h = tt
   one_performed Stop h = tt
   one_performed (Count counter turns) h = tt
+  one_performed (CountNumber counter) h = tt
   one_performed (Turn counter to) h = tt
   one_performed Accept h = tt
   one_performed Date h = tt
@@ -69,6 +70,7 @@ module _ (count : ℕ) (asked : Range → Type 0) where
   names_paragraph Show none h = tt
   names_paragraph Stop none h = tt
   names_paragraph (Count counter turns) none h = tt
+  names_paragraph (CountNumber counter) none h = tt
   names_paragraph (Turn counter to) none h = tt
   names_paragraph Accept none h = tt
   names_paragraph Date none h = tt

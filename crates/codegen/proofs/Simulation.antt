@@ -4,7 +4,9 @@ use Rattle.std.specs.Prelude.{nat_lt, not, slice_get}
 use Rattle.std.proofs.lemmas.Bool.{ltb-false, not-false}
 use Rattle.lexical.specs.declared.place.Place.{Place}
 use Rattle.source_tree.specs.declared.branching.Branching.{Branching}
-use Rattle.source_tree.specs.declared.branching.Branching.TheVariants.{If}
+use Rattle.source_tree.specs.declared.branching.Branching.TheVariants as branch
+use Rattle.source_tree.specs.declared.evaluate.Subject.{Subject}
+use Rattle.source_tree.specs.declared.evaluate.Selected.{Selected}
 use Rattle.source_tree.specs.declared.condition.Condition.{Condition}
 use Rattle.source_tree.specs.declared.moving.Moving.{Moving}
 use Rattle.source_tree.specs.declared.name.Name.{Name}
@@ -16,7 +18,7 @@ use Rattle.source_tree.specs.declared.arithmetic.Arithmetic.{Arithmetic}
 use Rattle.source_tree.specs.declared.performing.Performed.{Performed}
 use Rattle.source_tree.specs.declared.performing.Performed.TheVariants.{Procedures, Statements}
 use Rattle.source_tree.specs.declared.performing.Turns.{Turns}
-use Rattle.source_tree.specs.declared.performing.Turns.TheVariants.{Once, Times, Until}
+use Rattle.source_tree.specs.declared.performing.Turns.TheVariants.{Once, Times, CountedBy, Until}
 use Rattle.source_tree.specs.declared.until.Until as until
 use Rattle.source_tree.specs.declared.until.Varying.{Varying}
 use Rattle.source_tree.specs.declared.statement.Verb.{Verb}
@@ -28,6 +30,8 @@ use Rattle.source_tree.specs.Branching.{way, branching}
 use Rattle.source_tree.specs.Broken.{Broken, where_so, each}
 use Rattle.source_tree.specs.ConditionRules.{condition_rules, varying_rules, until_rules}
 use Rattle.source_tree.specs.Conditions.{holds}
+use Rattle.source_tree.specs.Evaluate.{one_of, selected_asked, selecting}
+use Rattle.source_tree.specs.EvaluateRules.{selected_rules}
 use Rattle.source_tree.specs.Evaluated.{Fault, Evaluated, ◌>>=◌}
 use Rattle.source_tree.specs.MoveRules.{move_rules}
 use Rattle.source_tree.specs.Moving.{taken_of, move_to_each, moving}
@@ -40,12 +44,13 @@ use Rattle.source_tree.specs.Rules.{moving_rules, text_rules, phrase_rules, phra
 use Rattle.source_tree.specs.State.{State, Outcome, Done, showing, in_turn, spend, with_value, changing}
 use Rattle.source_tree.specs.Setting.{Scope}
 use Rattle.source_tree.specs.Texts.{texts}
-use Rattle.source_tree.specs.Performing.{turns_of, turns, performed_range, repeat, body}
+use Rattle.source_tree.specs.Performing.{turns_of, turns_in, turns, performed_range, repeat, body}
 use Rattle.source_tree.specs.Until as meant
 use Rattle.source_tree.specs.Until.{vary_operation, vary_begin, vary_on, until_from}
 use Rattle.source_tree.specs.Meaning.{step}
 use Rattle.source_tree.proofs.Runs.{IsRun, body_runs}
 use Rattle.data_instructions.specs.declared.instruction.DataInstruction.{DataInstruction}
+use Rattle.data_instructions.specs.declared.instruction.DataInstruction.TheVariants as i
 use Rattle.data_instructions.specs.Tables.{IsTables}
 use Rattle.data_instructions.specs.Scratch as scratch
 use Rattle.data_instructions.specs.Scratch.{Scratch}
@@ -60,23 +65,25 @@ use Rattle.code_image.specs.declared.instruction.Instruction.TheVariants.{Show, 
 use Rattle.code_image.specs.Points.{Own, scratch_of, state_with, own_with}
 use Rattle.code_image.specs.Table.{data_from, exec_code}
 use Rattle.codegen.specs.Pieces.{Piece, nothing, joined, both, in_order, plain}
-use Rattle.codegen.specs.DataCode.{reference_piece, move_piece, operands_piece, line_end_piece, show_piece}
+use Rattle.codegen.specs.DataCode.{reference_piece, taking_piece, move_piece, operands_piece, line_end_piece, show_piece}
 use Rattle.codegen.specs.ArithmeticCode.{arithmetic_piece}
 use Rattle.codegen.specs.Meeting.{either_piece}
 use Rattle.codegen.specs.ConditionCode.{condition_piece}
 use Rattle.codegen.specs.UntilCode.{tick_piece, until_from_piece, vary_begin_piece, vary_on_piece, until_piece}
-use Rattle.codegen.specs.Layout.{moving_piece, texts_piece, times_piece, turns_piece, range_piece, turn_piece, phrase_piece, phrases_from, phrases_piece, branching_piece, verb_piece}
+use Rattle.codegen.specs.Layout.{moving_piece, texts_piece, times_piece, counted_piece, turns_piece, range_piece, turn_piece, phrase_piece, phrases_from, phrases_piece, selecting_piece, branching_piece, verb_piece}
 use Rattle.codegen.proofs.Pieces.{joined_assoc}
 use Rattle.codegen.proofs.Blind.{Blind, in_order_blind}
 use Rattle.codegen.proofs.ConditionBlind.{condition_blind}
 use Rattle.codegen.proofs.UntilBlind.{vary_on_blind}
-use Rattle.codegen.proofs.BlindStatements.{turn_blind, phrase_blind}
+use Rattle.codegen.proofs.EvaluateKept.{statements_of, selected_kept, first_group, other_groups, groups_of, other_of}
+use Rattle.codegen.proofs.BlindStatements.{turn_blind, phrase_blind, selecting_blind}
 use Rattle.codegen.proofs.Standing.{Stands, front, back, first_stands, code_stands}
 use Rattle.codegen.proofs.Running.{at, one_step, WorksFrom, works_from}
 use Rattle.codegen.proofs.Codes.{left_none, right_none, Coded, move_coded, display_coded, accept_coded, date_coded}
 use Rattle.codegen.proofs.ArithmeticCodes.{arithmetic_coded}
 use Rattle.codegen.proofs.Doing.{end_of, Does, PartDoes, Sits, back_sits, IsRoom, still_room, moved, stays, behind, parts_do, tick_part, ticks_alone, ending_does, nothing_does, Follows, in_order_does, Repeats, fewer_does}
 use Rattle.codegen.proofs.Turning.{times_does}
+use Rattle.codegen.proofs.Counting.{said_does}
 use Rattle.codegen.proofs.ConditionDoes.{condition_does}
 use Rattle.codegen.proofs.Evaluating.{evaluated_does}
 use Rattle.codegen.proofs.UntilTurns.{Tests, until_from_does}
@@ -298,6 +305,16 @@ module _ (whole : Code) (kept : ℕ → Type 0) (scope : Scope)
         times_does whole kept line depth (turns_of count) go turn (fewer_does whole kept depth (λ s. spend line s go) turn (turn_does line what keep))
         (joined before a) cs t (omega arith) room
         (back_sits whole kept before a b sits))
+    performing_does line (CountedBy one) what before cs s asked keep le room sits =
+        let go = body run ranges scope.procedures what in
+        let turn = turn_piece scope inside line what in
+        let a = tick_piece line before in
+        let b = both (taking_piece scope.items i.Push one) (counted_piece turn) (joined before a) in
+        tick_part whole kept line before b cs s (λ t. with_value (turns_in scope.items one t.storage) t (λ count. turns line count go t)) sits.stands
+        (λ t lt.
+        (said_does whole kept scope.items entries order line depth one go turn asked (turn_blind scope inside blind line what)
+        (fewer_does whole kept depth (λ s. spend line s go) turn (turn_does line what keep))).by (joined before a) cs t (omega arith) room
+        (back_sits whole kept before a b sits))
     performing_does line (Until one) what before cs s asked keep le room sits =
         let go = body run ranges scope.procedures what in
         let turn = turn_piece scope inside line what in
@@ -369,45 +386,76 @@ module _ (whole : Code) (kept : ℕ → Type 0) (scope : Scope)
         (phrases_do one.phrases.arose one.phrases.did_not (joined before part) ds t phrases_keep (omega arith)
         (record { counters = room.counters; line = room.line }) (back_sits whole kept before part phrases sits)))
 
-    -- IF, behind its `tick` and its condition
-    ways_do : (statements : List S) (otherwise : Option (List S)) (before : Code) (cs : Own) (s : State) → each rules statements ≡ []
-        → phrase_rules rules otherwise ≡ [] → s.budget < depth → IsRoom whole cs
-        → Sits whole kept before (either_piece (in_order inside statements) (phrase_piece scope inside otherwise) before)
-        → PartDoes whole kept before (either_piece (in_order inside statements) (phrase_piece scope inside otherwise) before) cs s
-        (way run statements otherwise cs.truth s)
-    ways_do statements otherwise before cs s firsts seconds below room sits =
-        either_does whole kept depth (in_order inside statements) (phrase_piece scope inside otherwise) (way run statements otherwise)
-        (record { by = λ now ds t less wide here. in_order_does whole kept depth rules run inside f statements now ds t firsts less wide here })
-        (record { by = λ now ds t less wide here. (phrase_does otherwise seconds).by now ds t less wide here })
-        (in_order_blind inside blind statements) (phrase_blind scope inside blind otherwise) before cs s below room sits
+    each_does : (statements : List S) → each rules statements ≡ [] → Repeats whole kept depth (in_turn run statements) (in_order inside statements)
+    each_does statements keep =
+        record { by = λ before cs s below room sits. in_order_does whole kept depth rules run inside f statements before cs s keep below room sits }
+
+    -- a condition, and the way that fits
+    tested_does : (condition : Condition) (first second : Piece) (go : Bool → State → Outcome) → condition_rules scope.items condition ≡ []
+        → Blind first → Blind second → Repeats whole kept depth (go true) first → Repeats whole kept depth (go false) second
+        → Repeats whole kept depth (λ s. with_value (holds scope.items condition s.storage) s (λ truth. go truth s))
+        (both (condition_piece scope.items condition) (either_piece first second))
+    tested_does condition first second go keep blind_first blind_second one two = record {
+      by = λ before cs s below room sits.
+          let a = condition_piece scope.items condition before in
+          let middle = joined before a in
+          let b = either_piece first second middle in
+          let from = end_of before in
+          let to = end_of (joined before (joined a b)) in
+          let l2 = length-append middle.instructions b.instructions in
+          evaluated_does whole kept from (end_of middle) from to from (end_of middle) to cs s (holds scope.items condition s.storage)
+          (λ truth. go truth s) (omega arith) (omega (arith, l2, ap end_of (joined_assoc before a b)))
+          ((tests_do condition keep).by before cs s (front whole before a b sits.stands)) (λ truth ds keeps is.
+          behind whole kept before a b ds s (go truth s)
+          (subst (λ (now : Bool). PartDoes whole kept middle b ds s (go now s)) is
+          (either_does whole kept depth first second go one two blind_first blind_second middle ds s below
+          (still_room whole kept from (end_of middle) cs ds keeps room) (back_sits whole kept before a b sits))));
+    }
+
+    -- EVALUATE, behind its `tick`
+    selecting_does : (subjects : List Subject) (selected : List (Selected S)) (other : Option (List S))
+        → each (selected_rules scope.items rules subjects) selected ≡ [] → phrase_rules rules other ≡ []
+        → Repeats whole kept depth (selecting scope.items run subjects selected other) (selecting_piece scope inside subjects selected other)
+    selecting_does subjects [] other keep otherwise =
+        record { by = λ before cs s below room sits. (phrase_does other otherwise).by before cs s below room sits }
+    selecting_does subjects (one ∷ more) other keep otherwise =
+        let first = first_group scope.items rules subjects one more keep in
+        let here = each_does one.statements (statements_of scope.items rules subjects one first) in
+        let later = selecting_does subjects more other (other_groups scope.items rules subjects one more keep) otherwise in
+        let both_ways = tested_does (selected_asked scope.items subjects one) (in_order inside one.statements)
+        (selecting_piece scope inside subjects more other)
+        (one_of (in_turn run one.statements) (selecting scope.items run subjects more other))
+        (selected_kept scope.items rules subjects one first) (in_order_blind inside blind one.statements)
+        (selecting_blind scope inside blind subjects more other)
+        (record { by = λ before cs s below room sits. here.by before cs s below room sits })
+        (record { by = λ before cs s below room sits. later.by before cs s below room sits }) in
+        record { by = λ before cs s below room sits. both_ways.by before cs s below room sits }
 
     branching_does : (line : ℕ) (one : Branching S) (before : Code) (cs : Own) (s : State) → branching_rules scope.items rules one ≡ []
         → s.budget ≤ depth → IsRoom whole cs
         → Sits whole kept before (branching_piece scope inside line one before)
         → PartDoes whole kept before (branching_piece scope inside line one before) cs s (spend line s (branching scope.items run one))
-    branching_does line (If condition statements otherwise) before cs s keep le room sits =
+    branching_does line (branch.If condition statements otherwise) before cs s keep le room sits =
         let asks = condition_rules scope.items condition in
         let fine = left_none (asks ++ each rules statements) (phrase_rules rules otherwise) keep in
+        let first = in_order inside statements in
+        let second = phrase_piece scope inside otherwise in
+        let here = each_does statements (right_none asks (each rules statements) fine) in
+        let there = phrase_does otherwise (right_none (asks ++ each rules statements) (phrase_rules rules otherwise) keep) in
         let a = tick_piece line before in
-        let second = joined before a in
-        let b = condition_piece scope.items condition second in
-        let third = joined second b in
-        let c = either_piece (in_order inside statements) (phrase_piece scope inside otherwise) third in
-        let rest = back_sits whole kept before a (joined b c) sits in
-        let from = end_of second in
-        let to = end_of (joined second (joined b c)) in
-        let l2 = length-append second.instructions b.instructions in
-        let l3 = length-append third.instructions c.instructions in
-        tick_part whole kept line before (joined b c) cs s (branching scope.items run (If condition statements otherwise)) sits.stands (λ t lt.
-        evaluated_does whole kept from (end_of third) from to from (end_of third) to cs t (holds scope.items condition t.storage)
-        (λ truth. way run statements otherwise truth t) (omega arith)
-        (omega (arith, l3, ap end_of (joined_assoc second b c)))
-        ((tests_do condition (left_none asks (each rules statements) fine)).by second cs t (front whole second b c rest.stands)) (λ truth ds keeps is.
-        behind whole kept second b c ds t (way run statements otherwise truth t)
-        (subst (λ (now : Bool). PartDoes whole kept third c ds t (way run statements otherwise now t)) is
-        (ways_do statements otherwise third ds t (right_none asks (each rules statements) fine)
-        (right_none (asks ++ each rules statements) (phrase_rules rules otherwise) keep) (omega arith)
-        (still_room whole kept from (end_of third) cs ds keeps room) (back_sits whole kept second b c rest)))))
+        let b = both (condition_piece scope.items condition) (either_piece first second) (joined before a) in
+        let ways = tested_does condition first second (way run statements otherwise) (left_none asks (each rules statements) fine)
+        (in_order_blind inside blind statements) (phrase_blind scope inside blind otherwise)
+        (record { by = λ now ds t less wide lies. here.by now ds t less wide lies })
+        (record { by = λ now ds t less wide lies. there.by now ds t less wide lies }) in
+        tick_part whole kept line before b cs s (branching scope.items run (branch.If condition statements otherwise)) sits.stands
+        (λ t lt. ways.by (joined before a) cs t (omega arith) room (back_sits whole kept before a b sits))
+    branching_does line (branch.Evaluate one) before cs s keep le room sits =
+        let a = tick_piece line before in
+        let b = selecting_piece scope inside one.subjects one.selected one.other (joined before a) in
+        let groups = selecting_does one.subjects one.selected one.other (groups_of scope.items rules one keep) (other_of scope.items rules one keep) in
+        tick_part whole kept line before b cs s (branching scope.items run (branch.Evaluate one)) sits.stands
+        (λ t lt. groups.by (joined before a) cs t (omega arith) room (back_sits whole kept before a b sits))
 
     pub verb_does : (line : ℕ) (one : Verb S) (before : Code) (cs : Own) (s : State) → verb_rules scope permits rules one ≡ [] → s.budget ≤ depth
         → IsRoom whole cs

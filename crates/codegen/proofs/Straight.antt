@@ -55,6 +55,7 @@ IsStraight instruction.Date = Unit {0}
 IsStraight (instruction.Tick line) = ⊥
 IsStraight instruction.Stop = ⊥
 IsStraight (instruction.Count counter turns) = ⊥
+IsStraight (instruction.CountNumber counter) = ⊥
 IsStraight (instruction.Turn counter to) = ⊥
 IsStraight (instruction.Branch to) = ⊥
 IsStraight (instruction.Jump to) = ⊥

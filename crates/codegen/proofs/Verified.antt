@@ -40,7 +40,7 @@ use Rattle.data_instructions.specs.Shapes.{empty, and_then, effect}
 use Rattle.data_instructions.proofs.Known.{and_then_some, parts}
 use Rattle.code_image.specs.declared.code.Code.{Code}
 use Rattle.code_image.specs.declared.instruction.Instruction.{Instruction}
-use Rattle.code_image.specs.declared.instruction.Instruction.TheVariants.{Tick, Show, Stop, Count, Turn, Accept, Date, Branch, Jump, Join, Perform, Back, Data}
+use Rattle.code_image.specs.declared.instruction.Instruction.TheVariants.{Tick, Show, Stop, Count, CountNumber, Turn, Accept, Date, Branch, Jump, Join, Perform, Back, Data}
 use Rattle.code_image.specs.Known.{known_after, known_along}
 use Rattle.code_image.specs.Demands.{NamesData, NamesCounter, NamesParagraph, IsAddress, StartsAt, AllStart, performed_from, performed as performed_instructions, HasOrder as HasOrderCode, IsVerified}
 use Rattle.codegen.specs.Pieces.{in_order}
@@ -123,6 +123,7 @@ named_after tables (Tick line) s after e = tt
 named_after tables Show s after e = tt
 named_after tables Stop s after e = tt
 named_after tables (Count counter turns) s after e = tt
+named_after tables (CountNumber counter) s after e = tt
 named_after tables (Turn counter to) s after e = tt
 named_after tables Accept s after e = tt
 named_after tables Date s after e = tt

@@ -1,5 +1,5 @@
 -- The layout of a program's code (own choice).
-use Rattle.std.specs.Prelude.{ℕ, zero, suc, ◌+◌, List, [], ◌∷◌, length, map, Option, Some, None}
+use Rattle.std.specs.Prelude.{ℕ, zero, suc, List, [], ◌∷◌, length, map, Option, Some, None}
 use Rattle.source_tree.specs.declared.entry.Entry.{Entry}
 use Rattle.source_tree.specs.declared.moving.Moving.{Moving}
 use Rattle.source_tree.specs.declared.moving.Moving.TheVariants.{Move}
@@ -8,13 +8,15 @@ use Rattle.source_tree.specs.declared.text.Text.TheVariants.{Display, Accept, Ac
 use Rattle.source_tree.specs.declared.phrases.Phrases.{Phrases}
 use Rattle.source_tree.specs.declared.arithmetic.Arithmetic.{Arithmetic}
 use Rattle.source_tree.specs.declared.branching.Branching.{Branching}
-use Rattle.source_tree.specs.declared.branching.Branching.TheVariants.{If}
+use Rattle.source_tree.specs.declared.branching.Branching.TheVariants as branch
+use Rattle.source_tree.specs.declared.evaluate.Subject.{Subject}
+use Rattle.source_tree.specs.declared.evaluate.Selected.{Selected}
 use Rattle.source_tree.specs.declared.ending.Ending.{Ending}
 use Rattle.source_tree.specs.declared.ending.Ending.TheVariants as ending
 use Rattle.source_tree.specs.declared.performing.Performed.{Performed}
 use Rattle.source_tree.specs.declared.performing.Performed.TheVariants.{Procedures, Statements}
 use Rattle.source_tree.specs.declared.performing.Turns.{Turns}
-use Rattle.source_tree.specs.declared.performing.Turns.TheVariants.{Once, Times, Until}
+use Rattle.source_tree.specs.declared.performing.Turns.TheVariants.{Once, Times, CountedBy, Until}
 use Rattle.source_tree.specs.declared.performing.Performing.{Performing}
 use Rattle.source_tree.specs.declared.statement.Verb.{Verb}
 use Rattle.source_tree.specs.declared.statement.Verb.TheVariants as verb
@@ -25,6 +27,7 @@ use Rattle.source_tree.specs.declared.program.Sentence.{Sentence}
 use Rattle.source_tree.specs.declared.program.Paragraph.{Paragraph}
 use Rattle.source_tree.specs.declared.program.Section.{Section}
 use Rattle.source_tree.specs.declared.program.Program.{Program}
+use Rattle.source_tree.specs.Evaluate.{selected_asked}
 use Rattle.source_tree.specs.Performing.{turns_of}
 use Rattle.source_tree.specs.Places.{Placed, items_of}
 use Rattle.source_tree.specs.Procedures.{Range, paragraphs_or_one, range_of}
@@ -33,11 +36,12 @@ use Rattle.source_tree.specs.Starts.{areas_at_start}
 use Rattle.data_instructions.specs.declared.tables.DataTables.{DataTables}
 use Rattle.data_instructions.specs.Codes.{data_item}
 use Rattle.code_image.specs.declared.code.Code.{Code}
-use Rattle.code_image.specs.declared.instruction.Instruction.TheVariants.{Tick, Stop, Count, Turn, Perform, Back}
+use Rattle.code_image.specs.declared.instruction.Instruction.TheVariants.{Tick, Stop, Count, CountNumber, Turn, Perform, Back}
+use Rattle.data_instructions.specs.declared.instruction.DataInstruction.TheVariants as i
 use Rattle.codegen.specs.Pieces.{Piece, no_tables, nothing, joined, both, in_order, plain}
-use Rattle.codegen.specs.Meeting.{either_piece}
+use Rattle.codegen.specs.Meeting.{either_piece, nothing_piece}
 use Rattle.source_tree.specs.Arithmetic.{is_there}
-use Rattle.codegen.specs.DataCode.{move_piece, display_piece, accept_piece, date_piece}
+use Rattle.codegen.specs.DataCode.{taking_piece, move_piece, display_piece, accept_piece, date_piece}
 use Rattle.codegen.specs.ArithmeticCode.{arithmetic_piece}
 use Rattle.codegen.specs.ConditionCode.{condition_piece}
 use Rattle.codegen.specs.UntilCode.{tick_piece, until_piece}
@@ -50,25 +54,37 @@ ending_piece line ending.StopRun = stop_run_piece line
 ending_piece line ending.Continue = tick_piece line
 ending_piece line ending.Exit = tick_piece line
 
--- A loop begins: it counts, at its own address, the turns after the first.
+-- A loop begins that counts the turns after the first: at its own address, as each loop does.
 abbrev pub loop_begin : ℕ → Piece
 loop_begin more before = plain (Count (record { number = length before.instructions }) more ∷ [])
 
--- the end of a turn of the loop that begins at this address
-abbrev pub loop_end : ℕ → Code
-loop_end begin = plain (Turn (record { number = begin }) (begin + 1) ∷ [])
+-- A loop begins whose turns the newest number counts; the truth says whether there is one.
+abbrev pub count_begin : Piece
+count_begin before = plain (CountNumber (record { number = length before.instructions }) ∷ [])
 
--- So many turns. A turn begins with what uses one of the budget.
+-- the end of a turn of the loop that begins at an address, back to another
+abbrev pub turn_end : ℕ → ℕ → Code
+turn_end begin to = plain (Turn (record { number = begin }) to ∷ [])
+
+-- The turns of the loop that begins at this address. A turn begins with what uses one of the budget, and each but the last leads back there.
+abbrev pub counted_turn : ℕ → Piece → Piece
+counted_turn begin turn before = joined (turn before) (turn_end begin (length before.instructions))
+
+-- so many turns
 abbrev pub times_piece : ℕ → Piece → Piece
 times_piece zero turn before = nothing
-times_piece (suc more) turn before =
-    let begin = loop_begin more before in joined begin (joined (turn (joined before begin)) (loop_end (length before.instructions)))
+times_piece (suc more) turn before = both (loop_begin more) (counted_turn (length before.instructions) turn) before
+
+-- as many turns as the newest number says
+abbrev pub counted_piece : Piece → Piece
+counted_piece turn before = both count_begin (either_piece (counted_turn (length before.instructions) turn) nothing_piece) before
 
 -- How often, as the phrase of a PERFORM at this line says. The PERFORM uses one of the budget, and so does each turn; without a phrase
 -- they are the same.
 abbrev pub turns_piece : List Placed → ℕ → Turns → Piece → Piece
 turns_piece items line Once turn = turn
 turns_piece items line (Times count) turn = both (tick_piece line) (times_piece (turns_of count) turn)
+turns_piece items line (CountedBy one) turn = both (tick_piece line) (both (taking_piece items i.Push one) (counted_piece turn))
 turns_piece items line (Until one) turn = both (tick_piece line) (until_piece items one turn)
 
 -- The paragraphs of a range are performed, at this line; where names name none, nothing is.
@@ -111,9 +127,17 @@ module _ (scope : Scope) {S : Type 0} (inside : S → Piece) where
   calculating_piece line one =
       both (tick_piece line) (both (arithmetic_piece scope.items (is_there one.phrases.arose) one.operation) (phrases_piece one.phrases))
 
+  -- The condition of each group of WHENs in turn, and its statements where it is true; those of OTHER behind the last one.
+  abbrev pub selecting_piece : List Subject → List (Selected S) → Option (List S) → Piece
+  selecting_piece subjects [] other = phrase_piece other
+  selecting_piece subjects (one ∷ more) other =
+      both (condition_piece scope.items (selected_asked scope.items subjects one))
+      (either_piece (in_order inside one.statements) (selecting_piece subjects more other))
+
   abbrev pub branching_piece : ℕ → Branching S → Piece
-  branching_piece line (If condition statements otherwise) =
+  branching_piece line (branch.If condition statements otherwise) =
       both (tick_piece line) (both (condition_piece scope.items condition) (either_piece (in_order inside statements) (phrase_piece otherwise)))
+  branching_piece line (branch.Evaluate one) = both (tick_piece line) (selecting_piece one.subjects one.selected one.other)
 
   -- a statement at this line, by its family
   abbrev pub verb_piece : ℕ → Verb S → Piece

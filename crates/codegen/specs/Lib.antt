@@ -7,5 +7,6 @@ pub mod UntilCode
 pub mod Operations
 pub mod Layout
 pub mod Phrases
+pub mod EvaluateCode
 pub mod Sides
 pub mod Values

@@ -72,7 +72,7 @@ fn sign_relation(one: SignTest, negated: bool) -> Relation
 }
 
 /// NOT behind a test.
-fn emit_negation(code: &mut Code, negated: bool) -> Result<(), AllocError>
+pub(crate) fn emit_negation(code: &mut Code, negated: bool) -> Result<(), AllocError>
     ensures { OnOk result (code.new ≡ joined code.old (works_piece (negation negated) code.old)) }
 {
     if !negated {
@@ -180,7 +180,7 @@ impl<'a> Emitter<'a> {
     }
 
     /// A relation: two operands alone are compared as what they are, others as numbers.
-    fn emit_relation(
+    pub(crate) fn emit_relation(
         &self,
         code: &mut Code,
         left: &Side,

@@ -1,25 +1,24 @@
 //! The code of each part of a program, added to the code that stands before it.
 
-ghost use Rattle.std.specs.Prelude.{◌≡◌, ◌+◌, [], length, OnOk, IfOk};
-ghost use Rattle.source_tree.specs.declared.branching.Branching.TheVariants.{If};
+ghost use Rattle.std.specs.Prelude.{◌≡◌, [], length, OnOk};
 ghost use Rattle.source_tree.specs.Broken.{each};
 ghost use Rattle.source_tree.specs.ArithmeticRules.{operation_rules};
 ghost use Rattle.source_tree.specs.EntryRules.{entry_rules};
 ghost use Rattle.source_tree.specs.Procedures.{range_of};
 ghost use Rattle.source_tree.specs.Rules as rules;
 ghost use Rattle.source_tree.specs.Rules.{all_permitted};
-ghost use Rattle.source_tree.specs.Performing.{turns_of};
 ghost use Rattle.check_rules.specs.Named.{IsDeclared, items_in, scope_in};
 ghost use Rattle.codegen.specs.Pieces.{joined, both, in_order};
 ghost use Rattle.codegen.specs.UntilCode.{tick_piece};
-ghost use Rattle.codegen.specs.Layout.{moving_piece, texts_piece, stop_run_piece, branching_piece, ending_piece, loop_begin, loop_end, times_piece, range_piece, turn_piece, performing_piece, phrase_piece, phrases_piece, calculating_piece, statement_piece, sentence_piece, start_piece, back_piece, paragraph_piece, section_piece, end_piece};
+ghost use Rattle.codegen.specs.Layout.{moving_piece, texts_piece, stop_run_piece, branching_piece, ending_piece, range_piece, turn_piece, performing_piece, phrase_piece, phrases_piece, calculating_piece, statement_piece, sentence_piece, start_piece, back_piece, paragraph_piece, section_piece, end_piece};
 
 use crate::emitter::Emitter;
 use crate::phrases::{emit_branch, emit_jump, emit_meeting, has_phrase};
-use code_image::{Code, CounterIndex, Instruction, ParagraphIndex};
+use crate::times::count_of;
+use code_image::{Code, Instruction, ParagraphIndex};
 use source_tree::{
-    Arithmetic, Branching, Condition, Ending, Integer, Moving, Name, Paragraph, Performed,
-    Performing, Phrases, Section, Sentence, Statement, Text, Turns, Verb,
+    Arithmetic, Branching, Ending, Moving, Name, Paragraph, Performed, Performing, Phrases,
+    Section, Sentence, Statement, Text, Turns, Verb,
 };
 use sqlite_items::Items;
 use std::alloc::AllocError;
@@ -37,56 +36,6 @@ pub(crate) fn emit_tick(code: &mut Code, line: u32) -> Result<(), AllocError>
 {
     code.instructions.push(Instruction::Tick { line })?;
     Ok(())
-}
-
-/// How many turns an integer before TIMES says.
-fn count_of(integer: &Integer) -> u64
-    ensures { result ≡ turns_of integer.now }
-{
-    let mut count = 0u64;
-    for digit in integer.digits.as_slice() {
-        count = count
-            .saturating_mul(10)
-            .saturating_add(u64::from(digit.saturating_sub(b'0')));
-    }
-    count
-}
-
-/// Answers the address at which each turn begins.
-fn emit_loop_begin(code: &mut Code, more: u64) -> Result<usize, AllocError>
-    ensures code { OnOk result (code.new ≡ joined code.old (loop_begin more code.old)) }
-    ensures turn { IfOk result (λ turn. turn ≡ length code.old.instructions + 1) }
-{
-    let number = code.instructions.len();
-    code.instructions.push(Instruction::Count {
-        counter: CounterIndex { number },
-        turns: more,
-    })?;
-    Ok(code.instructions.len())
-}
-
-fn emit_loop_end(code: &mut Code, begin: usize, turn: usize) -> Result<(), AllocError>
-    requires { turn ≡ begin + 1 }
-    ensures { OnOk result (code.new ≡ joined code.old (loop_end begin)) }
-{
-    code.instructions.push(Instruction::Turn {
-        counter: CounterIndex { number: begin },
-        to: turn,
-    })?;
-    Ok(())
-}
-
-/// The condition of an IF, its statements and those of ELSE.
-fn parts_of(one: &Branching<Statement>) -> (&Condition, &[Statement], &Option<Items<Statement>>)
-    ensures { one.now ≡ If result.0.now result.1.now result.2.now }
-{
-    match one {
-        Branching::If {
-            condition,
-            statements,
-            otherwise,
-        } => (condition, statements.as_slice(), otherwise),
-    }
 }
 
 fn emit_ending(code: &mut Code, line: u32, one: Ending) -> Result<(), AllocError>
@@ -225,7 +174,11 @@ impl<'a> Emitter<'a> {
 
     /// The statements of a phrase, where it stands.
     #[cycle(statement)]
-    fn emit_phrase(&self, code: &mut Code, one: &Option<Items<Statement>>) -> Result<(), AllocError>
+    pub(crate) fn emit_phrase(
+        &self,
+        code: &mut Code,
+        one: &Option<Items<Statement>>,
+    ) -> Result<(), AllocError>
         requires declared { IsDeclared self.now.declarations.now }
         requires entries { entry_rules self.now.declarations.now.entries.now ≡ [] }
         requires rules { rules.phrase_rules (rules.statement_rules (scope_in self.now.declarations.now) all_permitted) one.now ≡ [] }
@@ -237,7 +190,7 @@ impl<'a> Emitter<'a> {
         }
     }
 
-    /// IF, with its `tick` and the statements in it.
+    /// IF or EVALUATE, with its `tick` and the statements in it.
     #[cycle(statement)]
     fn emit_branching(
         &self,
@@ -250,14 +203,22 @@ impl<'a> Emitter<'a> {
         requires rules { rules.branching_rules (items_in self.now.declarations.now) (rules.statement_rules (scope_in self.now.declarations.now) all_permitted) one.now ≡ [] }
         ensures { OnOk result (code.new ≡ joined code.old (branching_piece (scope_in self.now.declarations.now) (statement_piece (scope_in self.now.declarations.now)) line one.now code.old)) }
     {
-        let (condition, statements, otherwise) = parts_of(one);
         emit_tick(code, line)?;
-        self.emit_condition(code, condition)?;
-        let branch = emit_branch(code)?;
-        self.emit_statements(code, statements)?;
-        let other = emit_jump(code)?;
-        self.emit_phrase(code, otherwise)?;
-        emit_meeting(code, branch, other)
+        match one {
+            Branching::If {
+                condition,
+                statements,
+                otherwise,
+            } => {
+                self.emit_condition(code, condition)?;
+                let branch = emit_branch(code)?;
+                self.emit_statements(code, statements.as_slice())?;
+                let other = emit_jump(code)?;
+                self.emit_phrase(code, otherwise)?;
+                emit_meeting(code, branch, other)
+            }
+            Branching::Evaluate(evaluate) => self.emit_evaluate(code, evaluate),
+        }
     }
 
     /// PERFORM, as often as it says.
@@ -278,6 +239,10 @@ impl<'a> Emitter<'a> {
             Turns::Times(count) => {
                 emit_tick(code, line)?;
                 self.emit_times(code, line, count_of(count), &one.performed)
+            }
+            Turns::CountedBy(item) => {
+                emit_tick(code, line)?;
+                self.emit_counted(code, line, item, &one.performed)
             }
             Turns::Until(until) => {
                 emit_tick(code, line)?;
@@ -330,28 +295,6 @@ impl<'a> Emitter<'a> {
             last: ParagraphIndex { number: range.last },
         })?;
         Ok(())
-    }
-
-    #[cycle(statement)]
-    fn emit_times(
-        &self,
-        code: &mut Code,
-        line: u32,
-        count: u64,
-        one: &Performed<Statement>,
-    ) -> Result<(), AllocError>
-        requires declared { IsDeclared self.now.declarations.now }
-        requires entries { entry_rules self.now.declarations.now.entries.now ≡ [] }
-        requires rules { rules.performed_rules (scope_in self.now.declarations.now).procedures all_permitted (rules.statement_rules (scope_in self.now.declarations.now) all_permitted) one.now ≡ [] }
-        ensures { OnOk result (code.new ≡ joined code.old (times_piece count (turn_piece (scope_in self.now.declarations.now) (statement_piece (scope_in self.now.declarations.now)) line one.now) code.old)) }
-    {
-        if count == 0 {
-            return Ok(());
-        }
-        let begin = code.instructions.len();
-        let turn = emit_loop_begin(code, count - 1)?;
-        self.emit_turn(code, line, one)?;
-        emit_loop_end(code, begin, turn)
     }
 
     /// Statements, in order.

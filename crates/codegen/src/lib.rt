@@ -3,11 +3,13 @@
 
 mod accept;
 mod arithmetic;
+mod asked;
 mod condition;
 mod condition_name;
 mod display;
 mod emit;
 mod emitter;
+mod evaluate;
 mod expression;
 mod moving;
 mod number;
@@ -16,6 +18,7 @@ mod program;
 mod references;
 mod storage;
 mod text;
+mod times;
 mod until;
 
 pub use program::generate;

@@ -4,11 +4,19 @@ ghost use Rattle.std.specs.Prelude.{◌≡◌, ◌+◌, ◌<◌, ◌≤◌, ◌|
 ghost use Rattle.source_tree.specs.Arithmetic.{is_there};
 ghost use Rattle.codegen.specs.Pieces.{joined};
 ghost use Rattle.codegen.specs.Meeting.{branch_code, jump_code};
-ghost use Rattle.codegen.specs.Phrases.{met};
+ghost use Rattle.std.specs.List.{AllByRecursion};
+ghost use Rattle.codegen.specs.Phrases.{IsWay, met, met_all};
 
 use code_image::{Code, Instruction};
 use source_tree::{Phrases, Statement};
 use std::alloc::AllocError;
+
+/// Where one of two ways isn't known yet: the address of the branch, and that at which the other way begins.
+#[derive(Clone, Copy, Drop)]
+pub(crate) struct Way {
+    pub(crate) branch: usize,
+    pub(crate) other: usize,
+}
 
 /// A phrase stands.
 pub(crate) fn has_phrase(one: &Phrases<Statement>) -> bool
@@ -58,5 +66,16 @@ pub(crate) fn emit_meeting(code: &mut Code, branch: usize, other: usize) -> Resu
         .set(branch, Instruction::Branch { to: other });
     code.instructions
         .set(other - 2, Instruction::Jump { to: end });
+    Ok(())
+}
+
+/// All ways meet, the last ones first.
+pub(crate) fn emit_meetings(code: &mut Code, mut ways: Vec<Way>) -> Result<(), AllocError>
+    requires { AllByRecursion (IsWay (length code.old.instructions)) ways.items }
+    ensures { OnOk result (code.new ≡ met_all ways.items code.old) }
+{
+    'ways: while let Some(way) = ways.pop() {
+        emit_meeting(code, way.branch, way.other)?;
+    }
     Ok(())
 }

@@ -4,3 +4,6 @@ pub mod Sides
 pub mod Levels
 pub mod Plain
 pub mod Conditions
+pub mod Depths
+pub mod Evaluate
+pub mod Named

@@ -1,5 +1,5 @@
--- Worked examples: tokens of conditions, and what reading them gives.
-use Rattle.std.proofs.Common.{◌≡◌, ℕ, false, [], ◌∷◌, refl}
+-- Worked examples: tokens of conditions, selection subjects and selection objects, and what reading them gives.
+use Rattle.std.proofs.Common.{◌≡◌, ℕ, true, false, [], ◌∷◌, Some, None, refl}
 use Rattle.std.specs.Prelude.{Ok, Err}
 use Rattle.tokens.specs.declared.reserved.Reserved.{Reserved}
 use Rattle.tokens.specs.declared.reserved.Reserved.TheVariants as w
@@ -17,6 +17,10 @@ use Rattle.source_tree.specs.declared.condition.Side.{Side}
 use Rattle.source_tree.specs.declared.condition.Side.TheVariants as side
 use Rattle.source_tree.specs.declared.condition.Condition.{Condition}
 use Rattle.source_tree.specs.declared.condition.Condition.TheVariants as c
+use Rattle.source_tree.specs.declared.evaluate.Subject.TheVariants as subject
+use Rattle.source_tree.specs.declared.evaluate.Choice.{Choice}
+use Rattle.source_tree.specs.declared.evaluate.Choice.TheVariants as choice
+use Rattle.source_tree.specs.declared.evaluate.Object.{Object}
 use Rattle.grammar.specs.declared.fault.Halt.TheVariants.{TooDeep}
 use Rattle.tokens.specs.Reserved.{same_word}
 use Rattle.grammar.specs.Reading as read
@@ -29,6 +33,8 @@ use Rattle.expressions.specs.Looking as looking
 use Rattle.conditions.specs.Tests as t
 use Rattle.conditions.specs.Conditions as g
 use Rattle.conditions.specs.Conditions.{condition_reader}
+use Rattle.conditions.specs.Evaluate as v
+use Rattle.conditions.specs.Evaluate.{subject_reader, object_reader}
 
 abbrev here : Place
 here = record { line = 1; column = 12 }
@@ -58,7 +64,7 @@ equal = at (k.Operator operator.Equal)
 
 -- every step of reading, so that a condition's tree is computed
 unfoldable computing : Unit {0}
-unfolding same_word read.after_word read.past_word read.expect read.skip read.stands read.one_token read.name read.several_from read.several read.any s.qualifier_reader s.qualified_reader s.integer_reader s.subscript_reader r.subscripts_reader r.enclosed_subscripts_reader r.reference_reader o.item_reader o.number_literal_reader o.number_operand_reader l.literal_reader l.all_literal_reader e.further_reader e.level_reader e.product_reader e.sum_reader e.plain_reader e.signed_reader e.enclosed_reader e.nested_reader e.factor_reader e.expression_reader looking.past_closing t.or_equal_phrase_reader t.or_equal_reader t.order_reader t.equal_reader t.asked_reader g.expression_side_reader g.literal_side_reader g.side_reader g.named_reader g.class_reader g.relation_reader g.compared_reader g.by_reference_reader g.plain_reader g.further_reader g.level_reader g.conjunction_reader g.disjunction_reader g.negation_reader g.enclosed_reader g.nested_reader g.simple_reader g.condition_reader
+unfolding same_word read.after_word read.past_word read.expect read.skip read.stands read.one_token read.name read.several_from read.several read.any s.qualifier_reader s.qualified_reader s.integer_reader s.subscript_reader r.subscripts_reader r.enclosed_subscripts_reader r.reference_reader o.item_reader o.number_literal_reader o.number_operand_reader l.literal_reader l.all_literal_reader e.further_reader e.level_reader e.product_reader e.sum_reader e.plain_reader e.signed_reader e.enclosed_reader e.nested_reader e.factor_reader e.expression_reader looking.past_closing t.or_equal_phrase_reader t.or_equal_reader t.order_reader t.equal_reader t.asked_reader g.expression_side_reader g.literal_side_reader g.side_reader g.named_reader g.class_reader g.relation_reader g.compared_reader g.by_reference_reader g.plain_reader g.further_reader g.level_reader g.conjunction_reader g.disjunction_reader g.negation_reader g.enclosed_reader g.nested_reader g.simple_reader g.condition_reader read.here v.alone_reader v.truth_reader v.subject_truth_reader v.subject_condition_reader v.subject_asked_reader v.subject_reader v.last_reader v.choice_any_reader v.choice_truth_reader v.choice_condition_reader v.choice_value_reader v.choice_asked_reader v.choice_reader v.object_reader
 computing = tt
 
 -- A OR B AND C: AND before OR, and nothing of the depth
@@ -99,3 +105,56 @@ too_deep = refl
 of_class : condition_reader 0 (named 65 ∷ word w.Is ∷ word w.Numeric ∷ []) ≡ Ok (c.Class (item 65) false class.Numeric, [])
 unfolding computing
 of_class = refl
+
+-- ---- selection subjects and objects
+
+abbrev chosen : Choice → Object
+chosen one = record { place = here; choice = one }
+
+-- ( A ), a reference alone
+subject_in_parentheses : subject_reader 1 (at k.LeftParenthesis ∷ named 65 ∷ at k.RightParenthesis ∷ word w.When ∷ []) ≡ Ok (subject.Value (value 65), word w.When ∷ [])
+unfolding computing
+subject_in_parentheses = refl
+
+-- NOT A, a condition as a subject, and as an object a value
+denied_subject : subject_reader 1 (word w.Not ∷ named 65 ∷ []) ≡ Ok (subject.Condition (c.Not (name 65)), [])
+unfolding computing
+denied_subject = refl
+
+denied_object : object_reader 0 (word w.Not ∷ named 65 ∷ []) ≡ Ok (chosen (choice.Value true (value 65) None), [])
+unfolding computing
+denied_object = refl
+
+-- NOT A = B, a condition
+denied_relation : object_reader 1 (word w.Not ∷ named 65 ∷ equal ∷ named 66 ∷ []) ≡ Ok (chosen (choice.Condition (c.Not (c.Relation (value 65) relation.Equal (value 66)))), [])
+unfolding computing
+denied_relation = refl
+
+-- A AND B
+conjunction : object_reader 0 (named 65 ∷ word w.And ∷ named 66 ∷ []) ≡ Ok (chosen (choice.Condition (c.All (name 65 ∷ name 66 ∷ []))), [])
+unfolding computing
+conjunction = refl
+
+-- NOT A THRU B
+range : object_reader 0 (word w.Not ∷ named 65 ∷ word w.Thru ∷ named 66 ∷ []) ≡ Ok (chosen (choice.Value true (value 65) (Some (value 66))), [])
+unfolding computing
+range = refl
+
+-- ( NOT A ): a condition, since no value stands
+denied_in_parentheses : object_reader 2 (at k.LeftParenthesis ∷ word w.Not ∷ named 65 ∷ at k.RightParenthesis ∷ []) ≡ Ok (chosen (choice.Condition (c.Not (name 65))), [])
+unfolding computing
+denied_in_parentheses = refl
+
+-- ( A ), one level too deep
+subject_too_deep : subject_reader 0 (at k.LeftParenthesis ∷ named 65 ∷ at k.RightParenthesis ∷ []) ≡ Err (TooDeep 3)
+unfolding computing
+subject_too_deep = refl
+
+-- FALSE, ANY
+false_subject : subject_reader 0 (word w.False ∷ []) ≡ Ok (subject.Truth false, [])
+unfolding computing
+false_subject = refl
+
+any_object : object_reader 0 (word w.Any ∷ []) ≡ Ok (chosen choice.Any, [])
+unfolding computing
+any_object = refl

@@ -3,6 +3,7 @@
 
 mod asked;
 mod compound;
+mod evaluate;
 mod laws;
 mod nested;
 mod plain;
@@ -10,6 +11,7 @@ mod sides;
 
 pub use asked::{Asked, Test, begins_test, read_asked};
 pub use compound::condition;
-pub use laws::condition_law;
+pub use evaluate::{object, subject};
+pub use laws::{condition_law, object_law, subject_law};
 pub use plain::goes_on;
 pub use sides::side;

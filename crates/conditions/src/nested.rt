@@ -9,7 +9,7 @@ ghost use Rattle.conditions.specs.Nests.{Nests};
 
 use crate::plain::{goes_on_after, plain};
 use expressions::{begins_left, left, past_parentheses, right};
-use grammar::{Halt, Part, ReadFault, Tokens, any};
+use grammar::{Halt, Part, ReadFault, Tokens, any, beside};
 use source_tree::Condition;
 use sqlite_items::{Boxed, Items};
 use std::alloc::{AllocError, Global};
@@ -134,7 +134,8 @@ impl<F: Fn(Global, &mut Tokens<'_>, usize) -> Result<Condition, ReadFault>> Cond
         ensures { Reads (spec.conjunction_reader (spec.simple_reader self.now.depth) tokens.old) result tokens.new }
     {
         let first = self.simple(tokens)?;
-        let more = any(&FurtherSimple { conditions: self }, self.alloc, tokens)?;
+        let more = any(&FurtherSimple { conditions: self }, self.alloc, tokens);
+        let (first, more) = beside(first, more)?;
         Ok(all_of(self.alloc, first, more)?)
     }
 
@@ -149,7 +150,8 @@ impl<F: Fn(Global, &mut Tokens<'_>, usize) -> Result<Condition, ReadFault>> Cond
             &FurtherConjunctions { conditions: self },
             self.alloc,
             tokens,
-        )?;
+        );
+        let (first, more) = beside(first, more)?;
         Ok(any_of(self.alloc, first, more)?)
     }
 
@@ -172,7 +174,7 @@ impl<F: Fn(Global, &mut Tokens<'_>, usize) -> Result<Condition, ReadFault>> Cond
     {
         left(tokens)?;
         let inner = self.disjunction(tokens)?;
-        right(tokens)?;
+        let (inner, ()) = beside(inner, right(tokens))?;
         Ok(inner)
     }
 

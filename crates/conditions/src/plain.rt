@@ -8,7 +8,7 @@ ghost use Rattle.conditions.specs.Conditions as spec;
 use crate::asked::{Asked, begins_class, begins_test, read_asked};
 use crate::sides::side;
 use expressions::{begins_operator, past_reference, reference};
-use grammar::{ReadFault, Tokens, begins_name};
+use grammar::{ReadFault, Tokens, begins_name, beside};
 use source_tree::{Condition, Reference, Relation, Side, SignTest};
 use std::alloc::Global;
 use tokens::Token;
@@ -128,7 +128,7 @@ fn compared(alloc: Global, tokens: &mut Tokens<'_>, depth: usize) -> Result<Cond
     ensures { Reads (spec.compared_reader depth tokens.old) result tokens.new }
 {
     let left = side(alloc, tokens, depth)?;
-    let asked = read_asked(tokens)?;
+    let (left, asked) = beside(left, read_asked(tokens))?;
     compared_after(alloc, tokens, depth, left, asked)
 }
 

@@ -6,7 +6,7 @@ ghost use Rattle.data_division.specs.Entries as rule;
 ghost use Rattle.data_division.specs.EntryReading as spec;
 
 use crate::stated::{Stated, stated_clauses};
-use grammar::{ReadFault, Tokens, begins_name, name};
+use grammar::{ReadFault, Tokens, begins_name, beside, name};
 use source_tree::{Entry, Integer, ItemEntry, Name};
 use std::alloc::Global;
 use tokens::Reserved;
@@ -52,7 +52,7 @@ pub fn item_entry(
     ensures { Reads (spec.item_reader level tokens.old) result tokens.new }
 {
     let name = named(alloc, tokens)?;
-    let clauses = stated_clauses(alloc, tokens)?;
-    tokens.period()?;
-    Ok(Entry::Item(item_of(level, name, clauses)))
+    let (name, clauses) = beside(name, stated_clauses(alloc, tokens))?;
+    let (item, ()) = beside(item_of(level, name, clauses), tokens.period())?;
+    Ok(Entry::Item(item))
 }

@@ -22,6 +22,7 @@ use Rattle.tokens.specs.Reserved.{same_word}
 use Rattle.grammar.specs.Reading as read
 use Rattle.expressions.specs.Literals as literals
 use Rattle.expressions.specs.Subscripts as subscripts
+use Rattle.expressions.specs.References as references
 use Rattle.expressions.specs.Operands as operands
 use Rattle.statements.specs.Display as display_rule
 use Rattle.statements.specs.Exiting as exiting_rule
@@ -68,10 +69,10 @@ unfoldable computing : Unit {0}
 unfolding
     same_word read.after_word read.past_word read.expect read.left_out read.period read.heading read.nothing read.here read.one_token read.name
     read.several_from read.several read.any
-    literals.literal_reader subscripts.integer_reader operands.literal_operand_reader operands.operand_reader
+    literals.literal_reader subscripts.integer_reader subscripts.qualified_reader references.subscripts_reader references.reference_reader operands.literal_operand_reader operands.operand_reader
     display_rule.after_no_advancing display_rule.display_reader exiting_rule.exiting_reader stop_run_rule.stop_run_reader
     performing_rule.performing_reader performing_rule.procedures_reader performing_rule.last_reader performing_rule.through_reader
-    performing_rule.in_line_reader turning_rule.turns_reader turning_rule.times_reader
+    performing_rule.in_line_reader turning_rule.turns_reader turning_rule.times_reader turning_rule.counted_reader
     statements.statements statements.verb statements.line statements.statement statements.sentence
     environment.environment_reader division.data_division_reader forms.first_formless
     r.program r.identification r.procedure r.all_sections r.outer_body r.after_body r.following r.sections r.section r.section_paragraphs

@@ -24,6 +24,7 @@ number_of rule.Move = 49
 number_of rule.Subscripts = 50
 number_of rule.Number = 51
 number_of rule.Comparison = 52
+number_of rule.Object = 53
 number_of rule.Recursion = 54
 number_of rule.Range = 55
 number_of rule.NoProcedure = 56

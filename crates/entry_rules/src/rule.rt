@@ -40,6 +40,8 @@ pub enum Rule {
     Number,
     /// Two sides that can't be compared.
     Comparison,
+    /// Objects of a WHEN that don't match the subjects, by their number or by what they are.
+    Object,
     /// A PERFORM that leads back to the paragraph that it stands in.
     Recursion,
     /// A range of values or of procedures that is backwards.
@@ -73,6 +75,7 @@ impl Rule {
             Rule::Subscripts => 50,
             Rule::Number => 51,
             Rule::Comparison => 52,
+            Rule::Object => 53,
             Rule::Recursion => 54,
             Rule::Range => 55,
             Rule::NoProcedure => 56,

@@ -10,7 +10,7 @@ use crate::marks::{
     product_operator, right, sign, sum_operator,
 };
 use crate::operands::number_operand;
-use grammar::{Halt, Part, ReadFault, Tokens, any};
+use grammar::{Halt, Part, ReadFault, Tokens, any, beside};
 use source_tree::{Expression, Operator};
 use sqlite_items::{Boxed, Items};
 use std::alloc::{AllocError, Global};
@@ -127,7 +127,8 @@ impl<F: Fn(Global, &mut Tokens<'_>, usize) -> Result<Expression, ReadFault>> Fac
         ensures { Reads (spec.product_reader (spec.factor_reader self.now.depth) tokens.old) result tokens.new }
     {
         let first = self.factor(tokens)?;
-        let more = any(&FurtherFactors { factors: self }, self.alloc, tokens)?;
+        let more = any(&FurtherFactors { factors: self }, self.alloc, tokens);
+        let (first, more) = beside(first, more)?;
         Ok(joined(self.alloc, first, more)?)
     }
 
@@ -138,7 +139,8 @@ impl<F: Fn(Global, &mut Tokens<'_>, usize) -> Result<Expression, ReadFault>> Fac
         ensures { Reads (spec.sum_reader (spec.factor_reader self.now.depth) tokens.old) result tokens.new }
     {
         let first = self.product(tokens)?;
-        let more = any(&FurtherProducts { factors: self }, self.alloc, tokens)?;
+        let more = any(&FurtherProducts { factors: self }, self.alloc, tokens);
+        let (first, more) = beside(first, more)?;
         Ok(joined(self.alloc, first, more)?)
     }
 
@@ -164,7 +166,7 @@ impl<F: Fn(Global, &mut Tokens<'_>, usize) -> Result<Expression, ReadFault>> Fac
     {
         left(tokens)?;
         let inner = self.sum(tokens)?;
-        right(tokens)?;
+        let (inner, ()) = beside(inner, right(tokens))?;
         Ok(inner)
     }
 

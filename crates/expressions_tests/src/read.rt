@@ -52,24 +52,82 @@ pub fn tokens_of(alloc: Global, text: &str) -> Option<Items<Token>> {
     Some(scanned)
 }
 
+/// What was read is written out, unless memory runs out.
+type Written = Result<Result<(), AllocError>, ReadFault>;
+
+/// What was read is given up, once it was written out.
+fn after<T: Drop>(_read: T, written: Result<(), AllocError>) -> Written {
+    Ok(written)
+}
+
+fn push_one_reference(alloc: Global, to: &mut String, tokens: &mut Tokens<'_>) -> Written {
+    let one = reference(alloc, tokens)?;
+    let written = push_reference(to, &one);
+    after(one, written)
+}
+
+fn push_several_references(alloc: Global, to: &mut String, tokens: &mut Tokens<'_>) -> Written {
+    let all = several(&References, alloc, tokens)?;
+    let written = push_references(to, all.as_slice());
+    after(all, written)
+}
+
+fn push_one_operand(alloc: Global, to: &mut String, tokens: &mut Tokens<'_>) -> Written {
+    let one = operand(alloc, tokens)?;
+    let written = push_operand(to, &one);
+    after(one, written)
+}
+
+fn push_several_operands(alloc: Global, to: &mut String, tokens: &mut Tokens<'_>) -> Written {
+    let all = several(&Operands, alloc, tokens)?;
+    let written = push_operands(to, all.as_slice());
+    after(all, written)
+}
+
+fn push_number_operand(alloc: Global, to: &mut String, tokens: &mut Tokens<'_>) -> Written {
+    let one = number_operand(alloc, tokens)?;
+    let written = push_operand(to, &one);
+    after(one, written)
+}
+
+fn push_one_expression(
+    alloc: Global,
+    to: &mut String,
+    tokens: &mut Tokens<'_>,
+    depth: usize,
+) -> Written {
+    let one = expression(alloc, tokens, depth)?;
+    let written = push_expression(to, &one, DEEPEST);
+    after(one, written)
+}
+
+fn push_one_condition(
+    alloc: Global,
+    to: &mut String,
+    tokens: &mut Tokens<'_>,
+    depth: usize,
+) -> Written {
+    let one = condition(alloc, tokens, depth)?;
+    let written = push_condition(to, &one, DEEPEST);
+    after(one, written)
+}
+
 fn push_read(
     alloc: Global,
     to: &mut String,
     tokens: &mut Tokens<'_>,
     notion: Notion,
     depth: usize,
-) -> Result<Result<(), AllocError>, ReadFault> {
-    Ok(match notion {
-        Notion::Reference => push_reference(to, &reference(alloc, tokens)?),
-        Notion::References => {
-            push_references(to, several(&References, alloc, tokens)?.as_slice())
-        }
-        Notion::Operand => push_operand(to, &operand(alloc, tokens)?),
-        Notion::Operands => push_operands(to, several(&Operands, alloc, tokens)?.as_slice()),
-        Notion::NumberOperand => push_operand(to, &number_operand(alloc, tokens)?),
-        Notion::Expression => push_expression(to, &expression(alloc, tokens, depth)?, DEEPEST),
-        Notion::Condition => push_condition(to, &condition(alloc, tokens, depth)?, DEEPEST),
-    })
+) -> Written {
+    match notion {
+        Notion::Reference => push_one_reference(alloc, to, tokens),
+        Notion::References => push_several_references(alloc, to, tokens),
+        Notion::Operand => push_one_operand(alloc, to, tokens),
+        Notion::Operands => push_several_operands(alloc, to, tokens),
+        Notion::NumberOperand => push_number_operand(alloc, to, tokens),
+        Notion::Expression => push_one_expression(alloc, to, tokens, depth),
+        Notion::Condition => push_one_condition(alloc, to, tokens, depth),
+    }
 }
 
 fn halt_of(fault: ReadFault) -> (bool, usize) {

@@ -5,6 +5,7 @@
 mod cursor;
 mod fault;
 mod names;
+mod pairs;
 mod part;
 mod passing;
 mod phrase;
@@ -13,6 +14,7 @@ mod words;
 pub use cursor::Tokens;
 pub use fault::{Halt, ReadFault};
 pub use names::{begins_name, name};
+pub use pairs::beside;
 pub use part::{Part, any, several};
 pub use passing::{Passing, past_any, past_several};
 pub use phrase::{Phrase, after_denied, after_opened, phrase_at, two_sided};

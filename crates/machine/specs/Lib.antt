@@ -2,4 +2,5 @@ pub mod Rooms
 pub mod Returns
 pub mod Standing
 pub mod Ends
+pub mod Counting
 pub mod Progress

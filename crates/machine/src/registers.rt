@@ -3,6 +3,7 @@
 ghost use Rattle.std.specs.Prelude.{◌≡◌, ◌<◌, ◌-◌, length, slice_index, slice_set, IfOk, IsTrue, IsFalse};
 ghost use Rattle.code_image.specs.Demands.{IsVerified};
 ghost use Rattle.machine.specs.Standing.{IsLoaded};
+ghost use Rattle.machine.specs.Counting.{BeginsTurns};
 
 use crate::returns::Returns;
 use crate::room::room_along;
@@ -67,5 +68,17 @@ pub(crate) fn turn(counters: &mut [u64], counter: CounterIndex) -> bool
         return false;
     }
     counters[counter.number] = left - 1;
+    true
+}
+
+/// Of so many turns one begins, if there are any, and a counter then holds the others.
+pub(crate) fn begin_turns(counters: &mut [u64], counter: CounterIndex, turns: u64) -> bool
+    requires { counter.number < length counters.old }
+    ensures { BeginsTurns result turns counter.number counters.old counters.new }
+{
+    if turns == 0 {
+        return false;
+    }
+    counters[counter.number] = turns - 1;
     true
 }

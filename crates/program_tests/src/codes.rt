@@ -301,8 +301,8 @@ fn an_image_cut_short(rt: HostRuntime) -> Result<(), Fail> {
     Ok(())
 }
 
-/// Refused with 70 to 74, or a run that ends within its budget.
-fn is_harmless(alloc: Global, image: &[u8]) -> Result<bool, Fail> {
+/// Refused with 70 to 74, or a run that stops within its budget; with `otherwise` one that ends in any way but by a refusal.
+pub(crate) fn is_harmless(alloc: Global, image: &[u8], otherwise: bool) -> Result<bool, Fail> {
     let code = match from_bytes(alloc, image) {
         Ok(code) => code,
         Err(ImageError::Refused(fault)) => return Ok((70..=72).contains(&fault.number())),
@@ -314,12 +314,21 @@ fn is_harmless(alloc: Global, image: &[u8]) -> Result<bool, Fail> {
         Ok(verified) => {
             let mut station = new_station(alloc)?;
             let ended = Machine::new(alloc, verified, DAY)?.run(&mut station, ENOUGH);
-            Ok(ended == Ended::Stopped)
+            Ok(match ended {
+                Ended::Stopped => true,
+                Ended::Budget | Ended::Faulted { .. } => otherwise,
+                Ended::Refused(_) => false,
+            })
         }
     }
 }
 
-fn with_byte(alloc: Global, image: &[u8], at: usize, byte: u8) -> Result<Vec<u8>, AllocError> {
+pub(crate) fn with_byte(
+    alloc: Global,
+    image: &[u8],
+    at: usize,
+    byte: u8,
+) -> Result<Vec<u8>, AllocError> {
     let mut changed = image.to_vec(alloc)?;
     if let Some(place) = changed.get_mut(at) {
         *place = byte;
@@ -337,7 +346,7 @@ fn an_image_with_one_byte_changed(rt: HostRuntime) -> Result<(), Fail> {
             same_in(
                 &rt,
                 &(at, other),
-                is_harmless(alloc, changed.as_slice())?,
+                is_harmless(alloc, changed.as_slice(), false)?,
                 true,
             );
             if at < 8 && changed != image {

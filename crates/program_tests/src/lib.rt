@@ -7,6 +7,8 @@ mod accepts;
 #[cfg(test)]
 mod asserted;
 #[cfg(test)]
+mod changes;
+#[cfg(test)]
 mod codes;
 #[cfg(test)]
 mod moves;

@@ -4,8 +4,8 @@ use crate::asserted::{same, same_in};
 use divisions::{ParseError, parse};
 use source_lines::logical;
 use source_tree::{
-    Branching, Ending, Moving, Name, Operand, Performed, Performing, Program, Statement, TestTime,
-    Text, Turns, Verb,
+    Branching, Ending, Evaluate, Moving, Name, Operand, Performed, Performing, Program, Statement,
+    TestTime, Text, Turns, Verb,
 };
 use sqlite_items::Items;
 use std::alloc::{AllocError, Global};
@@ -16,7 +16,7 @@ const HEADER: &str =
     "       IDENTIFICATION DIVISION.\n       PROGRAM-ID. HELLO.\n       PROCEDURE DIVISION.\n";
 
 /// What comes after the three lines of `HEADER`, and its tree as `shape` writes it.
-const TREES: [(&str, &str); 38] = [
+const TREES: [(&str, &str); 40] = [
     // HELLO in its six lines, with END PROGRAM, and with another name there
     (
         "       MAIN-PARA.\n           DISPLAY \"HELLO\".\n           STOP RUN.\n",
@@ -133,6 +133,10 @@ const TREES: [(&str, &str); 38] = [
         "           IF 1 = 2 CONTINUE CONTINUE ELSE CONTINUE.\n",
         "HELLO|.I2@4:12",
     ),
+    (
+        "           EVALUATE 1 ALSO TRUE WHEN 1 ALSO ANY WHEN 2 ALSO 1 = 2\n           CONTINUE CONTINUE WHEN 3 ALSO FALSE CONTINUE WHEN OTHER EXIT.\n",
+        "HELLO|.V2(2W21W1O1)@4:12",
+    ),
     // sections, one of them with nothing in it, and sentences before the first
     ("       A SECTION.\n", "HELLO#A@4:8"),
     (
@@ -160,6 +164,11 @@ const TREES: [(&str, &str); 38] = [
         "           PERFORM A PERFORM A THRU A TEST AFTER UNTIL 1 = 2.\n       A.\n",
         "HELLO|.P[A]@4:12PV[A-A]@4:22|A@5:8",
     ),
+    // an item before TIMES
+    (
+        "           PERFORM N TIMES PERFORM A M OF G TIMES END-PERFORM\n           PERFORM A THRU A T (1) TIMES.\n       A.\n",
+        "HELLO|.PN(PM[A]@4:28)@4:12PT[A-A]@5:12|A@6:8",
+    ),
     // END PROGRAM after a section
     (
         "       A SECTION.\n           STOP RUN.\n       END PROGRAM HELLO.\n",
@@ -168,7 +177,7 @@ const TREES: [(&str, &str); 38] = [
 ];
 
 /// What comes after the three lines of `HEADER`, and the fault's number, line and column.
-const FAULTS: [(&str, u8, u32, u8); 41] = [
+const FAULTS: [(&str, u8, u32, u8); 42] = [
     // nothing after PROCEDURE DIVISION. : at the last token
     ("", 30, 3, 26),
     // a missing period at the end
@@ -219,8 +228,8 @@ const FAULTS: [(&str, u8, u32, u8); 41] = [
         20,
     ),
     ("           STOP RUN.\n       END HELLO.\n", 30, 5, 12),
-    // a PERFORM without statements, without its end, with a period before it, without the name behind THRU, with a name before TIMES
-    // alone, and an end without one
+    // a PERFORM without statements, without its end, with a period before it, without the name behind THRU, with an item before TIMES
+    // alone, with a name behind a procedure's, and an end without one
     ("           PERFORM END-PERFORM.\n", 30, 4, 20),
     ("           PERFORM CONTINUE.\n", 30, 4, 28),
     (
@@ -230,7 +239,8 @@ const FAULTS: [(&str, u8, u32, u8); 41] = [
         48,
     ),
     ("           PERFORM A THRU.\n       A.\n", 30, 4, 26),
-    ("           PERFORM A TIMES.\n       A.\n", 30, 4, 22),
+    ("           PERFORM A TIMES.\n       A.\n", 30, 4, 27),
+    ("           PERFORM A N.\n       A.\n", 30, 4, 23),
     ("           CONTINUE END-PERFORM.\n", 30, 4, 21),
     // a count without TIMES, TIMES without a count or twice, and no statements
     ("           PERFORM 2 CONTINUE END-PERFORM.\n", 30, 4, 22),
@@ -382,6 +392,7 @@ fn push_turns(to: &mut String, turns: &Turns) -> Result<(), AllocError> {
     match turns {
         Turns::Once => Ok(()),
         Turns::Times(count) => push_text(to, count.digits.as_slice()),
+        Turns::CountedBy(one) => push_text(to, one.item.name.characters.as_slice()),
         Turns::Until(until) => to.push_str(match until.test {
             TestTime::Before => "U",
             TestTime::After => "V",
@@ -406,6 +417,26 @@ fn push_inner(to: &mut String, alloc: Global, inside: &Items<Statement>) -> Resu
     to.push_str("(")?;
     for one in inside.as_slice() {
         push_statement(to, alloc, one)?;
+    }
+    to.push_str(")")
+}
+
+/// What stands behind its WHENs is shown by tests of `statements`.
+fn push_evaluate(
+    to: &mut String,
+    alloc: Global,
+    one: &Evaluate<Statement>,
+) -> Result<(), AllocError> {
+    to.push_str(format!(in alloc; "V{}(", one.subjects.len())?.as_str())?;
+    for group in one.selected.as_slice() {
+        to.push_str(format!(in alloc;
+            "{}W{}",
+            group.whens.len(),
+            group.statements.len()
+        )?.as_str())?;
+    }
+    if let Some(other) = &one.other {
+        to.push_str(format!(in alloc; "O{}", other.len())?.as_str())?;
     }
     to.push_str(")")
 }
@@ -437,6 +468,7 @@ fn push_statement(to: &mut String, alloc: Global, statement: &Statement) -> Resu
         Verb::Branching(Branching::If { statements, .. }) => {
             to.push_str(format!(in alloc; "I{}", statements.len())?.as_str())?;
         }
+        Verb::Branching(Branching::Evaluate(one)) => push_evaluate(to, alloc, one)?,
         Verb::Text(Text::Accept { .. }) => to.push_str("A")?,
         Verb::Text(Text::AcceptDate { .. }) => to.push_str("AD")?,
         // what stands in its phrases is shown by tests of `statements`
@@ -457,7 +489,8 @@ fn push_name(to: &mut String, alloc: Global, mark: &str, name: &Name) -> Result<
 
 /// The program's name; where it has entries `^` and their number; for each section `#`, its name and place; for each paragraph
 /// `|`, its name and place; for each sentence `.` and its statements: `D`, the number of operands and `+`, or `-` for NO ADVANCING;
-/// `M` for MOVE and the number of receivers; `S` for STOP RUN, `C` for CONTINUE, `I` for IF and the number of its statements, `P`
+/// `M` for MOVE and the number of receivers; `S` for STOP RUN, `C` for CONTINUE, `I` for IF and the number of its statements, `V` for EVALUATE, the number
+/// of its subjects, and for each group the numbers of its WHENs and statements, and `O` and those of OTHER, `P`
 /// for PERFORM with its integer, or `U` and `V` for UNTIL with its test before and after, and the statements in it; each with its
 /// place.
 fn shape(alloc: Global, program: &Program) -> Result<String, AllocError> {

@@ -3,21 +3,14 @@ use Rattle.std.proofs.Common.{◌≡◌, ℕ, zero, suc, ◌<◌, ◌≤◌, Lis
 use Rattle.std.specs.Prelude.{Bool, true, false, Option, Some, None, Ok, Err}
 use Rattle.source_tree.specs.declared.performing.Performed.{Performed}
 use Rattle.source_tree.specs.declared.performing.Performed.TheVariants.{Procedures, Statements}
-use Rattle.source_tree.specs.declared.performing.Turns.{Turns}
-use Rattle.source_tree.specs.declared.performing.Turns.TheVariants.{Once, Times}
 use Rattle.source_tree.specs.declared.phrases.Phrases.{Phrases}
 use Rattle.source_tree.specs.declared.arithmetic.Arithmetic.{Arithmetic}
-use Rattle.source_tree.specs.declared.statement.Verb.{Verb}
-use Rattle.source_tree.specs.declared.statement.Verb.TheVariants as verb
-use Rattle.source_tree.specs.declared.statement.Statement.{Statement, out-Statement}
-use Rattle.source_tree.specs.declared.program.Paragraph.{Paragraph}
 use Rattle.source_tree.specs.State.{State, Outcome, Done, Over, then_do, in_turn, spend_from, spend, with_value}
 use Rattle.source_tree.specs.Places.{Placed}
 use Rattle.source_tree.specs.Evaluated.{Evaluated}
 use Rattle.source_tree.specs.Arithmetic.{Stored, operation, is_there, in_phrase, phrase_for, calculating}
 use Rattle.source_tree.specs.Procedures.{Range, Procedure, range_of}
-use Rattle.source_tree.specs.Performing.{turns, turns_of, repeat, performed_range, body}
-use Rattle.source_tree.specs.Meaning.{step, exec, sentence, paragraph, range}
+use Rattle.source_tree.specs.Performing.{turns, performed_range, body}
 use Rattle.source_tree.proofs.Runs
 use Rattle.source_tree.proofs.Runs.{Within, IsRun, in_turn_runs, body_runs}
 

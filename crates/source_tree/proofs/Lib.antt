@@ -14,4 +14,7 @@ pub mod EntryExamples
 pub mod MoveExamples
 pub mod DataExamples
 pub mod UntilExamples
+pub mod Folded
+pub mod CountedExamples
+pub mod EvaluateExamples
 pub mod PerformExamples

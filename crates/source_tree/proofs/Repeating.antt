@@ -1,19 +1,20 @@
 -- Turns of UNTIL and the ways of an IF are runs, and two depths above the budget give the same.
-use Rattle.std.proofs.Common.{◌≡◌, ℕ, zero, suc, ◌+◌, ◌<◌, ◌≤◌, List, [], ◌∷◌, refl, ap, ◌∙◌, arith}
-use Rattle.std.specs.Prelude.{Bool, true, false, Option, Some, None, Ok, Err}
+use Rattle.std.proofs.Common.{◌≡◌, ℕ, zero, suc, ◌<◌, ◌≤◌, List, [], ◌∷◌, refl, arith}
+use Rattle.std.specs.Prelude.{Bool, true, false, Option, Ok, Err}
 use Rattle.source_tree.specs.declared.until.TestTime.{TestTime}
 use Rattle.source_tree.specs.declared.until.TestTime.TheVariants.{Before, After}
 use Rattle.source_tree.specs.declared.until.Until.{Until}
 use Rattle.source_tree.specs.declared.branching.Branching.{Branching}
-use Rattle.source_tree.specs.declared.branching.Branching.TheVariants.{If}
+use Rattle.source_tree.specs.declared.branching.Branching.TheVariants as branch
+use Rattle.source_tree.specs.declared.evaluate.Subject.{Subject}
+use Rattle.source_tree.specs.declared.evaluate.Selected.{Selected}
 use Rattle.source_tree.specs.Places.{Placed}
 use Rattle.source_tree.specs.Evaluated.{Evaluated}
 use Rattle.source_tree.specs.Conditions.{Truth, holds}
 use Rattle.source_tree.specs.Branching.{way, branching}
+use Rattle.source_tree.specs.Evaluate.{selected_asked, one_of, selecting}
 use Rattle.source_tree.specs.Until.{done_if, unless_true, until_before, until_after, until_from, vary_begin, vary_on, until}
-use Rattle.source_tree.specs.State.{State, Budget, Outcome, Done, Over, then_do, in_turn, spend, with_value, changing}
-use Rattle.source_tree.specs.Arithmetic.{in_phrase}
-use Rattle.source_tree.proofs.Runs
+use Rattle.source_tree.specs.State.{State, Budget, Outcome, Over, then_do, in_turn, spend, with_value, changing}
 use Rattle.source_tree.proofs.Runs.{IsRun, itself, done_runs, then_runs, spend_runs, value_runs, changing_runs, in_turn_runs, in_phrase_runs}
 use Rattle.source_tree.proofs.Depth.{Agrees, then_agrees, spend_same, in_turn_agrees, in_phrase_agrees}
 
@@ -58,14 +59,27 @@ until_runs items line depth one go r =
     then_runs (changing (vary_begin items one.varying)) loop (changing_runs (vary_begin items one.varying))
     (turned_runs one.test line depth (holds items one.condition) next go (changing_runs (vary_on items one.varying)) r)
 
+one_of_runs : (first second : State → Outcome) → IsRun first → IsRun second → (truth : Bool) → IsRun (λ s. one_of first second truth s)
+one_of_runs first second f g true = f
+one_of_runs first second f g false = g
+
 module _ {S : Type 0} (run : S → State → Outcome) (r : (one : S) → IsRun (run one)) where
   way_runs : (statements : List S) (otherwise : Option (List S)) (truth : Bool) → IsRun (way run statements otherwise truth)
   way_runs statements otherwise true = in_turn_runs run r statements
   way_runs statements otherwise false = in_phrase_runs run r otherwise
 
+  selecting_runs : (items : List Placed) (subjects : List Subject) (selected : List (Selected S)) (other : Option (List S))
+      → IsRun (selecting items run subjects selected other)
+  selecting_runs items subjects [] other = in_phrase_runs run r other
+  selecting_runs items subjects (one ∷ more) other =
+      value_runs (λ truth s. one_of (in_turn run one.statements) (selecting items run subjects more other) truth s)
+      (one_of_runs (in_turn run one.statements) (selecting items run subjects more other) (in_turn_runs run r one.statements) (selecting_runs items subjects more other))
+      (holds items (selected_asked items subjects one))
+
   pub branching_runs : (items : List Placed) (one : Branching S) → IsRun (branching items run one)
-  branching_runs items (If condition statements otherwise) =
+  branching_runs items (branch.If condition statements otherwise) =
       value_runs (λ truth s. way run statements otherwise truth s) (way_runs statements otherwise) (holds items condition)
+  branching_runs items (branch.Evaluate one) = selecting_runs items one.subjects one.selected one.other
 
 -- ---- two depths
 
@@ -142,7 +156,14 @@ until_agrees items n d e line one go other below under r a =
     then_agrees n first first (until_from one.test line d test next go) (until_from one.test line e test next other) (changing_runs (vary_begin items one.varying)) (record { by = λ s le. refl })
     (turned_agrees test line next (changing_runs (vary_on items one.varying)) one.test n d e go other r a below under)
 
--- the two ways of an IF
+-- one of two ways
+one_of_same : (n : ℕ) (first second other another : State → Outcome) → Agrees n first other → Agrees n second another → (e : Evaluated Bool) (s : State) → s.budget ≤ n
+    → with_value e s (λ truth. one_of first second truth s) ≡ with_value e s (λ truth. one_of other another truth s)
+one_of_same n first second other another a b (Ok true) s le = a.by s le
+one_of_same n first second other another a b (Ok false) s le = b.by s le
+one_of_same n first second other another a b (Err fault) s le = refl
+
+-- the two ways of an IF, and those of EVALUATE
 module _ {S : Type 0} (n : ℕ) (run other : S → State → Outcome) (r : (one : S) → IsRun (run one)) (a : (one : S) → Agrees n (run one) (other one)) where
   way_agrees : (statements : List S) (otherwise : Option (List S)) (truth : Bool) → Agrees n (way run statements otherwise truth) (way other statements otherwise truth)
   way_agrees statements otherwise true = in_turn_agrees n run other r a statements
@@ -153,5 +174,16 @@ module _ {S : Type 0} (n : ℕ) (run other : S → State → Outcome) (r : (one 
   ways_same statements otherwise (Ok truth) s le = (way_agrees statements otherwise truth).by s le
   ways_same statements otherwise (Err fault) s le = refl
 
+  selecting_agrees : (items : List Placed) (subjects : List Subject) (selected : List (Selected S)) (phrase : Option (List S))
+      → Agrees n (selecting items run subjects selected phrase) (selecting items other subjects selected phrase)
+  selecting_agrees items subjects [] phrase = in_phrase_agrees n run other r a phrase
+  selecting_agrees items subjects (one ∷ more) phrase = record {
+    by = λ s le.
+        one_of_same n (in_turn run one.statements) (selecting items run subjects more phrase) (in_turn other one.statements) (selecting items other subjects more phrase)
+        (in_turn_agrees n run other r a one.statements) (selecting_agrees items subjects more phrase)
+        (holds items (selected_asked items subjects one) s.storage) s le;
+  }
+
   pub branching_agrees : (items : List Placed) (one : Branching S) → Agrees n (branching items run one) (branching items other one)
-  branching_agrees items (If condition statements otherwise) = record { by = λ s le. ways_same statements otherwise (holds items condition s.storage) s le }
+  branching_agrees items (branch.If condition statements otherwise) = record { by = λ s le. ways_same statements otherwise (holds items condition s.storage) s le }
+  branching_agrees items (branch.Evaluate one) = selecting_agrees items one.subjects one.selected one.other

@@ -10,28 +10,20 @@ use Rattle.source_tree.specs.declared.ending.Ending.{Ending}
 use Rattle.source_tree.specs.declared.ending.Ending.TheVariants as ending
 use Rattle.source_tree.specs.declared.performing.Performed.{Performed}
 use Rattle.source_tree.specs.declared.performing.Performed.TheVariants.{Procedures, Statements}
-use Rattle.source_tree.specs.declared.performing.Turns.{Turns}
-use Rattle.source_tree.specs.declared.performing.Turns.TheVariants.{Once, Times}
-use Rattle.source_tree.specs.declared.performing.Performing.{Performing}
-use Rattle.source_tree.specs.declared.statement.Verb.{Verb}
-use Rattle.source_tree.specs.declared.statement.Verb.TheVariants as verb
-use Rattle.source_tree.specs.declared.statement.Statement.{Statement, out-Statement}
-use Rattle.source_tree.specs.declared.program.Paragraph.{Paragraph}
 use Rattle.source_tree.specs.Storage.{Storage}
 use Rattle.source_tree.specs.Places.{Placed}
 use Rattle.source_tree.specs.Evaluated.{Evaluated}
 use Rattle.source_tree.specs.State.{State, Stopped, Budget, Faulted, Outcome, Done, Over, showing, then_do, in_turn, spend_from, spend, with_value, changing, outcome_events}
 use Rattle.source_tree.specs.Showing.{displayed}
 use Rattle.source_tree.specs.Procedures.{Range, Procedure, range_of}
-use Rattle.source_tree.specs.Moving.{moving}
 use Rattle.source_tree.specs.Texts.{texts}
 use Rattle.source_tree.specs.Accepting.{next_line, later_lines, accept_line, accept_date}
 use Rattle.source_tree.specs.Arithmetic.{Stored, operation, is_there, in_phrase, phrase_for, calculating}
 use Rattle.source_tree.specs.declared.phrases.Phrases.{Phrases}
 use Rattle.source_tree.specs.declared.arithmetic.Arithmetic.{Arithmetic}
 use Rattle.source_tree.specs.declared.reference.Reference.{Reference}
-use Rattle.source_tree.specs.Performing.{turns, turns_of, repeat, performed_range, body, performing}
-use Rattle.source_tree.specs.Meaning.{finish, step, exec, sentence, paragraph, range}
+use Rattle.source_tree.specs.Performing.{turns, performed_range, body}
+use Rattle.source_tree.specs.Meaning.{finish}
 use Rattle.station.specs.State.{Begins}
 
 pub itself : (es : List Event) → Begins es es

@@ -1,5 +1,6 @@
 -- A depth above the budget changes nothing.
 use Rattle.std.proofs.Common.{◌≡◌, ℕ, zero, suc, ◌<◌, ◌≤◌, List, [], ◌∷◌, refl, arith}
+use Rattle.std.specs.Prelude.{Ok, Err}
 use Rattle.source_tree.specs.declared.performing.Turns.{Turns}
 use Rattle.source_tree.specs.declared.performing.Turns.TheVariants as often
 use Rattle.source_tree.specs.declared.statement.Verb.{Verb}
@@ -7,21 +8,29 @@ use Rattle.source_tree.specs.declared.statement.Verb.TheVariants as verb
 use Rattle.source_tree.specs.declared.statement.Statement.{Statement, out-Statement}
 use Rattle.source_tree.specs.declared.program.Paragraph.{Paragraph}
 use Rattle.source_tree.specs.Places.{Placed}
-use Rattle.source_tree.specs.State.{State, Outcome}
+use Rattle.source_tree.specs.Evaluated.{Evaluated}
+use Rattle.source_tree.specs.State.{State, Outcome, with_value}
 use Rattle.source_tree.specs.Procedures.{Range, within_range}
 use Rattle.source_tree.specs.Setting.{Scope, Setting}
-use Rattle.source_tree.specs.Performing.{turns_of, repeat, body}
+use Rattle.source_tree.specs.Performing.{turns, turns_of, turns_in, repeat, body}
 use Rattle.source_tree.specs.Meaning.{step, exec, sentence, paragraph, ranged, range}
 use Rattle.source_tree.proofs.Runs.{IsRun, in_turn_runs, body_runs}
 use Rattle.source_tree.proofs.Depth.{Agrees, then_agrees, spend_same, in_turn_agrees, turns_agrees, body_agrees, calculating_agrees}
 use Rattle.source_tree.proofs.Repeating.{until_agrees, branching_agrees}
 use Rattle.source_tree.proofs.StatementRuns.{exec_runs, paragraph_runs, ranged_runs}
 
+-- turns of which the number is found first
+turned_same : (n line : ℕ) (go other : State → Outcome) → IsRun go → Agrees n go other → (e : Evaluated ℕ) (s : State) → s.budget ≤ n
+    → with_value e s (λ count. turns line count go s) ≡ with_value e s (λ count. turns line count other s)
+turned_same n line go other r a (Ok count) s le = (turns_agrees n line count go other r a).by s le
+turned_same n line go other r a (Err fault) s le = refl
+
 -- the turns of a PERFORM, with two depths above the budget
 repeat_agrees : (items : List Placed) (n d e line : ℕ) (phrase : Turns) (go other : State → Outcome) → n < d → n < e → IsRun go → Agrees n go other
     → Agrees n (repeat items d line phrase go) (repeat items e line phrase other)
 repeat_agrees items n d e line often.Once go other below under r a = a
 repeat_agrees items n d e line (often.Times count) go other below under r a = turns_agrees n line (turns_of count) go other r a
+repeat_agrees items n d e line (often.CountedBy one) go other below under r a = record { by = λ s le. turned_same n line go other r a (turns_in items one s.storage) s le }
 repeat_agrees items n d e line (often.Until one) go other below under r a = until_agrees items n d e line one go other below under r a
 
 -- the statements in a statement run with less budget than it began with, and so do the paragraphs of a range

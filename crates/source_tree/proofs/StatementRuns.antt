@@ -12,14 +12,15 @@ use Rattle.source_tree.specs.State.{State, Outcome}
 use Rattle.source_tree.specs.Procedures.{Range, within_range}
 use Rattle.source_tree.specs.Setting.{Scope, Setting}
 use Rattle.source_tree.specs.Moving.{moving}
-use Rattle.source_tree.specs.Performing.{turns_of, repeat, body, performing}
+use Rattle.source_tree.specs.Performing.{turns, turns_of, turns_in, repeat, body, performing}
 use Rattle.source_tree.specs.Meaning.{step, exec, sentence, paragraph, ranged, range}
-use Rattle.source_tree.proofs.Runs.{IsRun, itself, stop_runs, then_runs, spend_runs, in_turn_runs, changing_runs, turns_runs, body_runs, calculating_runs, texts_runs, finish_runs}
+use Rattle.source_tree.proofs.Runs.{IsRun, itself, stop_runs, then_runs, spend_runs, in_turn_runs, value_runs, changing_runs, turns_runs, body_runs, calculating_runs, texts_runs, finish_runs}
 use Rattle.source_tree.proofs.Repeating.{until_runs, branching_runs}
 
 repeat_runs : (items : List Placed) (depth line : ℕ) (phrase : Turns) (go : State → Outcome) → IsRun go → IsRun (repeat items depth line phrase go)
 repeat_runs items depth line often.Once go r = r
 repeat_runs items depth line (often.Times count) go r = turns_runs line (turns_of count) go r
+repeat_runs items depth line (often.CountedBy one) go r = value_runs (λ count s. turns line count go s) (λ count. turns_runs line count go r) (turns_in items one)
 repeat_runs items depth line (often.Until one) go r = until_runs items line depth one go r
 
 -- the statements in a statement are runs, and so are ranges of paragraphs

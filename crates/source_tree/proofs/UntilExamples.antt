@@ -1,6 +1,6 @@
 -- Turns up to where a test is true, and the two ways of an IF, on an item of one byte.
 use Rattle.std.proofs.Common.{◌≡◌, ℕ, ◌+◌, true, false, List, [], ◌∷◌, refl}
-use Rattle.std.specs.Prelude.{◌==◌, map, Option, Some, None, Ok}
+use Rattle.std.specs.Prelude.{◌==◌, map, Some, None, Ok}
 use Rattle.station.specs.State.{Shown}
 use Rattle.source_tree.specs.declared.until.TestTime.TheVariants.{Before, After}
 use Rattle.source_tree.specs.Storage.{Storage}

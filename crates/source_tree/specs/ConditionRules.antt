@@ -1,9 +1,8 @@
 -- The rules of conditions: those of references and literals, 40 and 41 of condition names, 51 of numbers, and 52 where two sides can't be
 -- compared (COBOL-85, Nucleus, "Relation condition"); and those of UNTIL and VARYING.
-use Rattle.std.specs.Prelude.{ℕ, ◌==◌, Bool, true, false, not, ◌&&◌, ◌||◌, List, [], ◌∷◌, ◌++◌, length, Option, Some, None}
+use Rattle.std.specs.Prelude.{◌==◌, Bool, true, false, not, ◌&&◌, ◌||◌, List, [], ◌∷◌, ◌++◌, length, Option, Some, None}
 use Rattle.items.specs.declared.usage.Usage.{Usage}
 use Rattle.items.specs.declared.usage.Usage.TheVariants as usage
-use Rattle.items.specs.declared.numeric.Numeric.{Numeric}
 use Rattle.items.specs.declared.item.Kind.{Kind}
 use Rattle.items.specs.declared.item.Kind.TheVariants as kind
 use Rattle.lexical.specs.declared.place.Place.{Place}
@@ -13,7 +12,6 @@ use Rattle.source_tree.specs.declared.literal.LiteralValue.TheVariants as litera
 use Rattle.source_tree.specs.declared.reference.Reference.{Reference}
 use Rattle.source_tree.specs.declared.expression.Operand.{Operand}
 use Rattle.source_tree.specs.declared.expression.Operand.TheVariants as operand
-use Rattle.source_tree.specs.declared.expression.Operator.{Operator}
 use Rattle.source_tree.specs.declared.expression.Expression.{Expression}
 use Rattle.source_tree.specs.declared.expression.Expression.TheOpen.{Expression-F}
 use Rattle.source_tree.specs.declared.expression.Expression.TheFolds.{fold-Expression}

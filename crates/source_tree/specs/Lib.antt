@@ -20,6 +20,7 @@ pub mod Moving
 pub mod Computed
 pub mod Arithmetic
 pub mod Conditions
+pub mod Evaluate
 pub mod Branching
 pub mod Until
 pub mod Showing
@@ -35,6 +36,7 @@ pub mod MoveRules
 pub mod TextRules
 pub mod ArithmeticRules
 pub mod ConditionRules
+pub mod EvaluateRules
 pub mod PerformRules
 pub mod Recursion
 pub mod Rules

@@ -1,16 +1,23 @@
 -- PERFORM (COBOL-85, Nucleus, "The PERFORM statement").
-use Rattle.std.specs.Prelude.{ℕ, zero, suc, min, ◌≤◌, List, Option, Some, None}
+use Rattle.std.specs.Prelude.{ℕ, zero, suc, min, ℤ, pos, negsuc, ◌≤◌, List, Option, Some, None, Ok}
 use Rattle.source_tree.specs.declared.performing.Performed.{Performed}
 use Rattle.source_tree.specs.declared.performing.Performed.TheVariants.{Procedures, Statements}
 use Rattle.source_tree.specs.declared.performing.Turns.{Turns}
 use Rattle.source_tree.specs.declared.performing.Turns.TheVariants as often
 use Rattle.source_tree.specs.declared.performing.Performing.{Performing}
 use Rattle.source_tree.specs.declared.literal.Integer.{Integer}
+use Rattle.source_tree.specs.declared.reference.Reference.{Reference}
 use Rattle.source_tree.specs.Integers.{number_of}
+use Rattle.decimal18.specs.Fraction.{Fraction}
+use Rattle.decimal18.specs.Digits.{whole}
+use Rattle.source_tree.specs.Storage.{Storage}
+use Rattle.source_tree.specs.Evaluated.{Evaluated, ◌>>=◌, needed}
+use Rattle.source_tree.specs.References.{place_of}
+use Rattle.source_tree.specs.Computed.{number_at}
 use Rattle.source_tree.specs.Places.{Placed}
 use Rattle.source_tree.specs.Procedures.{Range, Procedure, range_of}
 use Rattle.source_tree.specs.Setting.{Scope}
-use Rattle.source_tree.specs.State.{State, Outcome, Done, then_do, in_turn, spend}
+use Rattle.source_tree.specs.State.{State, Outcome, Done, then_do, in_turn, spend, with_value}
 use Rattle.source_tree.specs.Until.{until}
 
 -- Turns of a loop. Each uses one of the budget, at the line of its PERFORM, before what is performed (own choice).
@@ -27,6 +34,19 @@ most_turns = 18446744073709551615
 abbrev pub turns_of : Integer → ℕ
 turns_of one = min (number_of one) most_turns
 
+-- How many turns an integer in an item says: zero or less none.
+abbrev pub turns_said : ℤ → ℕ
+turns_said (pos n) = min n most_turns
+turns_said (negsuc n) = 0
+
+-- how many turns a number says; one that is no integer, which no item that is permitted has, is a fault
+abbrev pub turns_by : Fraction → Evaluated ℕ
+turns_by x = needed (whole x) >>= (λ z. Ok (turns_said z))
+
+-- how many turns an item before TIMES says
+abbrev pub turns_in : List Placed → Reference → Storage → Evaluated ℕ
+turns_in items one storage = (place_of items one storage >>= number_at storage) >>= turns_by
+
 -- an ASCII digit
 abbrev pub IsDigit : ℕ → Type 0
 IsDigit byte = (48 ≤ byte) × (byte ≤ 57)
@@ -36,6 +56,7 @@ IsDigit byte = (48 ≤ byte) × (byte ≤ 57)
 abbrev pub repeat : List Placed → ℕ → ℕ → Turns → (State → Outcome) → State → Outcome
 repeat items depth line often.Once body s = body s
 repeat items depth line (often.Times count) body s = turns line (turns_of count) body s
+repeat items depth line (often.CountedBy one) body s = with_value (turns_in items one s.storage) s (λ count. turns line count body s)
 repeat items depth line (often.Until one) body s = until items line depth one body s
 
 -- Names that name no procedure perform nothing.

@@ -3,10 +3,10 @@ use Rattle.std.specs.Prelude.{◌≡◌, ℕ, ◌+◌, Bool, true, map, List, []
 use Rattle.lexical.specs.declared.place.Place.{Place}
 use Rattle.perform_order.specs.declared.performed.PerformedRange.{PerformedRange}
 use Rattle.perform_order.specs.Order.{IsIn, AreHeights, PerformOneAnother}
-use Rattle.source_tree.specs.declared.name.Name.{Name}
-use Rattle.source_tree.specs.declared.phrases.Phrases.{Phrases}
 use Rattle.source_tree.specs.declared.branching.Branching.{Branching}
-use Rattle.source_tree.specs.declared.branching.Branching.TheVariants.{If}
+use Rattle.source_tree.specs.declared.branching.Branching.TheVariants as branch
+use Rattle.source_tree.specs.declared.evaluate.Selected.{Selected}
+use Rattle.source_tree.specs.declared.evaluate.Evaluate.{Evaluate}
 use Rattle.source_tree.specs.declared.performing.Performed.{Performed}
 use Rattle.source_tree.specs.declared.performing.Performed.TheVariants.{Procedures, Statements}
 use Rattle.source_tree.specs.declared.statement.Verb.{Verb}
@@ -43,8 +43,15 @@ abbrev pub performed_performs : List Procedure → {S : Type 0} → (S → List 
 performed_performs procedures inside (Procedures first last) = range_performs first.place (range_of procedures first last)
 performed_performs procedures inside (Statements statements) = each_performs inside statements
 
+abbrev pub selected_performs : {S : Type 0} → (S → List Performance) → Selected S → List Performance
+selected_performs inside one = each_performs inside one.statements
+
+abbrev pub evaluate_performs : {S : Type 0} → (S → List Performance) → Evaluate S → List Performance
+evaluate_performs inside one = each_performs (selected_performs inside) one.selected ++ phrase_performs inside one.other
+
 abbrev pub branching_performs : {S : Type 0} → (S → List Performance) → Branching S → List Performance
-branching_performs inside (If condition statements otherwise) = each_performs inside statements ++ phrase_performs inside otherwise
+branching_performs inside (branch.If condition statements otherwise) = each_performs inside statements ++ phrase_performs inside otherwise
+branching_performs inside (branch.Evaluate one) = evaluate_performs inside one
 
 -- a statement, by its family
 abbrev pub verb_performs : List Procedure → {S : Type 0} → (S → List Performance) → Verb S → List Performance

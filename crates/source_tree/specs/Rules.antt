@@ -1,6 +1,6 @@
 -- The rules of a program: those that it breaks, and where; its entries first, then the names of its procedures, its statements in order,
 -- and then whether there is a procedure. Rule 54 looks at the whole program, and comes after these.
-use Rattle.std.specs.Prelude.{Bool, true, false, ◌&&◌, List, [], ◌∷◌, ◌++◌, Option, Some, None}
+use Rattle.std.specs.Prelude.{Bool, true, false, not, ◌&&◌, List, [], ◌∷◌, ◌++◌, Option, Some, None}
 use Rattle.lexical.specs.declared.place.Place.{Place}
 use Rattle.source_tree.specs.declared.name.Name.{Name}
 use Rattle.source_tree.specs.declared.moving.Moving.{Moving}
@@ -28,13 +28,16 @@ use Rattle.source_tree.specs.Procedures.{Range, Procedure}
 use Rattle.source_tree.specs.Setting.{Scope, scope}
 use Rattle.source_tree.specs.Broken.{Broken, where_so, each}
 use Rattle.source_tree.specs.EntryRules.{entry_rules}
+use Rattle.source_tree.specs.NameRules.{is_integer_kind, item_rules}
 use Rattle.source_tree.specs.PerformRules.{range_rules, procedure_name_rules}
 use Rattle.source_tree.specs.MoveRules.{move_rules}
 use Rattle.source_tree.specs.TextRules.{display_rules, accept_line_rules, accept_date_rules}
 use Rattle.source_tree.specs.ArithmeticRules.{operation_rules}
 use Rattle.source_tree.specs.ConditionRules.{condition_rules, until_rules}
+use Rattle.source_tree.specs.EvaluateRules.{subject_rules, selected_rules}
 use Rattle.source_tree.specs.declared.branching.Branching.{Branching}
-use Rattle.source_tree.specs.declared.branching.Branching.TheVariants.{If}
+use Rattle.source_tree.specs.declared.branching.Branching.TheVariants as branch
+use Rattle.source_tree.specs.declared.evaluate.Evaluate.{Evaluate}
 
 abbrev pub moving_rules : List Placed → Moving → List Broken
 moving_rules items (Move sender receivers) = move_rules items sender receivers
@@ -60,18 +63,28 @@ abbrev pub performed_rules : List Procedure → (Range → Bool) → {S : Type 0
 performed_rules procedures permits inside (Procedures first last) = range_rules permits procedures first last
 performed_rules procedures permits inside (Statements statements) = each inside statements
 
+-- an item that holds an integer
+abbrev pub integer_item : Place → Placed → List Broken
+integer_item place one = where_so (not (is_integer_kind one.item.kind)) 51 place
+
 -- how often it is performed
 abbrev pub turns_rules : List Placed → Turns → List Broken
 turns_rules items often.Once = []
 turns_rules items (often.Times count) = []
+turns_rules items (often.CountedBy one) = item_rules items integer_item one
 turns_rules items (often.Until one) = until_rules items one
 
 abbrev pub performing_rules : Scope → (Range → Bool) → {S : Type 0} → (S → List Broken) → Performing S → List Broken
 performing_rules scope permits inside one = turns_rules scope.items one.turns ++ performed_rules scope.procedures permits inside one.performed
 
+abbrev pub evaluate_rules : List Placed → {S : Type 0} → (S → List Broken) → Evaluate S → List Broken
+evaluate_rules items inside one =
+    each (subject_rules items) one.subjects ++ each (selected_rules items inside one.subjects) one.selected ++ phrase_rules inside one.other
+
 abbrev pub branching_rules : List Placed → {S : Type 0} → (S → List Broken) → Branching S → List Broken
-branching_rules items inside (If condition statements otherwise) =
+branching_rules items inside (branch.If condition statements otherwise) =
     condition_rules items condition ++ each inside statements ++ phrase_rules inside otherwise
+branching_rules items inside (branch.Evaluate one) = evaluate_rules items inside one
 
 -- a statement, by its family
 abbrev pub verb_rules : Scope → (Range → Bool) → {S : Type 0} → (S → List Broken) → Verb S → List Broken

@@ -1,6 +1,7 @@
-//! IF.
+//! IF and EVALUATE.
 
 use crate::condition::Condition;
+use crate::evaluate::Evaluate;
 use sqlite_items::Items;
 
 #[derive(Debug, Drop)]
@@ -12,4 +13,5 @@ pub enum Branching<S> {
         /// Those of ELSE, one or more; `None` where it is absent.
         otherwise: Option<Items<S>>,
     },
+    Evaluate(Evaluate<S>),
 }

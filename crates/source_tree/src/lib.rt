@@ -6,6 +6,7 @@ mod branching;
 mod condition;
 mod ending;
 mod entry;
+mod evaluate;
 mod expression;
 mod laws;
 mod literal;
@@ -28,6 +29,7 @@ pub use entry::{
     Around, ConditionEntry, Entry, ItemEntry, PictureText, SignClause, SignPosition, UsageClause,
     ValueRange,
 };
+pub use evaluate::{Choice, Evaluate, Object, Selected, Subject, When};
 pub use expression::{Expression, Operand, Operator};
 pub use laws::{budget_law, depth_law, output_law, turns_law};
 pub use lexical::{NumericLiteral, Place, Sign};

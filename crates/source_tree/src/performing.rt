@@ -2,6 +2,7 @@
 
 use crate::literal::Integer;
 use crate::name::Name;
+use crate::reference::Reference;
 use crate::until::Until;
 use sqlite_items::Items;
 
@@ -18,8 +19,10 @@ pub enum Performed<S> {
 #[derive(Debug, Drop)]
 pub enum Turns {
     Once,
-    /// TIMES.
+    /// An integer and TIMES.
     Times(Integer),
+    /// An item and TIMES: as often as it says when the PERFORM begins.
+    CountedBy(Reference),
     /// UNTIL, with VARYING or without.
     Until(Until),
 }

@@ -10,6 +10,7 @@ use Rattle.grammar.proofs.Lists.{Sound, Complete, Shrinks, Starts}
 use Rattle.grammar.proofs.Parts.{period_sound, period_complete, period_shrinks}
 use Rattle.expressions.proofs.Exact.Expressions.{expression_complete}
 use Rattle.conditions.proofs.Exact.Conditions.{condition_complete}
+use Rattle.conditions.proofs.Exact.Evaluate.{subject_complete, object_complete}
 use Rattle.statements.specs.Spelling as g
 use Rattle.statements.specs.Verbs.{begins_statement}
 use Rattle.statements.specs.Reading as r
@@ -36,7 +37,9 @@ statement_complete depth zero x i rest s = absurd s
 statement_complete zero (suc n) x i rest s = Halts (TooDeep (length i)) (omega arith) refl
 statement_complete (suc depth) (suc n) x i rest s =
     line_complete (Deeper (suc depth) (suc n)) depth n (λ y j after inner. allow (one_deeper depth n) (expression_complete depth n y j after inner))
-    (λ y j after inner. allow (one_deeper depth n) (condition_complete depth n y j after inner)) (g.statement n) (r.statement depth)
+    (λ y j after inner. allow (one_deeper depth n) (condition_complete depth n y j after inner))
+    (λ y j after inner. allow (one_deeper depth n) (subject_complete depth n y j after inner))
+    (λ y j after inner. allow (one_deeper depth n) (object_complete depth n y j after inner)) (g.statement n) (r.statement depth)
     (λ y j after inner. allow (one_deeper depth n) (statement_complete depth n y j after inner)) (statement_shrinks n) (statement_starts n) x i rest s
 
 -- ---- sentences

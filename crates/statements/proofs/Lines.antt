@@ -4,7 +4,7 @@ use Rattle.std.specs.Prelude.{Ok, is_some}
 use Rattle.tokens.specs.declared.token.Token.{Token}
 use Rattle.source_tree.specs.declared.moving.Moving.TheVariants.{Move}
 use Rattle.source_tree.specs.declared.text.Text.TheVariants as text
-use Rattle.source_tree.specs.declared.branching.Branching.TheVariants.{If}
+use Rattle.source_tree.specs.declared.branching.Branching.TheVariants.{If, Evaluate}
 use Rattle.source_tree.specs.declared.ending.Ending.TheVariants as ending
 use Rattle.source_tree.specs.declared.statement.Verb.{Verb}
 use Rattle.source_tree.specs.declared.statement.Verb.TheVariants as verb
@@ -18,6 +18,7 @@ use Rattle.grammar.proofs.Lists.{Sound, Complete, Shrinks, Starts}
 use Rattle.grammar.proofs.Parts.{here_sound, here_complete}
 use Rattle.expressions.specs.Expressions.{expression, expression_reader}
 use Rattle.conditions.specs.Conditions.{condition, condition_reader}
+use Rattle.conditions.specs.Evaluate.{subject, subject_reader, object, object_reader}
 use Rattle.statements.specs.declared.verb.VerbWord.{VerbWord}
 use Rattle.statements.specs.declared.verb.VerbWord.TheVariants as v
 use Rattle.statements.specs.Verbs.{verb_at, begins_statement}
@@ -28,6 +29,7 @@ use Rattle.statements.proofs.Verbs.Arithmetic.{verb_word, arithmetic_shrinks, ar
 use Rattle.statements.proofs.Verbs.Branching.{branching_shrinks, branching_stands, branching_complete, branching_sound}
 use Rattle.statements.proofs.Verbs.Continuing.{continuing_shrinks, continuing_stands, continuing_complete, continuing_sound}
 use Rattle.statements.proofs.Verbs.Display.{display_shrinks, display_stands, display_complete, display_sound}
+use Rattle.statements.proofs.Verbs.Evaluate.{evaluating_shrinks, evaluating_stands, evaluating_complete, evaluating_sound}
 use Rattle.statements.proofs.Verbs.Exiting.{exiting_shrinks, exiting_stands, exiting_complete, exiting_sound}
 use Rattle.statements.proofs.Verbs.Moving.{moving_shrinks, moving_stands, moving_complete, moving_sound}
 use Rattle.statements.proofs.StatementLists.{statements_shrink, statements_start, statements_complete}
@@ -40,7 +42,8 @@ module _ (depth : ℕ) (p : Statement → Part) where
   verb_shrinks : Shrinks p → Shrinks (g.verb_line depth p)
   verb_shrinks fewer (verb.Moving (Move sender receivers)) i rest s = moving_shrinks sender receivers i rest s
   verb_shrinks fewer (verb.Arithmetic one) i rest s = arithmetic_shrinks depth (g.statements p) (statements_shrink p fewer) one i rest s
-  verb_shrinks fewer (verb.Branching one) i rest s = branching_shrinks (g.statements p) depth (statements_shrink p fewer) one i rest s
+  verb_shrinks fewer (verb.Branching (If asked done otherwise)) i rest s = branching_shrinks (g.statements p) depth (statements_shrink p fewer) asked done otherwise i rest s
+  verb_shrinks fewer (verb.Branching (Evaluate one)) i rest s = evaluating_shrinks (g.statements p) depth (statements_shrink p fewer) one i rest s
   verb_shrinks fewer (verb.Performing one) i rest s = performing_shrinks (g.statements p) depth (statements_shrink p fewer) one i rest s
   verb_shrinks fewer (verb.Text (text.Display operands advancing)) i rest s = display_shrinks operands advancing i rest s
   verb_shrinks fewer (verb.Text (text.Accept receiver)) i rest s = accepting_shrinks receiver true i rest s
@@ -57,6 +60,7 @@ module _ (depth : ℕ) (p : Statement → Part) where
   word_of (verb.Moving (Move sender receivers)) = v.Move
   word_of (verb.Arithmetic one) = v.Arithmetic (verb_word one.operation)
   word_of (verb.Branching (If asked done otherwise)) = v.If
+  word_of (verb.Branching (Evaluate one)) = v.Evaluate
   word_of (verb.Performing one) = v.Perform
   word_of (verb.Text (text.Display operands advancing)) = v.Display
   word_of (verb.Text (text.Accept receiver)) = v.Accept
@@ -69,6 +73,7 @@ module _ (depth : ℕ) (p : Statement → Part) where
   verb_stands (verb.Moving (Move sender receivers)) i rest s = moving_stands sender receivers i rest s
   verb_stands (verb.Arithmetic one) i rest s = arithmetic_stands depth (g.statements p) one i rest s
   verb_stands (verb.Branching (If asked done otherwise)) i rest s = branching_stands (g.statements p) depth asked done otherwise i rest s
+  verb_stands (verb.Branching (Evaluate one)) i rest s = evaluating_stands (g.statements p) depth one i rest s
   verb_stands (verb.Performing one) i rest s = performing_stands (g.statements p) depth one i rest s
   verb_stands (verb.Text (text.Display operands advancing)) i rest s = display_stands operands advancing i rest s
   verb_stands (verb.Text (text.Accept receiver)) i rest s = accepting_stands receiver true i rest s
@@ -89,6 +94,7 @@ module _ (depth : ℕ) (p : Statement → Part) where
     by_verb_sound (Some (v.Arithmetic one)) x i rest e = arithmetic_sound depth p nested each one x i rest e
     by_verb_sound (Some v.Continue) x i rest e = continuing_sound depth p x i rest e
     by_verb_sound (Some v.Display) x i rest e = display_sound depth p x i rest e
+    by_verb_sound (Some v.Evaluate) x i rest e = evaluating_sound depth p nested each x i rest e
     by_verb_sound (Some v.Exit) x i rest e = exiting_sound depth p x i rest e
     by_verb_sound (Some v.If) x i rest e = branching_sound depth p nested each x i rest e
     by_verb_sound (Some v.Move) x i rest e = moving_sound depth p x i rest e
@@ -110,6 +116,7 @@ module _ (depth : ℕ) (p : Statement → Part) where
 -- ---- what is spelled is read
 
 module _ (Allowed : Halt → Type 0) (depth depth' : ℕ) (computes : Complete Allowed (expression depth') (expression_reader depth)) (asks : Complete Allowed (condition depth') (condition_reader depth))
+    (names : Complete Allowed (subject depth') (subject_reader depth)) (compares : Complete Allowed (object depth') (object_reader depth))
     (p : Statement → Part) (nested : Parser Statement) (each : Complete Allowed p nested) (fewer : Shrinks p) (begins : Starts begins_statement p) where
   by_verb_complete : (x : Verb Statement) (i rest : List Token) → g.verb_line depth' p x i rest → Answers Allowed (r.by_verb depth nested (Some (word_of depth' p x)) i) x rest
   by_verb_complete (verb.Moving (Move sender receivers)) i rest s = moving_complete sender receivers i rest s
@@ -117,6 +124,8 @@ module _ (Allowed : Halt → Type 0) (depth depth' : ℕ) (computes : Complete A
       arithmetic_complete Allowed depth depth' computes (g.statements p) (r.statements nested) (statements_complete Allowed p nested each fewer begins) one.operation one.phrases i rest s
   by_verb_complete (verb.Branching (If asked done otherwise)) i rest s =
       branching_complete (g.statements p) (r.statements nested) Allowed (statements_complete Allowed p nested each fewer begins) depth depth' asks asked done otherwise i rest s
+  by_verb_complete (verb.Branching (Evaluate one)) i rest s =
+      evaluating_complete Allowed depth depth' compares (g.statements p) (r.statements nested) (statements_complete Allowed p nested each fewer begins) (statements_shrink p fewer) names one i rest s
   by_verb_complete (verb.Performing one) i rest s =
       performing_complete (g.statements p) Allowed depth depth' asks (r.statements nested) (statements_complete Allowed p nested each fewer begins) (statements_start p begins)
       one.turns one.performed i rest s

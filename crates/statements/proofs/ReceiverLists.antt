@@ -1,6 +1,6 @@
 -- Operands and receivers of arithmetic statements: what is read is spelled, and what is spelled is read.
 use Rattle.std.proofs.Common.{◌≡◌, ◌≤◌, Bool, true, false, List, length, Ok, refl, ap, subst, arith}
-use Rattle.std.specs.Prelude.{◌&&◌, not, is_some, if◌then◌else◌}
+use Rattle.std.specs.Prelude.{is_some, if◌then◌else◌}
 use Rattle.tokens.specs.declared.reserved.Reserved.TheVariants as w
 use Rattle.tokens.specs.declared.token.Token.{Token}
 use Rattle.source_tree.specs.declared.expression.Operand.{Operand}
@@ -24,6 +24,7 @@ use Rattle.expressions.proofs.Exact.Operands.{number_name, number_operand_sound,
 use Rattle.expressions.proofs.Exact.Leads.{reference_before_found}
 use Rattle.statements.specs.declared.receivers.Target.{Target}
 use Rattle.statements.specs.declared.receivers.Target.TheVariants.{Receivers, Giving}
+use Rattle.statements.proofs.Except.{not_second, both, no_first, second}
 use Rattle.statements.specs.Receivers.{numbers, receiver, receivers, target, numbers_reader, receiver_reader, receivers_reader, begins_receivers, receivers_alone_reader, giving_reader, target_reader}
 
 -- ---- operands
@@ -89,26 +90,6 @@ target_shrinks (Giving operand all) i rest (i1, num, (i2, giving, into)) =
     let a = number_operand_shrinks operand i i1 num in
     let b = word_shrinks w.Giving i1 i2 giving in
     let c = receivers_shrink all i2 rest into in omega arith
-
--- what is known of two tests, the second of which is to fail
-not_second : (a b : Bool) → (a && not b) ≡ true → b ≡ false
-not_second true true e = cc
-not_second true false e = refl
-not_second false b e = cc
-
-both : (a b : Bool) → a ≡ true → b ≡ false → (a && not b) ≡ true
-both true true e f = cc
-both true false e f = refl
-both false b e f = cc
-
-no_first : (a b : Bool) → a ≡ false → (a && not b) ≡ false
-no_first true b e = cc
-no_first false b e = refl
-
-second : (a b : Bool) → b ≡ true → (a && not b) ≡ false
-second true true e = refl
-second true false e = cc
-second false b e = refl
 
 alone_sound : (x : Target) (i rest : List Token) → ((after : List Token) → reference_before w.Giving i after → ⊥) → receivers_alone_reader i ≡ Ok (x, rest) → target x i rest
 unfolding receivers_alone_reader

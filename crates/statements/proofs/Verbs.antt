@@ -9,6 +9,7 @@ pub mod Arithmetic
 pub mod Branching
 pub mod Continuing
 pub mod Display
+pub mod Evaluate
 pub mod Exiting
 pub mod Moving
 pub mod Turning

@@ -1,8 +1,8 @@
--- IF: its rule, and how it is read.
+-- IF: its rule, and how it is read; EVALUATE, the other statement of its family, has a file of its own.
 use Rattle.std.specs.Prelude.{ℕ, List, Option}
 use Rattle.tokens.specs.declared.reserved.Reserved.TheVariants as w
 use Rattle.source_tree.specs.declared.branching.Branching.{Branching}
-use Rattle.source_tree.specs.declared.branching.Branching.TheVariants.{If}
+use Rattle.source_tree.specs.declared.branching.Branching.TheVariants.{If, Evaluate}
 use Rattle.source_tree.specs.declared.statement.Verb.{Verb}
 use Rattle.source_tree.specs.declared.statement.Verb.TheVariants as verb
 use Rattle.source_tree.specs.declared.statement.Statement.{Statement}
@@ -10,12 +10,14 @@ use Rattle.grammar.specs.Parts.{Part, ◌then◌, optional, word}
 use Rattle.grammar.specs.Reading.{Parser, ◌>>=◌, ◌>>◌, pure, after_word, expect, skip}
 use Rattle.grammar.specs.Phrases.{phrase, phrase_reader}
 use Rattle.conditions.specs.Conditions.{condition, condition_reader}
+use Rattle.statements.specs.Evaluate.{evaluating}
 
--- IF c [THEN] s [ELSE s] [END-IF] (COBOL-85, Nucleus, "The IF statement"). `depth` is how deep a condition may nest.
+-- IF c [THEN] s [ELSE s] [END-IF] (COBOL-85, Nucleus, "The IF statement"); or EVALUATE. `depth` is how deep a condition may nest.
 abbrev pub branching : ℕ → (List Statement → Part) → Branching Statement → Part
 branching depth statements (If asked done otherwise) =
     word w.If then condition depth asked then optional (word w.Then) then statements done
     then phrase statements (word w.Else) otherwise then optional (word w.EndIf)
+branching depth statements (Evaluate one) = evaluating depth statements one
 
 unfoldable pub otherwise_reader : Parser (List Statement) → Parser (Option (List Statement))
 otherwise_reader statements = phrase_reader statements (after_word w.Else)

@@ -7,6 +7,7 @@ pub mod Multiplying
 pub mod Dividing
 pub mod Computing
 pub mod Arithmetic
+pub mod Evaluate
 pub mod Branching
 pub mod Continuing
 pub mod Display

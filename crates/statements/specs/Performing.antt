@@ -1,5 +1,5 @@
 -- PERFORM: its rule, and how it is read.
-use Rattle.std.specs.Prelude.{ℕ, ◌||◌, Bool, List, Option, None, Some, Ok, if◌then◌else◌}
+use Rattle.std.specs.Prelude.{ℕ, ◌||◌, ◌&&◌, not, is_some, Bool, List, Option, None, Some, Ok, if◌then◌else◌}
 use Rattle.tokens.specs.declared.reserved.Reserved.{Reserved}
 use Rattle.tokens.specs.declared.reserved.Reserved.TheVariants as w
 use Rattle.tokens.specs.declared.token.Token.{Token}
@@ -11,9 +11,10 @@ use Rattle.source_tree.specs.declared.performing.Performing.{Performing}
 use Rattle.source_tree.specs.declared.statement.Verb.{Verb}
 use Rattle.source_tree.specs.declared.statement.Verb.TheVariants as verb
 use Rattle.source_tree.specs.declared.statement.Statement.{Statement}
-use Rattle.grammar.specs.Parts.{Part, ◌then◌, ◌or◌, without, word, name, begins_name}
+use Rattle.grammar.specs.Parts.{Part, ◌then◌, ◌or◌, ◌but◌, without, word, name, begins_name}
 use Rattle.grammar.specs.Reading as read
 use Rattle.grammar.specs.Reading.{Parser, ◌>>=◌, ◌>>◌, pure, expect, begins_word}
+use Rattle.expressions.specs.Looking.{reference_before, after_reference_before}
 use Rattle.statements.specs.Turning.{turns, turns_reader}
 
 abbrev pub thru : Part
@@ -24,9 +25,13 @@ abbrev pub last_named : Option Name → Part
 last_named None = without thru
 last_named (Some last) = thru then name last
 
+-- n, where no count stands: a reference before TIMES is one, and no procedure
+abbrev pub first_named : Name → Part
+first_named first = name first but reference_before w.Times
+
 -- n [{THRU|THROUGH} n] [lp], where lp is how often
 abbrev pub procedures : ℕ → Name → Option Name → Turns → Part
-procedures depth first last often = name first then last_named last then turns depth often
+procedures depth first last often = first_named first then last_named last then turns depth often
 
 -- [lp] s END-PERFORM
 abbrev pub in_line : ℕ → (List Statement → Part) → List Statement → Turns → Part
@@ -72,9 +77,12 @@ in_line_reader depth statements = do
   expect w.EndPerform
   pure (verb.Performing (record { performed = Statements inside; turns = often }))
 
--- a name begins procedures
+-- a name that isn't of a count before TIMES
+abbrev pub begins_procedures : List Token → Bool
+begins_procedures i = begins_name i && not (is_some (after_reference_before w.Times i))
+
 abbrev pub performed_reader : ℕ → Parser (List Statement) → Parser (Verb Statement)
-performed_reader depth statements i = if begins_name i then procedures_reader depth i else in_line_reader depth statements i
+performed_reader depth statements i = if begins_procedures i then procedures_reader depth i else in_line_reader depth statements i
 
 unfoldable pub performing_reader : ℕ → Parser (List Statement) → Parser (Verb Statement)
 performing_reader depth statements = do

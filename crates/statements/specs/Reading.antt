@@ -13,6 +13,7 @@ use Rattle.statements.specs.Arithmetic.{arithmetic_reader}
 use Rattle.statements.specs.Branching.{branching_reader}
 use Rattle.statements.specs.Continuing.{continuing_reader}
 use Rattle.statements.specs.Display.{display_reader}
+use Rattle.statements.specs.Evaluate.{evaluating_reader}
 use Rattle.statements.specs.Exiting.{exiting_reader}
 use Rattle.statements.specs.Moving.{moving_reader}
 use Rattle.statements.specs.Performing.{performing_reader}
@@ -29,6 +30,7 @@ module _ (depth : ℕ) (statement : Parser Statement) where
   by_verb (Some (v.Arithmetic one)) = arithmetic_reader depth (statements statement) one
   by_verb (Some v.Continue) = continuing_reader
   by_verb (Some v.Display) = display_reader
+  by_verb (Some v.Evaluate) = evaluating_reader depth (statements statement)
   by_verb (Some v.Exit) = exiting_reader
   by_verb (Some v.If) = branching_reader depth (statements statement)
   by_verb (Some v.Move) = moving_reader

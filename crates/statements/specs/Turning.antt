@@ -11,7 +11,7 @@ use Rattle.source_tree.specs.declared.until.TestTime.{TestTime}
 use Rattle.source_tree.specs.declared.until.TestTime.TheVariants.{Before, After}
 use Rattle.source_tree.specs.declared.until.Varying.{Varying}
 use Rattle.source_tree.specs.declared.until.Until.{Until}
-use Rattle.grammar.specs.Parts.{Part, ◌then◌, ◌or◌, optional, without, tested, telling, word}
+use Rattle.grammar.specs.Parts.{Part, ◌then◌, ◌or◌, optional, without, tested, telling, word, begins_name}
 use Rattle.grammar.specs.Reading.{Parser, Words, ◌>>=◌, ◌>>◌, pure, after_word, past_word, begins_word, expect, one_token}
 use Rattle.expressions.specs.References.{reference, reference_reader}
 use Rattle.expressions.specs.Operands.{number_operand, number_operand_reader}
@@ -61,12 +61,14 @@ abbrev pub begins_until : List Token → Bool
 begins_until i = begins_word w.With i || begins_word w.Test i || begins_word w.Varying i || begins_word w.Until i
 
 abbrev pub begins_turns : List Token → Bool
-begins_turns i = begins_integer i || begins_until i
+begins_turns i = begins_integer i || begins_name i || begins_until i
 
--- int TIMES, or UNTIL: the phrase is left out only where none begins (COBOL-85, Nucleus, "The PERFORM statement")
+-- {d|int} TIMES, or UNTIL: the phrase is left out only where none begins (COBOL-85, Nucleus, "The PERFORM statement"). No statement
+-- begins with a name, so a name where the phrase may stand is of a count.
 abbrev pub turns : ℕ → Turns → Part
 turns depth turns_as.Once = without (tested begins_turns)
 turns depth (turns_as.Times count) = integer count then word w.Times
+turns depth (turns_as.CountedBy one) = reference one then word w.Times
 turns depth (turns_as.Until one) = until depth one
 
 -- ---- reading
@@ -114,5 +116,12 @@ times_reader = do
   expect w.Times
   pure (turns_as.Times count)
 
+unfoldable pub counted_reader : Parser Turns
+counted_reader = do
+  one ← reference_reader
+  expect w.Times
+  pure (turns_as.CountedBy one)
+
 unfoldable pub turns_reader : ℕ → Parser Turns
-turns_reader depth i = if begins_integer i then times_reader i else if begins_until i then until_reader depth i else Ok (turns_as.Once, i)
+turns_reader depth i =
+    if begins_integer i then times_reader i else if begins_name i then counted_reader i else if begins_until i then until_reader depth i else Ok (turns_as.Once, i)

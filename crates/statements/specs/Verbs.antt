@@ -17,6 +17,7 @@ verb_of w.Compute = Some (v.Arithmetic a.Compute)
 verb_of w.Continue = Some v.Continue
 verb_of w.Display = Some v.Display
 verb_of w.Divide = Some (v.Arithmetic a.Divide)
+verb_of w.Evaluate = Some v.Evaluate
 verb_of w.Exit = Some v.Exit
 verb_of w.If = Some v.If
 verb_of w.Move = Some v.Move

@@ -13,7 +13,7 @@ use crate::multiplying::multiplying;
 use crate::nesting::Nesting;
 use crate::subtracting::subtracting;
 use crate::verb::ArithmeticVerb;
-use grammar::{Phrase, ReadFault, Tokens, two_sided};
+use grammar::{Phrase, ReadFault, Tokens, beside, two_sided};
 use source_tree::{Arithmetic, Operation, Statement, Verb};
 use std::alloc::Global;
 use tokens::Reserved;
@@ -63,7 +63,8 @@ impl<F: Fn(Global, &mut Tokens<'_>, usize) -> Result<Statement, ReadFault>> Nest
         ensures { Reads (rule.arithmetic_reader self.now.depth (spec.statements (spec.statement self.now.depth)) verb tokens.old) result tokens.new }
     {
         let operation = operation(self.alloc, self.depth, verb, tokens)?;
-        let phrases = two_sided(Phrase::SizeError, self, self.alloc, tokens)?;
+        let phrases = two_sided(Phrase::SizeError, self, self.alloc, tokens);
+        let (operation, phrases) = beside(operation, phrases)?;
         tokens.skip(end_word(&operation));
         Ok(Verb::Arithmetic(Arithmetic { operation, phrases }))
     }

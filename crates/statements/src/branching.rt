@@ -8,7 +8,7 @@ ghost use Rattle.statements.specs.Reading as spec;
 
 use crate::nesting::Nesting;
 use conditions::condition;
-use grammar::{ReadFault, Tokens, after_word, phrase_at};
+use grammar::{ReadFault, Tokens, after_word, beside, phrase_at};
 use source_tree::{Branching, Statement, Verb};
 use sqlite_items::Items;
 use std::alloc::Global;
@@ -34,8 +34,8 @@ impl<F: Fn(Global, &mut Tokens<'_>, usize) -> Result<Statement, ReadFault>> Nest
         tokens.expect(Reserved::If)?;
         let condition = condition(self.alloc, tokens, self.depth)?;
         tokens.skip(Reserved::Then);
-        let statements = self.statements(tokens)?;
-        let otherwise = self.otherwise(tokens)?;
+        let branch = beside(condition, self.statements(tokens))?;
+        let ((condition, statements), otherwise) = beside(branch, self.otherwise(tokens))?;
         tokens.skip(Reserved::EndIf);
         Ok(Verb::Branching(Branching::If {
             condition,

@@ -6,7 +6,7 @@ ghost use Rattle.statements.specs.Dividing as spec;
 
 use crate::receivers::{Target, all_receivers, target_of};
 use expressions::{number_operand, reference};
-use grammar::{ReadFault, Tokens};
+use grammar::{ReadFault, Tokens, beside};
 use source_tree::{DivisionOrder, Operand, Operation, Receiver};
 use sqlite_items::Items;
 use std::alloc::Global;
@@ -36,11 +36,10 @@ fn remainder_of(
 ) -> Result<Operation, ReadFault>
     ensures { Reads (spec.remainder_of first order second quotient tokens.old) result tokens.new }
 {
-    let Some(quotient) = quotient else {
-        return Err(tokens.refuse());
-    };
-    tokens.expect(Reserved::Remainder)?;
-    let remainder = reference(alloc, tokens)?;
+    let quotient = quotient.ok_or(tokens.refuse());
+    let divided = beside((first, second), quotient)?;
+    let (divided, ()) = beside(divided, tokens.expect(Reserved::Remainder))?;
+    let (((first, second), quotient), remainder) = beside(divided, reference(alloc, tokens))?;
     Ok(Operation::DivideRemainder {
         first,
         order,
@@ -79,8 +78,9 @@ fn given(
 fn into(alloc: Global, first: Operand, tokens: &mut Tokens<'_>) -> Result<Operation, ReadFault>
     ensures { Reads (spec.into_reader first tokens.old) result tokens.new }
 {
-    tokens.expect(Reserved::Into)?;
-    match target_of(alloc, tokens)? {
+    let (first, ()) = beside(first, tokens.expect(Reserved::Into))?;
+    let (first, target) = beside(first, target_of(alloc, tokens))?;
+    match target {
         Target::Receivers(receivers) => Ok(Operation::Divide {
             divisor: first,
             receivers,
@@ -105,8 +105,8 @@ fn by(alloc: Global, first: Operand, tokens: &mut Tokens<'_>) -> Result<Operatio
 {
     tokens.expect(Reserved::By)?;
     let second = number_operand(alloc, tokens)?;
-    tokens.expect(Reserved::Giving)?;
-    let receivers = all_receivers(alloc, tokens)?;
+    let (operands, ()) = beside((first, second), tokens.expect(Reserved::Giving))?;
+    let ((first, second), receivers) = beside(operands, all_receivers(alloc, tokens))?;
     given(alloc, first, DivisionOrder::By, second, receivers, tokens)
 }
 

@@ -10,6 +10,7 @@ mod computing;
 mod continuing;
 mod display;
 mod dividing;
+mod evaluate;
 mod exiting;
 mod moving;
 mod multiplying;

@@ -5,7 +5,7 @@ ghost use Rattle.grammar.specs.Reading.{Reads};
 ghost use Rattle.statements.specs.Moving as spec;
 
 use expressions::{References, operand};
-use grammar::{ReadFault, Tokens, several};
+use grammar::{ReadFault, Tokens, beside, several};
 use source_tree::{Moving, Statement, Verb};
 use std::alloc::Global;
 use tokens::Reserved;
@@ -17,7 +17,7 @@ pub fn moving(alloc: Global, tokens: &mut Tokens<'_>) -> Result<Verb<Statement>,
 {
     tokens.expect(Reserved::Move)?;
     let sender = operand(alloc, tokens)?;
-    tokens.expect(Reserved::To)?;
-    let receivers = several(&References, alloc, tokens)?;
+    let (sender, ()) = beside(sender, tokens.expect(Reserved::To))?;
+    let (sender, receivers) = beside(sender, several(&References, alloc, tokens))?;
     Ok(Verb::Moving(Moving::Move { sender, receivers }))
 }

@@ -6,7 +6,7 @@ ghost use Rattle.statements.specs.Multiplying as spec;
 
 use crate::receivers::{Target, target_of};
 use expressions::number_operand;
-use grammar::{ReadFault, Tokens};
+use grammar::{ReadFault, Tokens, beside};
 use source_tree::Operation;
 use std::alloc::Global;
 use tokens::Reserved;
@@ -18,8 +18,9 @@ pub fn multiplying(alloc: Global, tokens: &mut Tokens<'_>) -> Result<Operation, 
 {
     tokens.expect(Reserved::Multiply)?;
     let factor = number_operand(alloc, tokens)?;
-    tokens.expect(Reserved::By)?;
-    Ok(match target_of(alloc, tokens)? {
+    let (factor, ()) = beside(factor, tokens.expect(Reserved::By))?;
+    let (factor, target) = beside(factor, target_of(alloc, tokens))?;
+    Ok(match target {
         Target::Receivers(receivers) => Operation::Multiply { factor, receivers },
         Target::Giving { operand, receivers } => Operation::MultiplyGiving {
             factor,

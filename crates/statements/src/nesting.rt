@@ -69,6 +69,7 @@ impl<F: Fn(Global, &mut Tokens<'_>, usize) -> Result<Statement, ReadFault>> Nest
             Some(VerbWord::Arithmetic(verb)) => self.arithmetic(verb, tokens),
             Some(VerbWord::Continue) => continuing(tokens),
             Some(VerbWord::Display) => display(self.alloc, tokens),
+            Some(VerbWord::Evaluate) => self.evaluating(tokens),
             Some(VerbWord::Exit) => exiting(tokens),
             Some(VerbWord::If) => self.branching(tokens),
             Some(VerbWord::Move) => moving(self.alloc, tokens),

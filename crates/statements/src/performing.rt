@@ -8,7 +8,8 @@ ghost use Rattle.statements.specs.Reading as spec;
 
 use crate::nesting::Nesting;
 use crate::turning::turns;
-use grammar::{ReadFault, Tokens, begins_name, name};
+use expressions::after_reference_before;
+use grammar::{ReadFault, Tokens, begins_name, beside, name};
 use source_tree::{Name, Performed, Performing, Statement, Verb};
 use std::alloc::Global;
 use tokens::Reserved;
@@ -39,6 +40,13 @@ fn last(alloc: Global, tokens: &mut Tokens<'_>) -> Result<Option<Name>, ReadFaul
     }
 }
 
+/// A name comes next that isn't of a count before TIMES.
+fn begins_procedures(tokens: &Tokens<'_>) -> bool
+    ensures { result ≡ rule.begins_procedures tokens.now }
+{
+    begins_name(tokens) && after_reference_before(tokens.rest(), Reserved::Times).is_none()
+}
+
 /// Procedures by their names, and how often; `depth` is how deep a condition may nest.
 #[tactic(auto, unfolding(crate::specs::Performing::procedures_reader))]
 fn procedures(
@@ -65,8 +73,8 @@ impl<F: Fn(Global, &mut Tokens<'_>, usize) -> Result<Statement, ReadFault>> Nest
         ensures { Reads (rule.in_line_reader self.now.depth (spec.statements (spec.statement self.now.depth)) tokens.old) result tokens.new }
     {
         let turns = turns(self.alloc, self.depth, tokens)?;
-        let inside = self.statements(tokens)?;
-        tokens.expect(Reserved::EndPerform)?;
+        let line = beside(turns, self.statements(tokens))?;
+        let ((turns, inside), ()) = beside(line, tokens.expect(Reserved::EndPerform))?;
         Ok(Verb::Performing(Performing {
             performed: Performed::Statements(inside),
             turns,
@@ -80,7 +88,7 @@ impl<F: Fn(Global, &mut Tokens<'_>, usize) -> Result<Statement, ReadFault>> Nest
         ensures { Reads (rule.performing_reader self.now.depth (spec.statements (spec.statement self.now.depth)) tokens.old) result tokens.new }
     {
         tokens.expect(Reserved::Perform)?;
-        if begins_name(tokens) {
+        if begins_procedures(tokens) {
             procedures(self.alloc, self.depth, tokens)
         } else {
             self.in_line(tokens)

@@ -5,7 +5,7 @@ ghost use Rattle.grammar.specs.Reading.{Reads};
 ghost use Rattle.statements.specs.Receivers as spec;
 
 use expressions::{NumberOperands, after_reference_before, number_operand, reference};
-use grammar::{Part, ReadFault, Tokens, begins_name, several};
+use grammar::{Part, ReadFault, Tokens, begins_name, beside, several};
 use source_tree::{Operand, Receiver};
 use sqlite_items::Items;
 use std::alloc::Global;
@@ -89,8 +89,8 @@ fn giving(alloc: Global, tokens: &mut Tokens<'_>) -> Result<Target, ReadFault>
     ensures { Reads (spec.giving_reader tokens.old) result tokens.new }
 {
     let operand = number_operand(alloc, tokens)?;
-    tokens.expect(Reserved::Giving)?;
-    let receivers = all_receivers(alloc, tokens)?;
+    let (operand, ()) = beside(operand, tokens.expect(Reserved::Giving))?;
+    let (operand, receivers) = beside(operand, all_receivers(alloc, tokens))?;
     Ok(Target::Giving { operand, receivers })
 }
 

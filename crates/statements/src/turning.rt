@@ -8,7 +8,7 @@ ghost use Rattle.statements.specs.Turning as rule;
 
 use conditions::condition;
 use expressions::{begins_integer, integer, number_operand, reference};
-use grammar::{ReadFault, Tokens, after_word, past_word};
+use grammar::{ReadFault, Tokens, after_word, begins_name, beside, past_word};
 use source_tree::{TestTime, Turns, Until, Varying};
 use std::alloc::Global;
 use tokens::{Kind, Reserved, Token};
@@ -68,8 +68,8 @@ fn varied(alloc: Global, tokens: &mut Tokens<'_>) -> Result<Varying, ReadFault>
     let item = reference(alloc, tokens)?;
     tokens.expect(Reserved::From)?;
     let from = number_operand(alloc, tokens)?;
-    tokens.expect(Reserved::By)?;
-    let by = number_operand(alloc, tokens)?;
+    let (start, ()) = beside((item, from), tokens.expect(Reserved::By))?;
+    let ((item, from), by) = beside(start, number_operand(alloc, tokens))?;
     Ok(Varying { item, from, by })
 }
 
@@ -102,8 +102,8 @@ fn until(alloc: Global, depth: usize, tokens: &mut Tokens<'_>) -> Result<Turns, 
 {
     let test = test_time(tokens)?;
     let varying = varying(alloc, tokens)?;
-    tokens.expect(Reserved::Until)?;
-    let condition = condition(alloc, tokens, depth)?;
+    let (varying, ()) = beside(varying, tokens.expect(Reserved::Until))?;
+    let (varying, condition) = beside(varying, condition(alloc, tokens, depth))?;
     Ok(Turns::Until(Until {
         test,
         varying,
@@ -121,6 +121,16 @@ fn times(alloc: Global, tokens: &mut Tokens<'_>) -> Result<Turns, ReadFault>
     Ok(Turns::Times(count))
 }
 
+/// An item and TIMES.
+#[tactic(auto, unfolding(crate::specs::Turning::counted_reader))]
+fn counted(alloc: Global, tokens: &mut Tokens<'_>) -> Result<Turns, ReadFault>
+    ensures { Reads (rule.counted_reader tokens.old) result tokens.new }
+{
+    let item = reference(alloc, tokens)?;
+    tokens.expect(Reserved::Times)?;
+    Ok(Turns::CountedBy(item))
+}
+
 /// The phrase, where one stands; `depth` is how deep a condition may nest.
 #[tactic(auto, unfolding(crate::specs::Turning::turns_reader))]
 pub fn turns(alloc: Global, depth: usize, tokens: &mut Tokens<'_>) -> Result<Turns, ReadFault>
@@ -128,6 +138,8 @@ pub fn turns(alloc: Global, depth: usize, tokens: &mut Tokens<'_>) -> Result<Tur
 {
     if begins_integer(tokens) {
         times(alloc, tokens)
+    } else if begins_name(tokens) {
+        counted(alloc, tokens)
     } else if begins_until(tokens) {
         until(alloc, depth, tokens)
     } else {

@@ -1,6 +1,6 @@
 //! Conditions, written out again: names, relations, NOT, AND and OR.
 
-use crate::operands::{push_expression, push_reference};
+use crate::operands::{push_expression, push_reference, push_value};
 use source_tree::{Condition, Relation, Side};
 use std::alloc::AllocError;
 
@@ -15,10 +15,11 @@ fn relation(relation: Relation) -> &'static str {
     }
 }
 
-fn push_side(to: &mut String, side: &Side, depth: usize) -> Result<(), AllocError> {
+/// An expression, or a literal that is no number.
+pub fn push_side(to: &mut String, side: &Side, depth: usize) -> Result<(), AllocError> {
     match side {
         Side::Expression(expression) => push_expression(to, expression, depth),
-        Side::Literal(_) => to.push_str("?"),
+        Side::Literal(literal) => push_value(to, &literal.value),
     }
 }
 

@@ -66,7 +66,7 @@ const BRANCHING: [(&str, &str); 15] = [
 ];
 
 /// A sentence with PERFORM, and what is read of it.
-const PERFORMING: [(&str, &str); 13] = [
+const PERFORMING: [(&str, &str); 22] = [
     ("PERFORM CONTINUE END-PERFORM.", "perform{continue;};"),
     (
         "PERFORM 3 TIMES CONTINUE END-PERFORM CONTINUE.",
@@ -105,7 +105,44 @@ const PERFORMING: [(&str, &str); 13] = [
         "PERFORM WITH TEST AFTER VARYING A (1) FROM B BY -1\nUNTIL A (1) = C OR D CONTINUE END-PERFORM.",
         "perform after A(1) from B by -1 until [or A(1)=C D]{continue;};",
     ),
+    // a reference before TIMES is a count
+    (
+        "PERFORM N TIMES CONTINUE END-PERFORM.",
+        "perform N times{continue;};",
+    ),
+    (
+        "PERFORM N OF G TIMES CONTINUE END-PERFORM CONTINUE.",
+        "perform N.G times{continue;};continue;",
+    ),
+    (
+        "PERFORM N IN G OF H TIMES CONTINUE END-PERFORM.",
+        "perform N.G.H times{continue;};",
+    ),
+    (
+        "PERFORM T (2) TIMES CONTINUE END-PERFORM.",
+        "perform T(2) times{continue;};",
+    ),
+    (
+        "PERFORM T OF G (1 I) TIMES CONTINUE END-PERFORM.",
+        "perform T.G(1)(I) times{continue;};",
+    ),
     // in one another
+    (
+        "PERFORM UNTIL A PERFORM N TIMES CONTINUE END-PERFORM\nCONTINUE END-PERFORM.",
+        "perform until A{perform N times{continue;};continue;};",
+    ),
+    (
+        "PERFORM N TIMES PERFORM M (N) TIMES CONTINUE END-PERFORM\nPERFORM 2 TIMES EXIT END-PERFORM END-PERFORM.",
+        "perform N times{perform M(N) times{continue;};perform 2 times{exit;};};",
+    ),
+    (
+        "IF A PERFORM N TIMES CONTINUE END-PERFORM ELSE CONTINUE.",
+        "if A{perform N times{continue;};}else{continue;};",
+    ),
+    (
+        "ADD 1 TO A SIZE ERROR PERFORM N OF G TIMES CONTINUE\nEND-PERFORM END-ADD EXIT.",
+        "add 1 -> A error{perform N.G times{continue;};};exit;",
+    ),
     (
         "PERFORM UNTIL A PERFORM 2 TIMES CONTINUE END-PERFORM\nCONTINUE END-PERFORM.",
         "perform until A{perform 2 times{continue;};continue;};",
@@ -121,7 +158,7 @@ const PERFORMING: [(&str, &str); 13] = [
 ];
 
 /// A sentence with PERFORM of procedures or EXIT, and what is read of it.
-const PROCEDURES: [(&str, &str); 16] = [
+const PROCEDURES: [(&str, &str); 26] = [
     ("PERFORM P.", "perform P;"),
     ("PERFORM P-1 THRU Q.", "perform P-1 thru Q;"),
     ("PERFORM P THROUGH Q.", "perform P thru Q;"),
@@ -136,6 +173,35 @@ const PROCEDURES: [(&str, &str); 16] = [
     (
         "PERFORM P THRU Q TEST AFTER VARYING A FROM 1 BY 2\nUNTIL A > B.",
         "perform after A from 1 by 2 until A>B P thru Q;",
+    ),
+    // a count stands behind the names
+    ("PERFORM P N TIMES.", "perform N times P;"),
+    ("PERFORM P P TIMES.", "perform P times P;"),
+    ("PERFORM P N OF G TIMES.", "perform N.G times P;"),
+    ("PERFORM P T (I) TIMES.", "perform T(I) times P;"),
+    (
+        "PERFORM P THRU Q T (2) TIMES.",
+        "perform T(2) times P thru Q;",
+    ),
+    (
+        "PERFORM P THROUGH Q N IN G (1 I) TIMES EXIT.",
+        "perform N.G(1)(I) times P thru Q;exit;",
+    ),
+    (
+        "PERFORM N TIMES PERFORM P END-PERFORM.",
+        "perform N times{perform P;};",
+    ),
+    (
+        "PERFORM N TIMES PERFORM P N TIMES PERFORM Q\nEND-PERFORM PERFORM R.",
+        "perform N times{perform N times P;perform Q;};perform R;",
+    ),
+    (
+        "PERFORM P N TIMES PERFORM N TIMES CONTINUE\nEND-PERFORM.",
+        "perform N times P;perform N times{continue;};",
+    ),
+    (
+        "IF A PERFORM P N TIMES ELSE PERFORM Q THRU R M TIMES.",
+        "if A{perform N times P;}else{perform M times Q thru R;};",
     ),
     // a phrase belongs to it, and statements behind it don't
     (
@@ -163,7 +229,7 @@ const PROCEDURES: [(&str, &str); 16] = [
 ];
 
 /// How many tokens there are from where reading halts on.
-const HALTS: [(&str, usize); 39] = [
+const HALTS: [(&str, usize); 57] = [
     ("IF A.", 1),
     ("IF A THEN.", 1),
     ("IF CONTINUE.", 2),
@@ -201,8 +267,6 @@ const HALTS: [(&str, usize); 39] = [
     ("PERFORM P THRU.", 1),
     ("PERFORM P THROUGH 3 TIMES.", 3),
     ("PERFORM P THRU Q THRU R.", 3),
-    ("PERFORM P Q.", 2),
-    ("PERFORM P, Q THRU R.", 4),
     // how often stands behind the names, and there are no statements and no END-PERFORM
     ("PERFORM 3 TIMES P.", 2),
     ("PERFORM P 3 TIMES THRU Q.", 3),
@@ -210,8 +274,30 @@ const HALTS: [(&str, usize); 39] = [
     ("PERFORM P UNTIL A CONTINUE END-PERFORM.", 2),
     ("PERFORM PERFORM P.", 1),
     ("PERFORM P 3.", 1),
-    // a count by its name is not read
-    ("PERFORM N TIMES.", 2),
+    // a name behind the names is a count, and TIMES stands behind it
+    ("PERFORM P Q.", 1),
+    ("PERFORM P, Q THRU R.", 3),
+    ("PERFORM P THRU Q N.", 1),
+    ("PERFORM P N OF G.", 1),
+    ("PERFORM P T (2).", 1),
+    ("PERFORM P T (TIMES).", 3),
+    ("PERFORM P N CONTINUE.", 2),
+    ("PERFORM P N M TIMES.", 3),
+    ("PERFORM P N TIMES M TIMES.", 3),
+    ("PERFORM P N TIMES THRU Q.", 3),
+    ("PERFORM P N TIMES CONTINUE END-PERFORM.", 2),
+    // a reference before TIMES is no procedure: statements and END-PERFORM stand behind it
+    ("PERFORM N TIMES.", 1),
+    ("PERFORM N OF G TIMES.", 1),
+    ("PERFORM N TIMES CONTINUE.", 1),
+    ("PERFORM N TIMES END-PERFORM.", 2),
+    ("PERFORM N TIMES P.", 2),
+    ("PERFORM N TIMES UNTIL A CONTINUE END-PERFORM.", 5),
+    // and one that isn't before TIMES is no count
+    ("PERFORM N OF G CONTINUE.", 4),
+    ("PERFORM N (I TIMES CONTINUE END-PERFORM.", 6),
+    ("PERFORM N + 1 TIMES CONTINUE END-PERFORM.", 6),
+    ("PERFORM TIMES CONTINUE END-PERFORM.", 4),
     ("EXIT P.", 2),
 ];
 
@@ -258,12 +344,14 @@ fn control_is_refused(rt: HostRuntime) -> Result<(), Fail> {
 /// 64 statements stand in one another: 63 around CONTINUE.
 #[test]
 fn control_too_deep(rt: HostRuntime) -> Result<(), Fail> {
-    let rows: [(&str, &str, usize, Left); 4] = [
+    let rows: [(&str, &str, usize, Left); 6] = [
         ("IF A", "END-IF", 63, (0, false)),
         // CONTINUE, the END words and the period
         ("IF A", "END-IF", 64, (66, true)),
         ("PERFORM UNTIL A", "END-PERFORM", 63, (0, false)),
         ("PERFORM UNTIL A", "END-PERFORM", 64, (66, true)),
+        ("PERFORM N TIMES", "END-PERFORM", 63, (0, false)),
+        ("PERFORM N TIMES", "END-PERFORM", 64, (66, true)),
     ];
     for (line, end, times, left) in rows.iter() {
         let text = nested(rt.alloc(), "", line, "CONTINUE", end, *times)?;

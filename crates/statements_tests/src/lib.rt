@@ -10,10 +10,14 @@ mod asserted;
 #[cfg(test)]
 mod control_rows;
 #[cfg(test)]
+mod evaluate_rows;
+#[cfg(test)]
 mod operands;
 #[cfg(test)]
 mod operations;
 #[cfg(test)]
 mod read;
+#[cfg(test)]
+mod selected;
 #[cfg(test)]
 mod written;

@@ -43,7 +43,7 @@ fn sign(sign: Sign) -> &'static str {
     }
 }
 
-/// A number as written, or ZERO.
+/// A number as written, ZERO, or an alphanumeric literal in quotation marks.
 pub fn push_value(to: &mut String, value: &LiteralValue) -> Result<(), AllocError> {
     match value {
         LiteralValue::Numeric(number) => {
@@ -54,6 +54,11 @@ pub fn push_value(to: &mut String, value: &LiteralValue) -> Result<(), AllocErro
             }
             to.push_str(".")?;
             push_bytes(to, number.decimals.as_slice())
+        }
+        LiteralValue::Nonnumeric(bytes) => {
+            to.push_str("\"")?;
+            push_bytes(to, bytes.as_slice())?;
+            to.push_str("\"")
         }
         LiteralValue::Figurative(Figurative::Zero) => to.push_str("ZERO"),
         _ => to.push_str("?"),

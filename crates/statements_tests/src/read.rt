@@ -1,5 +1,6 @@
 //! Sentences of rows, read.
 
+use crate::selected::push_places;
 use crate::written::push_statements;
 use grammar::{Halt, ReadFault, Tokens};
 use source_lines::logical;
@@ -37,6 +38,17 @@ pub fn read(alloc: Global, text: &str) -> Result<(String, Left), Fail> {
         Err(ReadFault::Halted(Halt::Unexpected(left))) => (shape, (left, false)),
         Err(ReadFault::Memory) => (shape, (usize::MAX, false)),
     })
+}
+
+/// Where the WHENs of a sentence's own EVALUATEs stand, and where their objects begin.
+pub fn places(alloc: Global, text: &str) -> Result<String, Fail> {
+    let scanned = tokens_of(alloc, text)?;
+    let one = sentence(alloc, &mut Tokens::new(scanned.as_slice()))?;
+    let mut found = String::new(alloc);
+    for statement in one.statements.as_slice() {
+        push_places(alloc, &mut found, &statement.verb)?;
+    }
+    Ok(found)
 }
 
 /// A line so many times, one below the other.

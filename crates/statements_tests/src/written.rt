@@ -3,8 +3,10 @@
 use crate::asked::push_condition;
 use crate::operands::{DEEPEST, push_bytes, push_operand, push_reference};
 use crate::operations::{push_operation, push_text};
+use crate::selected::{push_subjects, push_whens};
 use source_tree::{
-    Branching, Condition, Ending, Name, Performed, Statement, TestTime, Turns, Until, Verb,
+    Branching, Condition, Ending, Evaluate, Name, Performed, Selected, Statement, TestTime, Turns,
+    Until, Verb,
 };
 use sqlite_items::Items;
 use std::alloc::AllocError;
@@ -33,6 +35,11 @@ fn push_turns(to: &mut String, turns: &Turns) -> Result<(), AllocError> {
         Turns::Times(count) => {
             to.push_str(" ")?;
             push_bytes(to, count.digits.as_slice())?;
+            to.push_str(" times")
+        }
+        Turns::CountedBy(item) => {
+            to.push_str(" ")?;
+            push_reference(to, item)?;
             to.push_str(" times")
         }
         Turns::Until(until) => push_until(to, until),
@@ -74,6 +81,32 @@ fn push_inner(to: &mut String, statements: &Items<Statement>) -> Result<(), Allo
     to.push_str("}")
 }
 
+#[cycle(written)]
+fn push_group(to: &mut String, selected: &Selected<Statement>) -> Result<(), AllocError> {
+    push_whens(to, &selected.whens)?;
+    push_inner(to, &selected.statements)
+}
+
+#[cycle(written)]
+fn push_groups(to: &mut String, groups: &Items<Selected<Statement>>) -> Result<(), AllocError> {
+    for one in groups.as_slice() {
+        push_group(to, one)?;
+    }
+    Ok(())
+}
+
+/// The subjects, each group of WHENs with its statements, and those of WHEN OTHER behind `other`.
+#[cycle(written)]
+fn push_evaluate(to: &mut String, one: &Evaluate<Statement>) -> Result<(), AllocError> {
+    push_subjects(to, &one.subjects)?;
+    push_groups(to, &one.selected)?;
+    if let Some(statements) = &one.other {
+        to.push_str(" other")?;
+        push_inner(to, statements)?;
+    }
+    Ok(())
+}
+
 /// The statements of a phrase stand behind `error` those of SIZE ERROR and behind `fits` those of its opposite; those of ELSE
 /// behind `else`.
 #[cycle(written)]
@@ -106,6 +139,7 @@ fn push_statement(to: &mut String, statement: &Statement) -> Result<(), AllocErr
             }
             Ok(())
         }
+        Verb::Branching(Branching::Evaluate(one)) => push_evaluate(to, one),
         Verb::Performing(one) => {
             push_turns(to, &one.turns)?;
             match &one.performed {

@@ -1,6 +1,7 @@
 -- Conditions with NOT and parentheses: what is read is spelled, and what is spelled is read.
 use Rattle.std.proofs.Common.{◌≡◌, ◌<◌, ℕ, zero, suc, ◌-◌, Bool, true, false, if◌then◌else◌, List, length, Some, Ok, inl, inr, refl, sym, ap, ◌∙◌, subst, arith}
 use Rattle.std.specs.Prelude.{◌⊎◌, ◌||◌, ◌&&◌, not, Err}
+use Rattle.tokens.specs.declared.reserved.Reserved.{Reserved}
 use Rattle.tokens.specs.declared.reserved.Reserved.TheVariants as w
 use Rattle.tokens.specs.declared.token.Kind.{Kind}
 use Rattle.tokens.specs.declared.token.Kind.TheVariants as k
@@ -20,25 +21,25 @@ use Rattle.expressions.specs.Looking.{past_parentheses}
 use Rattle.expressions.proofs.Exact.Balance.{Even, word_even, enclosed_even, without_even, parentheses_passed}
 use Rattle.conditions.specs.Conditions as g
 use Rattle.conditions.specs.Conditions.{goes_on, goes_on_after}
-use Rattle.conditions.specs.Laws.{OnlyToDepth}
+use Rattle.conditions.specs.Laws.{ToDepth, OnlyToDepth}
 use Rattle.conditions.proofs.Exact.Levels.{disjunction_sound, disjunction_complete, disjunction_shrinks, disjunction_even}
 use Rattle.conditions.proofs.Exact.Plain.{plain_sound, plain_complete, plain_begins, plain_shrinks, plain_even}
 
 -- ---- NOT and parentheses
 
-left_no_not : (kind : Kind) (u : Unit {0}) → left_of kind ≡ Some u → is_kind w.Not kind ≡ false
-left_no_not (k.Reserved _) u e = absurd (none_not e)
-left_no_not (k.Word characters) u e = refl
-left_no_not (k.Numeric number) u e = refl
-left_no_not (k.Nonnumeric bytes) u e = refl
-left_no_not (k.Picture characters) u e = refl
-left_no_not k.Period u e = refl
-left_no_not k.LeftParenthesis u e = refl
-left_no_not k.RightParenthesis u e = refl
-left_no_not (k.Operator operator) u e = refl
+left_no_word : (word : Reserved) (kind : Kind) (u : Unit {0}) → left_of kind ≡ Some u → is_kind word kind ≡ false
+left_no_word word (k.Reserved _) u e = absurd (none_not e)
+left_no_word word (k.Word characters) u e = refl
+left_no_word word (k.Numeric number) u e = refl
+left_no_word word (k.Nonnumeric bytes) u e = refl
+left_no_word word (k.Picture characters) u e = refl
+left_no_word word k.Period u e = refl
+left_no_word word k.LeftParenthesis u e = refl
+left_no_word word k.RightParenthesis u e = refl
+left_no_word word (k.Operator operator) u e = refl
 
-left_begins : (i rest : List Token) → left i rest → begins_word w.Not i ≡ false
-left_begins i rest (first, is, tell) = ap (begins_word w.Not) is ∙ left_no_not first.kind tt tell
+pub left_begins : (word : Reserved) (i rest : List Token) → left i rest → begins_word word i ≡ false
+left_begins word i rest (first, is, tell) = ap (begins_word word) is ∙ left_no_word word first.kind tt tell
 
 module _ (simple : Condition → Part) (even : (x : Condition) → Even (simple x)) where
   negation_shrinks : Shrinks simple → Shrinks (g.negation simple)
@@ -59,7 +60,7 @@ module _ (simple : Condition → Part) (even : (x : Condition) → Even (simple 
       enclosed_even {p = g.disjunction simple x} (disjunction_even simple even x) i i1 s n ∙ without_even (tested goes_on) i1 rest stops n
 
   -- what closes the parenthesis of a condition is found
-  closes : (x : Condition) (i rest : List Token) → (left then g.disjunction simple x then right) i rest → past_parentheses i ≡ Some rest
+  pub closes : (x : Condition) (i rest : List Token) → (left then g.disjunction simple x then right) i rest → past_parentheses i ≡ Some rest
   closes x i rest s = parentheses_passed {p = g.disjunction simple x} (disjunction_even simple even x) i rest s
 
   enclosed_begins : (x : Condition) (i rest : List Token) → g.enclosed simple x i rest → g.begins_enclosed i ≡ true
@@ -123,14 +124,14 @@ module _ (simple : Condition → Part) (even : (x : Condition) → Even (simple 
           (step (reader i1) _ (each inner i1 rest s) (Reached refl))))
       nested_complete x i rest (inr (i3, (i1, opens, (i2, s, closes)), stops)) =
           subst (λ j. Answers Allowed (g.nested_reader reader i) x j) stops.0
-          (rw (left_begins i i1 opens)
+          (rw (left_begins w.Not i i1 opens)
           (step (one_token left_in i) _ (one_token_complete left_in tt i i1 opens)
           (step (g.disjunction_reader reader i1) _ (disjunction_complete simple reader Allowed each fewer x i1 i2 s)
           (step (one_token right_in i2) _ (one_token_complete right_in tt i2 i3 closes) (Reached refl)))))
 
 -- ---- simple conditions
 
-simple_even : (depth : ℕ) (x : Condition) → Even (g.simple depth x)
+pub simple_even : (depth : ℕ) (x : Condition) → Even (g.simple depth x)
 simple_even zero x i rest s n = plain_even zero x i rest s n
 simple_even (suc depth) x i rest (inl s) n = plain_even (suc depth) x i rest s n
 simple_even (suc depth) x i rest (inr (inl s)) n = negation_even (g.simple depth) (simple_even depth) x i rest s n
@@ -187,14 +188,17 @@ condition_shrinks depth = disjunction_shrinks (g.simple depth) (simple_shrinks d
 pub condition_even : (depth : ℕ) (x : Condition) → Even (g.condition depth x)
 condition_even depth = disjunction_even (g.simple depth) (simple_even depth)
 
-pub only_to_depth : OnlyToDepth
-only_to_depth depth depth' one from rest s = go (condition_complete depth depth' one from rest s)
+pub to_depth : {A : Type 0} (p : ℕ → A → Part) (reader : ℕ → Parser A) → ((depth depth' : ℕ) → Complete (Deeper depth depth') (p depth') (reader depth)) → ToDepth p reader
+to_depth p reader complete depth depth' one from rest s = go (complete depth depth' one from rest s)
   where
-    go : Answers (Deeper depth depth') (g.condition_reader depth from) one rest
-        → (g.condition_reader depth from ≡ Ok (one, rest)) ⊎ ((depth < depth') × (left : ℕ) × (g.condition_reader depth from ≡ Err (TooDeep left)))
+    go : Answers (Deeper depth depth') (reader depth from) one rest
+        → (reader depth from ≡ Ok (one, rest)) ⊎ ((depth < depth') × (left : ℕ) × (reader depth from ≡ Err (TooDeep left)))
     go (Reached e) = inl e
     go (Halts (TooDeep behind) deep e) = inr (deep, behind, e)
     go (Halts (Unexpected behind) none e) = absurd none
+
+pub only_to_depth : OnlyToDepth
+only_to_depth = to_depth g.condition g.condition_reader condition_complete
 
 -- ---- reading a simple condition, by how it begins and the depth
 

@@ -29,7 +29,7 @@ use Rattle.conditions.specs.Tests.{asked, asked_reader, begins_test, begins_clas
 use Rattle.conditions.specs.Conditions as g
 use Rattle.conditions.specs.Conditions.{goes_on, goes_on_after, class_follows}
 use Rattle.conditions.proofs.Exact.Tests.{asked_sound, asked_complete, asked_shrinks, asked_even, asked_begins, asked_class, no_test_no_class, operator_no_class}
-use Rattle.conditions.proofs.Exact.Sides.{side_sound, side_complete, side_shrinks, side_even, side_no_not, name_no_not, text_opens}
+use Rattle.conditions.proofs.Exact.Sides.{side_sound, side_complete, side_shrinks, side_even, side_no_word, name_no_word, not_opens_none, text_opens}
 
 -- ---- what is read is spelled
 
@@ -202,12 +202,12 @@ abbrev IsPlain : List Token → Type 0
 IsPlain i = (begins_word w.Not i ≡ false) × (begins_left i ≡ true → goes_on_after (past_parentheses i) ≡ true)
 
 plain_opens : (depth : ℕ) (x : Condition) (i rest : List Token) → g.plain depth x i rest → IsPlain i
-plain_opens depth x i rest (inl (one, is, (i1, s, t))) = (name_no_not i (reference_starts one i i1 s), λ b. false_not_true (begins_left i) (named_left one i i1 s) b)
-plain_opens depth x i rest (inr (inl (item, negated, one, is, (i1, s, t)))) = (name_no_not i (reference_starts item i i1 s), λ b. false_not_true (begins_left i) (named_left item i i1 s) b)
+plain_opens depth x i rest (inl (one, is, (i1, s, t))) = (name_no_word w.Not not_opens_none i (reference_starts one i i1 s), λ b. false_not_true (begins_left i) (named_left one i i1 s) b)
+plain_opens depth x i rest (inr (inl (item, negated, one, is, (i1, s, t)))) = (name_no_word w.Not not_opens_none i (reference_starts item i i1 s), λ b. false_not_true (begins_left i) (named_left item i i1 s) b)
 plain_opens depth x i rest (inr (inr (inl (first, one, second, is, (i1, s, t))))) =
-    let l = compared_leads depth x i rest (first, one, second, is, (i1, s, t)) in (side_no_not depth first i i1 s, l.1)
+    let l = compared_leads depth x i rest (first, one, second, is, (i1, s, t)) in (side_no_word w.Not not_opens_none depth first i i1 s, l.1)
 plain_opens depth x i rest (inr (inr (inr (v, negated, one, is, (i1, s, t))))) =
-    let l = sign_leads depth x i rest (v, negated, one, is, (i1, s, t)) in (side_no_not depth (side_as.Expression v) i i1 s, l.1)
+    let l = sign_leads depth x i rest (v, negated, one, is, (i1, s, t)) in (side_no_word w.Not not_opens_none depth (side_as.Expression v) i i1 s, l.1)
 
 pub plain_begins : (depth : ℕ) (x : Condition) (i rest : List Token) → g.plain depth x i rest → g.begins_nested i ≡ false
 plain_begins depth x i rest s = let p = plain_opens depth x i rest s in go (begins_left i) p.0 p.1

@@ -78,7 +78,7 @@ not_false : (b : Bool) → not b ≡ false → b ≡ true
 not_false true e = refl
 not_false false e = cc
 
-text_begins : (x : Literal) (i rest : List Token) → is_text x.value ≡ true → literal x i rest → begins_expression i ≡ false
+pub text_begins : (x : Literal) (i rest : List Token) → is_text x.value ≡ true → literal x i rest → begins_expression i ≡ false
 text_begins x i rest text s = literal_begins x i rest s ∙ not_true (is_text x.value) text
 
 -- ---- sides
@@ -109,68 +109,77 @@ pub side_even : (depth : ℕ) (x : Side) → Even (g.side depth x)
 side_even depth (side_as.Expression one) i rest s n = expression_even depth one i rest s n
 side_even depth (side_as.Literal one) i rest (text, s) n = literal_even one i rest s n
 
--- ---- none begins with NOT
+-- ---- none begins with a word that is no constant
 
-constant_no_not : (o : Option Figurative) → o ≡ None → (place : Place) → number_told o place ≡ false
-constant_no_not None e place = refl
-constant_no_not (Some one) e place = absurd (none_not (sym e))
+-- no figurative constant, and not ALL
+pub record OpensNone (word : Reserved) : Type 0 where
+  pub no_constant : figurative_of word ≡ None
+  pub no_all : same_word w.All word ≡ false
 
-word_no_not : (one : Reserved) (place : Place) → opens (k.Reserved one) place ≡ true → is_kind w.Not (k.Reserved one) ≡ false
-word_no_not one place e = go (same_word one w.Not) refl
-  where
-    go : (b : Bool) → same_word one w.Not ≡ b → b ≡ false
-    go true is = absurd (true_not_false (opens (k.Reserved one) place) (constant_no_not (figurative_of one) (ap figurative_of (same_words w.Not one is)) place) e)
-    go false is = refl
+constant_opens_none : (o : Option Figurative) → o ≡ None → (place : Place) → number_told o place ≡ false
+constant_opens_none None e place = refl
+constant_opens_none (Some one) e place = absurd (none_not (sym e))
 
-kind_no_not : (kind : Kind) (place : Place) → opens kind place ≡ true → is_kind w.Not kind ≡ false
-kind_no_not (k.Reserved one) place e = word_no_not one place e
-kind_no_not (k.Word characters) place e = refl
-kind_no_not (k.Numeric number) place e = refl
-kind_no_not (k.Nonnumeric bytes) place e = refl
-kind_no_not (k.Picture characters) place e = refl
-kind_no_not k.Period place e = refl
-kind_no_not k.LeftParenthesis place e = refl
-kind_no_not k.RightParenthesis place e = refl
-kind_no_not (k.Operator operator) place e = refl
+module _ (word : Reserved) (none : OpensNone word) where
+  is_no_constant : (one : Reserved) → same_word one word ≡ true → figurative_of one ≡ None
+  is_no_constant one is = ap figurative_of (same_words word one is) ∙ none.no_constant
 
-pub expression_no_not : (i : List Token) → begins_expression i ≡ true → begins_word w.Not i ≡ false
-expression_no_not [] e = refl
-expression_no_not (first ∷ more) e = kind_no_not first.kind first.place e
+  word_no_word : (one : Reserved) (place : Place) → opens (k.Reserved one) place ≡ true → is_kind word (k.Reserved one) ≡ false
+  word_no_word one place e = go (same_word one word) refl
+    where
+      go : (b : Bool) → same_word one word ≡ b → b ≡ false
+      go true is = absurd (true_not_false (opens (k.Reserved one) place) (constant_opens_none (figurative_of one) (is_no_constant one is) place) e)
+      go false is = refl
 
-pub name_no_not : (i : List Token) → begins_name i ≡ true → begins_word w.Not i ≡ false
-name_no_not i e = expression_no_not i (go (begins_name i) _ e)
-  where
-    go : (b c : Bool) → b ≡ true → (b || c) ≡ true
-    go true c e = refl
-    go false c e = cc
+  kind_no_word : (kind : Kind) (place : Place) → opens kind place ≡ true → is_kind word kind ≡ false
+  kind_no_word (k.Reserved one) place e = word_no_word one place e
+  kind_no_word (k.Word characters) place e = refl
+  kind_no_word (k.Numeric number) place e = refl
+  kind_no_word (k.Nonnumeric bytes) place e = refl
+  kind_no_word (k.Picture characters) place e = refl
+  kind_no_word k.Period place e = refl
+  kind_no_word k.LeftParenthesis place e = refl
+  kind_no_word k.RightParenthesis place e = refl
+  kind_no_word (k.Operator operator) place e = refl
 
-value_no_not : (kind : Kind) (v : LiteralValue) → value_by kind ≡ Some v → is_kind w.Not kind ≡ false
-value_no_not (k.Reserved one) v e = go (same_word one w.Not) refl
-  where
-    go : (b : Bool) → same_word one w.Not ≡ b → b ≡ false
-    go true is = absurd (none_not (sym (ap (λ o. option_map value_as.Figurative o) (ap figurative_of (same_words w.Not one is))) ∙ e))
-    go false is = refl
-value_no_not (k.Word characters) v e = refl
-value_no_not (k.Numeric number) v e = refl
-value_no_not (k.Nonnumeric bytes) v e = refl
-value_no_not (k.Picture characters) v e = refl
-value_no_not k.Period v e = refl
-value_no_not k.LeftParenthesis v e = refl
-value_no_not k.RightParenthesis v e = refl
-value_no_not (k.Operator operator) v e = refl
+  pub expression_no_word : (i : List Token) → begins_expression i ≡ true → begins_word word i ≡ false
+  expression_no_word [] e = refl
+  expression_no_word (first ∷ more) e = kind_no_word first.kind first.place e
 
-all_not : same_word w.All w.Not ≡ false
+  pub name_no_word : (i : List Token) → begins_name i ≡ true → begins_word word i ≡ false
+  name_no_word i e = expression_no_word i (go (begins_name i) _ e)
+    where
+      go : (b c : Bool) → b ≡ true → (b || c) ≡ true
+      go true c e = refl
+      go false c e = cc
+
+  value_no_word : (kind : Kind) (v : LiteralValue) → value_by kind ≡ Some v → is_kind word kind ≡ false
+  value_no_word (k.Reserved one) v e = go (same_word one word) refl
+    where
+      go : (b : Bool) → same_word one word ≡ b → b ≡ false
+      go true is = absurd (none_not (sym (ap (λ o. option_map value_as.Figurative o) (is_no_constant one is)) ∙ e))
+      go false is = refl
+  value_no_word (k.Word characters) v e = refl
+  value_no_word (k.Numeric number) v e = refl
+  value_no_word (k.Nonnumeric bytes) v e = refl
+  value_no_word (k.Picture characters) v e = refl
+  value_no_word k.Period v e = refl
+  value_no_word k.LeftParenthesis v e = refl
+  value_no_word k.RightParenthesis v e = refl
+  value_no_word (k.Operator operator) v e = refl
+
+  literal_no_word : (x : Literal) (i rest : List Token) → literal x i rest → begins_word word i ≡ false
+  literal_no_word x i rest (inl (first, is, tell)) =
+      ap (begins_word word) is ∙ value_no_word first.kind x.value (plain_value (value_by first.kind) first.place x tell)
+  literal_no_word x i rest (inr (bytes, is, (i1, at, (i2, all, told)))) = ap (begins_word word) at.0 ∙ begins_no_other w.All word none.no_all i1 i2 all
+
+  pub side_no_word : (depth : ℕ) (x : Side) (i rest : List Token) → g.side depth x i rest → begins_word word i ≡ false
+  side_no_word depth (side_as.Expression one) i rest s = expression_no_word i (expression_starts depth one i rest s)
+  side_no_word depth (side_as.Literal one) i rest (text, s) = literal_no_word one i rest s
+
+pub not_opens_none : OpensNone w.Not
 unfolding same_word
-all_not = refl
-
-literal_no_not : (x : Literal) (i rest : List Token) → literal x i rest → begins_word w.Not i ≡ false
-literal_no_not x i rest (inl (first, is, tell)) =
-    ap (begins_word w.Not) is ∙ value_no_not first.kind x.value (plain_value (value_by first.kind) first.place x tell)
-literal_no_not x i rest (inr (bytes, is, (i1, at, (i2, all, told)))) = ap (begins_word w.Not) at.0 ∙ begins_no_other w.All w.Not all_not i1 i2 all
-
-pub side_no_not : (depth : ℕ) (x : Side) (i rest : List Token) → g.side depth x i rest → begins_word w.Not i ≡ false
-side_no_not depth (side_as.Expression one) i rest s = expression_no_not i (expression_starts depth one i rest s)
-side_no_not depth (side_as.Literal one) i rest (text, s) = literal_no_not one i rest s
+not_opens_none = record { no_constant = refl; no_all = refl }
 
 -- ---- a text begins with no name and no parenthesis
 

@@ -1,5 +1,5 @@
 -- IF: what is read is spelled, and what is spelled is read.
-use Rattle.std.proofs.Common.{◌≡◌, ℕ, List, Option, Some, refl, subst, arith}
+use Rattle.std.proofs.Common.{◌≡◌, ◌<◌, ℕ, List, length, Option, Some, refl, subst, arith}
 use Rattle.tokens.specs.declared.reserved.Reserved.TheVariants as w
 use Rattle.tokens.specs.declared.token.Token.{Token}
 use Rattle.source_tree.specs.declared.condition.Condition.{Condition}
@@ -31,8 +31,9 @@ module _ (statements : List Statement → Part) where
       → branching depth statements (If asked done otherwise) i rest → verb_at i ≡ Some v.If
   branching_stands depth asked done otherwise i rest s = stands w.If i s.0 s.1
 
-  pub branching_shrinks : (depth : ℕ) → Shrinks statements → Shrinks (branching depth statements)
-  branching_shrinks depth each (If asked done otherwise) i rest (i1, verb, (i2, asks, (i3, then_word, (i4, inner, (i5, other, end))))) =
+  pub branching_shrinks : (depth : ℕ) → Shrinks statements → (asked : Condition) (done : List Statement) (otherwise : Option (List Statement)) (i rest : List Token)
+      → branching depth statements (If asked done otherwise) i rest → length rest < length i
+  branching_shrinks depth each asked done otherwise i rest (i1, verb, (i2, asks, (i3, then_word, (i4, inner, (i5, other, end))))) =
       let a = word_shrinks w.If i i1 verb in
       let b = condition_shrinks depth asked i1 i2 asks in
       let c = skip_shrinks w.Then i2 i3 then_word in

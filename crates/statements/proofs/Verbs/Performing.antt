@@ -1,6 +1,6 @@
 -- PERFORM: what is read is spelled, and what is spelled is read.
 use Rattle.std.proofs.Common.{◌≡◌, ◌<◌, ◌≤◌, ℕ, Bool, true, false, List, length, Option, None, Some, Ok, inl, inr, refl, ap, subst, arith}
-use Rattle.std.specs.Prelude.{◌||◌, if◌then◌else◌}
+use Rattle.std.specs.Prelude.{◌||◌, is_some, if◌then◌else◌}
 use Rattle.tokens.specs.declared.reserved.Reserved.{Reserved}
 use Rattle.tokens.specs.declared.reserved.Reserved.TheVariants as w
 use Rattle.tokens.specs.declared.token.Token.{Token}
@@ -18,21 +18,24 @@ use Rattle.grammar.specs.Parts.{Part, word, name as spelled_name, begins_name}
 use Rattle.grammar.specs.Reading as read
 use Rattle.grammar.specs.Reading.{Parser, begins_word}
 use Rattle.grammar.proofs.Outcomes.{Answers, Reached, step, unstep, value, after, last}
-use Rattle.grammar.proofs.Looking.{true_not_false, word_begins, begins_no_other}
+use Rattle.grammar.proofs.Looking.{true_not_false, word_begins, begins_no_other, tests_words}
 use Rattle.grammar.proofs.Lists.{Sound, Complete, Shrinks, Starts}
 use Rattle.grammar.proofs.Parts.{word_sound, word_complete, word_shrinks, name_sound, name_complete, name_shrinks, name_starts}
+use Rattle.expressions.specs.Looking.{reference_before, after_reference_before}
+use Rattle.expressions.proofs.Exact.Leads.{reference_before_found}
 use Rattle.conditions.specs.Conditions.{condition, condition_reader}
 use Rattle.conditions.proofs.Exact.Tests.{no_word}
 use Rattle.statements.specs.declared.verb.VerbWord.TheVariants as v
 use Rattle.statements.specs.Verbs.{verb_at, begins_statement}
 use Rattle.statements.specs.Turning.{turns_reader}
 use Rattle.statements.specs.Performing as rule
-use Rattle.statements.specs.Performing.{performing, through_by, through_reader, last_reader, procedures_reader, in_line_reader, performing_reader}
+use Rattle.statements.specs.Performing.{performing, begins_procedures, through_by, through_reader, last_reader, procedures_reader, in_line_reader, performing_reader}
 use Rattle.statements.specs.Spelling as g
 use Rattle.statements.specs.Reading as r
+use Rattle.statements.proofs.Except.{not_second, both}
 use Rattle.statements.proofs.Standing.{stands, statement_no_name}
 use Rattle.statements.proofs.StatementLists.{statements_sound}
-use Rattle.statements.proofs.Verbs.Turning.{turns_sound, turns_complete, turns_shrink, turns_no_name}
+use Rattle.statements.proofs.Verbs.Turning.{turns_sound, turns_complete, turns_shrink, turns_no_procedures}
 
 -- ---- THRU
 
@@ -89,7 +92,7 @@ last_complete (Some name) i rest (i1, inr thru, named) =
 -- ---- procedures
 
 procedures_shrink : (depth : ℕ) (first : Name) (to : Option Name) (often : Turns) (i rest : List Token) → rule.procedures depth first to often i rest → length rest < length i
-procedures_shrink depth first to often i rest (i1, named, (i2, thru, phrase)) =
+procedures_shrink depth first to often i rest (i1, (named, no_count), (i2, thru, phrase)) =
     let a = name_shrinks first i i1 named in
     let b = last_shrinks to i1 i2 thru in
     let c = turns_shrink depth often i2 rest phrase in omega arith
@@ -98,18 +101,27 @@ procedures_complete : (Allowed : Halt → Type 0) (depth depth' : ℕ) → Compl
     → (first : Name) (to : Option Name) (often : Turns) (i rest : List Token) → rule.procedures depth' first to often i rest
     → Answers Allowed (procedures_reader depth i) (verb.Performing (record { performed = Procedures first to; turns = often })) rest
 unfolding procedures_reader
-procedures_complete Allowed depth depth' asks first to often i rest (i1, named, (i2, thru, phrase)) =
+procedures_complete Allowed depth depth' asks first to often i rest (i1, (named, no_count), (i2, thru, phrase)) =
     step (read.name i) _ (name_complete first i i1 named)
     (step (last_reader i1) _ (last_complete to i1 i2 thru)
     (step (turns_reader depth i2) _ (turns_complete Allowed depth depth' asks often i2 rest phrase) (Reached refl)))
 
+procedures_begin : (depth : ℕ) (first : Name) (to : Option Name) (often : Turns) (i rest : List Token) → rule.procedures depth first to often i rest → begins_procedures i ≡ true
+procedures_begin depth first to often i rest (i1, (named, no_count), more) =
+    both (begins_name i) (is_some (after_reference_before w.Times i)) (name_starts first i i1 named) ((tests_words (reference_before_found w.Times)).refuses i no_count)
+
+-- where procedures begin, no count does
+begin_no_count : (i : List Token) → begins_procedures i ≡ true → (behind : List Token) → reference_before w.Times i behind → ⊥
+begin_no_count i is =
+    (tests_words (reference_before_found w.Times)).fails i (not_second (begins_name i) (is_some (after_reference_before w.Times i)) is)
+
 -- ---- either
 
 module _ (statements : List Statement → Part) where
-  in_line_no_name : Starts begins_statement statements → (depth : ℕ) (inside : List Statement) (often : Turns) (i rest : List Token)
-      → rule.in_line depth statements inside often i rest → begins_name i ≡ false
-  in_line_no_name begins depth inside often i rest (i1, phrase, (i2, inner, end)) =
-      turns_no_name depth often i i1 phrase (statement_no_name i1 (begins inside i1 i2 inner))
+  in_line_no_procedures : Starts begins_statement statements → (depth : ℕ) (inside : List Statement) (often : Turns) (i rest : List Token)
+      → rule.in_line depth statements inside often i rest → begins_procedures i ≡ false
+  in_line_no_procedures begins depth inside often i rest (i1, phrase, (i2, inner, end)) =
+      turns_no_procedures depth often i i1 phrase (statement_no_name i1 (begins inside i1 i2 inner))
 
   in_line_shrinks : Shrinks statements → (depth : ℕ) (inside : List Statement) (often : Turns) (i rest : List Token)
       → rule.in_line depth statements inside often i rest → length rest < length i
@@ -144,9 +156,9 @@ module _ (statements : List Statement → Part) where
     performed_complete : (what : Performed Statement) (often : Turns) (i rest : List Token) → rule.performed depth' statements what often i rest
         → Answers Allowed (rule.performed_reader depth reader i) (verb.Performing (record { performed = what; turns = often })) rest
     performed_complete (Procedures first to) often i rest s =
-        rw (name_starts first i s.0 s.1) (procedures_complete Allowed depth depth' asks first to often i rest s)
+        rw (procedures_begin depth' first to often i rest s) (procedures_complete Allowed depth depth' asks first to often i rest s)
     performed_complete (Statements inside) often i rest s =
-        rw (in_line_no_name begins depth' inside often i rest s) (in_line_complete inside often i rest s)
+        rw (in_line_no_procedures begins depth' inside often i rest s) (in_line_complete inside often i rest s)
 
     pub performing_complete : (often : Turns) (what : Performed Statement) (i rest : List Token)
         → performing depth' statements (record { performed = what; turns = often }) i rest
@@ -156,14 +168,15 @@ module _ (statements : List Statement → Part) where
         step (read.expect w.Perform i) _ (word_complete w.Perform tt i i1 verb) (performed_complete what often i1 rest s)
 
 module _ (depth : ℕ) (p : Statement → Part) (nested : Parser Statement) (each : Sound p nested) where
-  procedures_sound : (x : Verb Statement) (verb i rest : List Token) → word w.Perform verb i → procedures_reader depth i ≡ Ok (x, rest) → g.verb_line depth p x verb rest
+  procedures_sound : (x : Verb Statement) (verb i rest : List Token) → word w.Perform verb i → ((behind : List Token) → reference_before w.Times i behind → ⊥)
+      → procedures_reader depth i ≡ Ok (x, rest) → g.verb_line depth p x verb rest
   unfolding procedures_reader
-  procedures_sound x verb i rest perform e =
+  procedures_sound x verb i rest perform no_count e =
       unstep (read.name i) _ e (λ first i1 is1 e1.
       unstep (last_reader i1) _ e1 (λ to i2 is2 e2.
       unstep (turns_reader depth i2) _ e2 (λ often i3 is3 e3.
       subst (λ y. g.verb_line depth p y verb rest) (value e3)
-      (i, perform, (i1, name_sound first i i1 is1, (i2, last_sound to i1 i2 is2, turns_sound depth often i2 rest (last is3 e3)))))))
+      (i, perform, (i1, (name_sound first i i1 is1, no_count), (i2, last_sound to i1 i2 is2, turns_sound depth often i2 rest (last is3 e3)))))))
 
   in_line_sound : (x : Verb Statement) (verb i rest : List Token) → word w.Perform verb i → in_line_reader depth (r.statements nested) i ≡ Ok (x, rest) → g.verb_line depth p x verb rest
   unfolding in_line_reader
@@ -175,11 +188,12 @@ module _ (depth : ℕ) (p : Statement → Part) (nested : Parser Statement) (eac
       (i, perform, (i1, turns_sound depth often i i1 is1, (i2, statements_sound p nested each inside i1 i2 is2, word_sound w.EndPerform u i2 rest (last is3 e3)))))))
 
   performed_sound : (x : Verb Statement) (verb i rest : List Token) → word w.Perform verb i → rule.performed_reader depth (r.statements nested) i ≡ Ok (x, rest) → g.verb_line depth p x verb rest
-  performed_sound x verb i rest perform e = go (begins_name i) e
+  performed_sound x verb i rest perform e = go (begins_procedures i) refl e
     where
-      go : (b : Bool) → (if b then procedures_reader depth i else in_line_reader depth (r.statements nested) i) ≡ Ok (x, rest) → g.verb_line depth p x verb rest
-      go true e = procedures_sound x verb i rest perform e
-      go false e = in_line_sound x verb i rest perform e
+      go : (b : Bool) → begins_procedures i ≡ b
+          → (if b then procedures_reader depth i else in_line_reader depth (r.statements nested) i) ≡ Ok (x, rest) → g.verb_line depth p x verb rest
+      go true is e = procedures_sound x verb i rest perform (begin_no_count i is) e
+      go false is e = in_line_sound x verb i rest perform e
 
   pub performing_sound : Sound (g.verb_line depth p) (performing_reader depth (r.statements nested))
   unfolding performing_reader

@@ -1,13 +1,14 @@
 -- How often PERFORM performs: what is read is spelled, and what is spelled is read.
 use Rattle.std.proofs.Common.{◌≡◌, ◌≤◌, ℕ, Bool, true, false, List, length, Option, Some, None, Ok, inl, inr, refl, sym, ap, ◌∙◌, subst, arith}
-use Rattle.std.specs.Prelude.{◌||◌, if◌then◌else◌}
+use Rattle.std.specs.Prelude.{◌||◌, is_some, if◌then◌else◌}
 use Rattle.tokens.specs.declared.reserved.Reserved.{Reserved}
 use Rattle.tokens.specs.declared.reserved.Reserved.TheVariants as w
 use Rattle.tokens.specs.declared.token.Token.{Token}
 use Rattle.source_tree.specs.declared.name.Name.{Name}
 use Rattle.source_tree.specs.declared.literal.Integer.{Integer}
+use Rattle.source_tree.specs.declared.reference.Reference.{Reference}
 use Rattle.source_tree.specs.declared.performing.Turns.{Turns}
-use Rattle.source_tree.specs.declared.performing.Turns.TheVariants.{Once, Times, Until as Through}
+use Rattle.source_tree.specs.declared.performing.Turns.TheVariants.{Once, Times, CountedBy, Until as Through}
 use Rattle.source_tree.specs.declared.until.TestTime.{TestTime}
 use Rattle.source_tree.specs.declared.until.Varying.{Varying}
 use Rattle.source_tree.specs.declared.until.Until.{Until}
@@ -19,18 +20,22 @@ use Rattle.grammar.proofs.Outcomes.{Answers, Reached, step, unstep, value, after
 use Rattle.grammar.proofs.Looking.{Finds, none_not, is_absent, is_missing, finds_word, finds_past, tests_tested, true_not_false, word_begins}
 use Rattle.grammar.proofs.Lists.{Sound, Complete, Shrinks}
 use Rattle.grammar.proofs.Parts.{word_sound, word_complete, word_shrinks, skip_shrinks, one_token_sound, one_token_complete, telling_shrinks}
-use Rattle.expressions.specs.References.{reference_reader}
+use Rattle.expressions.specs.References.{reference, reference_reader}
 use Rattle.expressions.specs.Operands.{number_operand_reader}
-use Rattle.expressions.specs.Subscripts.{integer, integer_by, begins_integer, integer_reader}
-use Rattle.expressions.proofs.Exact.Marks.{name_integer, either, neither}
-use Rattle.expressions.proofs.Exact.References.{reference_sound, reference_complete, reference_shrinks}
+use Rattle.expressions.specs.Subscripts.{integer, integer_by, integer_in, begins_integer, integer_reader}
+use Rattle.expressions.specs.Looking.{reference_before, after_reference_before}
+use Rattle.expressions.proofs.Exact.Marks.{begins_not, name_integer, either, neither}
+use Rattle.expressions.proofs.Exact.References.{reference_sound, reference_complete, reference_shrinks, reference_starts}
 use Rattle.expressions.proofs.Exact.Operands.{number_operand_sound, number_operand_complete, number_operand_shrinks}
 use Rattle.expressions.proofs.Exact.Subscripts.{integer_sound, integer_complete, integer_shrinks, integer_starts}
+use Rattle.expressions.proofs.Exact.Leads.{reference_before_found}
 use Rattle.conditions.specs.Conditions.{condition, condition_reader}
 use Rattle.conditions.proofs.Exact.Tests.{no_word}
 use Rattle.conditions.proofs.Exact.Conditions.{condition_sound, condition_shrinks}
 use Rattle.statements.specs.Turning as rule
-use Rattle.statements.specs.Turning.{time_in, after_with_test, time_at, test_reader, varied_reader, some_varied_reader, varying_reader, begins_until, begins_turns, until_reader, times_reader, turns_reader}
+use Rattle.statements.specs.Turning.{time_in, after_with_test, time_at, test_reader, varied_reader, some_varied_reader, varying_reader, begins_until, begins_turns, until_reader, times_reader, counted_reader, turns_reader}
+use Rattle.statements.specs.Performing.{begins_procedures}
+use Rattle.statements.proofs.Except.{no_first as first_fails, second as second_holds}
 use Rattle.statements.proofs.Standing.{word_no_name}
 
 -- ---- TEST
@@ -217,11 +222,20 @@ opens_no_name : (i : List Token) → Opens i → begins_name i ≡ false
 unfolding Opens
 opens_no_name i (one, behind, s, begins) = word_no_name one i behind s
 
--- where none begins behind it
-pub turns_no_name : (depth : ℕ) (x : Turns) (i rest : List Token) → rule.turns depth x i rest → begins_name rest ≡ false → begins_name i ≡ false
-turns_no_name depth Once i rest s none = ap begins_name s.0 ∙ none
-turns_no_name depth (Times count) i rest s none = integer_no_name count i s.0 s.1
-turns_no_name depth (Through one) i rest s none = opens_no_name i (phrase_opens depth one i rest s)
+-- ---- no procedure begins the phrase
+
+name_fails : (i : List Token) → begins_name i ≡ false → begins_procedures i ≡ false
+name_fails i none = first_fails (begins_name i) (is_some (after_reference_before w.Times i)) none
+
+count_stands : (i rest : List Token) → reference_before w.Times i rest → begins_procedures i ≡ false
+count_stands i rest s = second_holds (begins_name i) (is_some (after_reference_before w.Times i)) (ap is_some ((reference_before_found w.Times).stands i rest s))
+
+-- where no name begins behind it
+pub turns_no_procedures : (depth : ℕ) (x : Turns) (i rest : List Token) → rule.turns depth x i rest → begins_name rest ≡ false → begins_procedures i ≡ false
+turns_no_procedures depth Once i rest s none = name_fails i (ap begins_name s.0 ∙ none)
+turns_no_procedures depth (Times count) i rest s none = name_fails i (integer_no_name count i s.0 s.1)
+turns_no_procedures depth (CountedBy one) i rest (i1, item, times) none = count_stands i rest (i1, (one, item), times)
+turns_no_procedures depth (Through one) i rest s none = name_fails i (opens_no_name i (phrase_opens depth one i rest s))
 
 -- ---- the phrase
 
@@ -232,17 +246,28 @@ times_sound depth x i rest e =
     unstep (read.expect w.Times i1) _ e1 (λ u i2 is2 e2.
     subst (λ y. rule.turns depth y i rest) (value e2) (i1, integer_sound count i i1 is1, word_sound w.Times u i1 rest (last is2 e2))))
 
+counted_sound : (depth : ℕ) → Sound (rule.turns depth) counted_reader
+unfolding counted_reader
+counted_sound depth x i rest e =
+    unstep (reference_reader i) _ e (λ one i1 is1 e1.
+    unstep (read.expect w.Times i1) _ e1 (λ u i2 is2 e2.
+    subst (λ y. rule.turns depth y i rest) (value e2) (i1, reference_sound one i i1 is1, word_sound w.Times u i1 rest (last is2 e2))))
+
 pub turns_sound : (depth : ℕ) → Sound (rule.turns depth) (turns_reader depth)
 unfolding turns_reader
-turns_sound depth x i rest e = go (begins_integer i) (begins_until i) refl refl e
+turns_sound depth x i rest e = go (begins_integer i) (begins_name i) (begins_until i) refl refl refl e
   where
-    go : (a b : Bool) → begins_integer i ≡ a → begins_until i ≡ b
-        → (if a then times_reader i else if b then until_reader depth i else Ok (Once, i)) ≡ Ok (x, rest) → rule.turns depth x i rest
-    go true b is is' e = times_sound depth x i rest e
-    go false true is is' e = until_sound depth x i rest e
-    go false false is is' e =
+    go : (a b c : Bool) → begins_integer i ≡ a → begins_name i ≡ b → begins_until i ≡ c
+        → (if a then times_reader i else if b then counted_reader i else if c then until_reader depth i else Ok (Once, i)) ≡ Ok (x, rest) → rule.turns depth x i rest
+    go true b c is is' is'' e = times_sound depth x i rest e
+    go false true c is is' is'' e = counted_sound depth x i rest e
+    go false false true is is' is'' e = until_sound depth x i rest e
+    go false false false is is' is'' e =
         subst (λ y. rule.turns depth y i rest) (value e)
-        (after e, (tests_tested begins_turns).fails i (neither (begins_integer i) (begins_until i) is is'))
+        (after e, (tests_tested begins_turns).fails i (neither (begins_integer i || begins_name i) (begins_until i) (neither (begins_integer i) (begins_name i) is is') is''))
+
+reference_no_integer : (one : Reference) (i rest : List Token) → reference one i rest → begins_integer i ≡ false
+reference_no_integer one i rest (i1, (i2, named, groups), found) = begins_not name_in integer_in name_integer one.item.name i i2 named
 
 -- where neither of two tests holds
 no_first : (a b : Bool) → (a || b) ≡ false → a ≡ false
@@ -255,22 +280,32 @@ no_second false b e = e
 
 pub turns_complete : (Allowed : Halt → Type 0) (depth depth' : ℕ) → Complete Allowed (condition depth') (condition_reader depth)
     → Complete Allowed (rule.turns depth') (turns_reader depth)
-unfolding turns_reader times_reader
+unfolding turns_reader times_reader counted_reader
 turns_complete Allowed depth depth' asks Once i rest e =
     let none = (tests_tested begins_turns).refuses i e.1 in
-    rw (no_first (begins_integer i) (begins_until i) none)
-    (rw (no_second (begins_integer i) (begins_until i) none) (Reached (ap (λ j. Ok (Once, j)) e.0)))
+    let no_count = no_first (begins_integer i || begins_name i) (begins_until i) none in
+    rw (no_first (begins_integer i) (begins_name i) no_count)
+    (rw (no_second (begins_integer i) (begins_name i) no_count)
+    (rw (no_second (begins_integer i || begins_name i) (begins_until i) none) (Reached (ap (λ j. Ok (Once, j)) e.0))))
 turns_complete Allowed depth depth' asks (Times count) i rest (i1, digits, times) =
     rw (integer_starts count i i1 digits)
     (step (integer_reader i) _ (integer_complete count i i1 digits)
     (step (read.expect w.Times i1) _ (word_complete w.Times tt i1 rest times) (Reached refl)))
+turns_complete Allowed depth depth' asks (CountedBy one) i rest (i1, item, times) =
+    rw (reference_no_integer one i i1 item)
+    (rw (reference_starts one i i1 item)
+    (step (reference_reader i) _ (reference_complete one i i1 item)
+    (step (read.expect w.Times i1) _ (word_complete w.Times tt i1 rest times) (Reached refl))))
 turns_complete Allowed depth depth' asks (Through one) i rest s =
     let opens = phrase_opens depth' one i rest s in
-    rw (opens_no_integer i opens) (rw (opens_phrase i opens) (until_complete Allowed depth depth' asks one i rest s))
+    rw (opens_no_integer i opens) (rw (opens_no_name i opens) (rw (opens_phrase i opens) (until_complete Allowed depth depth' asks one i rest s)))
 
 pub turns_shrink : (depth : ℕ) (x : Turns) (i rest : List Token) → rule.turns depth x i rest → length rest ≤ length i
 turns_shrink depth Once i rest e = let l = ap length e.0 in omega arith
 turns_shrink depth (Times count) i rest (i1, digits, times) =
     let a = integer_shrinks count i i1 digits in
+    let b = word_shrinks w.Times i1 rest times in omega arith
+turns_shrink depth (CountedBy one) i rest (i1, item, times) =
+    let a = reference_shrinks one i i1 item in
     let b = word_shrinks w.Times i1 rest times in omega arith
 turns_shrink depth (Through one) i rest s = let a = until_shrinks depth one i rest s in omega arith

@@ -1,9 +1,11 @@
-use Rattle.std.proofs.Common.{◌≡◌, List, Some, sym, ap, arith, ◌∙◌}
+use Rattle.std.proofs.Common.{◌≡◌, List, Some, sym, ap, subst, arith, ◌∙◌}
+use Rattle.source_tree.specs.declared.evaluate.Selected.{Selected}
 use Rattle.source_tree.specs.declared.statement.Statement.{Statement}
-use Rattle.source_tree.specs.Recursion.{statement_performs}
+use Rattle.source_tree.specs.Recursion.{each_performs, selected_performs, statement_performs}
 use Rattle.check_rules.specs.Named.{procedures_in}
+use Rattle.check_rules.specs.Performs.{Adds, in_paragraph}
 use Rattle.check_rules.proofs.PerformLayers.{statement_is}
-use Rattle.check_rules.proofs.Adding.{adds_next, nothing_performed, adds_ways, adds_phrases, phrase_none, phrase_some}
+use Rattle.check_rules.proofs.Adding.{adds_next, nothing_performed, adds_ways, adds_phrases, adds_behind, phrase_none, phrase_some}
 use Rattle.check_rules.proofs.declarations.Declarations.+performs.Goals as goal
 
 pub phrase_performs-statements_performs-requires : goal.phrase_performs-statements_performs-requires
@@ -34,6 +36,23 @@ pub statements_performs-loop-one-preserved : goal.statements_performs-loop-one-p
 statements_performs-loop-one-preserved t c =
     adds_next (statement_performs (procedures_in c.args.self.now)) c.args.number c.args.statements.now c.loop-one.one-index c.one-item.result c.loop-one-test.true c.one-item.is
     c.loop-one.invariant c.in_ok-statement_performs.ensures
+
+pub selections_performs-loop-one-preserved : goal.selections_performs-loop-one-preserved
+selections_performs-loop-one-preserved t c =
+    let performs = statement_performs (procedures_in c.args.self.now) in
+    adds_next (selected_performs performs) c.args.number c.args.selections.now c.loop-one.one-index c.one-item.result c.loop-one-test.true c.one-item.is
+    c.loop-one.invariant
+    (subst (λ (l : List Statement). Adds c.loop-one.all c.statements_performs.new.all (in_paragraph c.args.number (each_performs performs l))) c.as_slice.ensures
+    c.in_ok-statements_performs.ensures)
+
+pub evaluate_performs-returns : goal.evaluate_performs-returns
+evaluate_performs-returns t c =
+    let performs = statement_performs (procedures_in c.args.self.now) in
+    adds_behind c.args.all.now c.selections_performs.new.all c.phrase_performs.new.all (procedures_in c.args.self.now) c.args.number c.phrase_performs.result
+    (each_performs (selected_performs performs) c.args.one.now.selected) c.args.one.now.other
+    (subst (λ (l : List (Selected Statement)). Adds c.args.all.now c.selections_performs.new.all (in_paragraph c.args.number (each_performs (selected_performs performs) l)))
+    c.as_slice.ensures c.in_ok-selections_performs.ensures)
+    c.phrase_performs.ensures
 
 pub phrase_performs-returns-in-None : goal.phrase_performs-returns-in-None
 phrase_performs-returns-in-None t c = phrase_none (procedures_in c.args.self.now) c.args.number c.args.all.now c.args.phrase.now c.in-None.is

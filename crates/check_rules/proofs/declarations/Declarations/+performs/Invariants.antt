@@ -1,5 +1,5 @@
 use Rattle.std.proofs.Common.{◌+◌, ◌*◌, take}
-use Rattle.source_tree.specs.Recursion.{each_performs, statement_performs}
+use Rattle.source_tree.specs.Recursion.{each_performs, selected_performs, statement_performs}
 use Rattle.check_rules.specs.Named.{procedures_in}
 use Rattle.check_rules.specs.Performs.{Adds, in_paragraph}
 use Rattle.check_rules.proofs.declarations.Declarations.+performs.Given as goal
@@ -8,7 +8,11 @@ abbrev pub invariant-statements_performs-loop-one : goal.invariant-statements_pe
 invariant-statements_performs-loop-one l =
     Adds l.initial.all l.all (in_paragraph l.number (each_performs (statement_performs (procedures_in l.self)) (take l.one-index l.statements)))
 
--- Each goes down by the depth of the statements in it; a phrase stands above the statements that it is.
+abbrev pub invariant-selections_performs-loop-one : goal.invariant-selections_performs-loop-one
+invariant-selections_performs-loop-one l =
+    Adds l.initial.all l.all (in_paragraph l.number (each_performs (selected_performs (statement_performs (procedures_in l.self))) (take l.one-index l.selections)))
+
+-- Each goes down by the depth of the statements in it; a phrase, what a PERFORM performs and the WHENs of an EVALUATE stand above the statements that they have.
 abbrev pub decreases-statement_performs : goal.decreases-statement_performs
 decreases-statement_performs l = 4 * goal.size-statement_performs l
 
@@ -17,3 +21,12 @@ decreases-statements_performs l = 4 * goal.size-statements_performs l + 1
 
 abbrev pub decreases-phrase_performs : goal.decreases-phrase_performs
 decreases-phrase_performs l = 4 * goal.size-phrase_performs l + 2
+
+abbrev pub decreases-selections_performs : goal.decreases-selections_performs
+decreases-selections_performs l = 4 * goal.size-selections_performs l + 2
+
+abbrev pub decreases-evaluate_performs : goal.decreases-evaluate_performs
+decreases-evaluate_performs l = 4 * goal.size-evaluate_performs l + 3
+
+abbrev pub decreases-performed_performs : goal.decreases-performed_performs
+decreases-performed_performs l = 4 * goal.size-performed_performs l + 2

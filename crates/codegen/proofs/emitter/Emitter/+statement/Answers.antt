@@ -1,28 +1,41 @@
-use Rattle.std.proofs.Common.{rules, ◌≡◌, true, List, [], ◌++◌, Some, sym, ap, arith, ◌∙◌}
+use Rattle.std.proofs.Common.{rules, ◌≡◌, ◌+◌, true, List, [], ◌∷◌, ◌++◌, length, drop, Some, refl, sym, ap, subst, arith, ◌∙◌, length-append}
+use Rattle.std.specs.List.{AllByRecursion}
 use Rattle.std.proofs.lemmas.Grind.{common_steps}
 use Rattle.source_tree.specs.declared.statement.Statement.{Statement, the_lemmas}
-use Rattle.source_tree.specs.declared.performing.Performed.{Performed}
-use Rattle.source_tree.specs.declared.performing.Performed.TheVariants.{Statements}
 use Rattle.source_tree.specs.declared.branching.Branching.{Branching}
+use Rattle.source_tree.specs.declared.branching.Branching.TheVariants.{If}
 use Rattle.source_tree.specs.declared.until.TestTime.{TestTime}
+use Rattle.source_tree.specs.declared.condition.Condition.TheVariants.{Any}
+use Rattle.source_tree.specs.declared.evaluate.Subject.{Subject}
+use Rattle.source_tree.specs.declared.evaluate.When.{When}
+use Rattle.source_tree.specs.declared.evaluate.Selected.{Selected}
 use Rattle.source_tree.specs.Broken.{each}
+use Rattle.source_tree.specs.Evaluate.{asked_each, whens_asked, selected_asked}
+use Rattle.source_tree.specs.EvaluateRules.{when_rules, selected_rules}
+use Rattle.source_tree.specs.NameRules.{item_rules}
 use Rattle.source_tree.specs.ConditionRules.{varying_rules, condition_rules, until_rules}
-use Rattle.source_tree.specs.Rules.{all_permitted, verb_rules, arithmetic_rules, branching_rules, performing_rules, phrases_rules, phrase_rules, performed_rules, turns_rules, statement_rules}
+use Rattle.source_tree.specs.Rules.{all_permitted, integer_item, verb_rules, arithmetic_rules, branching_rules, performing_rules, phrases_rules, phrase_rules, performed_rules, turns_rules, evaluate_rules, statement_rules}
 use Rattle.source_tree.specs.ArithmeticRules.{operation_rules}
 use Rattle.check_rules.specs.Named.{scope_in}
 use Rattle.check_rules.proofs.RuleLayers as layers
 use Rattle.data_instructions.specs.declared.instruction.DataInstruction.TheVariants as i
-use Rattle.codegen.specs.Pieces.{joined, both, in_order}
-use Rattle.codegen.specs.Meeting.{branch_code, either_piece, nothing_piece}
-use Rattle.codegen.specs.DataCode.{work_piece}
+use Rattle.code_image.specs.declared.code.Code.{Code}
+use Rattle.code_image.specs.declared.instruction.Instruction.TheVariants.{Jump, Join}
+use Rattle.codegen.specs.declared.phrases.Way.{Way}
+use Rattle.codegen.specs.Pieces.{Piece, joined, both, in_order}
+use Rattle.codegen.specs.Meeting.{branch_code, jump_code, either_piece, nothing_piece}
+use Rattle.codegen.specs.DataCode.{work_piece, taking_piece}
 use Rattle.codegen.specs.ConditionCode.{condition_piece}
 use Rattle.codegen.specs.UntilCode.{tick_piece, turning_piece, until_before_piece, until_after_piece, until_from_piece, vary_begin_piece, vary_on_piece, until_piece}
-use Rattle.codegen.specs.Layout.{turn_piece, turns_piece, performing_piece, phrase_piece, branching_piece, statement_piece}
-use Rattle.codegen.specs.Phrases.{met}
+use Rattle.codegen.specs.Layout.{turn_end, count_begin, counted_turn, counted_piece, turn_piece, phrase_piece, selecting_piece, branching_piece, statement_piece}
+use Rattle.codegen.specs.Phrases.{met, IsWay, met_all}
+use Rattle.codegen.proofs.EvaluateKept.{groups_of, other_of}
+use Rattle.codegen.proofs.Opening.{opened_way, opened_longer, with_last, still_ways, groups_go_on, groups_done}
+use Rattle.codegen.proofs.Questions.{whens_rules}
 use Rattle.codegen.proofs.Pieces.{joined_nothing}
 use Rattle.codegen.proofs.Sequences.{then_piece, is_so, ends_so, on_ok}
 use Rattle.codegen.proofs.Meeting.{meeting, phrases_stand}
-use Rattle.codegen.proofs.Kept.{front_kept, back_kept, one_kept}
+use Rattle.codegen.proofs.Kept.{front_kept, back_kept, one_kept, item_kept}
 use Rattle.codegen.proofs.emitter.Emitter.+statement.Goals as goal
 
 pub emit_statement-emit_moving-requires-clause-rules : goal.emit_statement-emit_moving-requires-clause-rules
@@ -89,6 +102,53 @@ emit_performing-emit_until-requires t c =
     let turns : until_rules scope.items c.in-Until.until ≡ [] = sym (ap (turns_rules scope.items) c.in-Until.is) ∙ front_kept often behind c.requires.rules in
     (search (rules, the_lemmas), (c.requires.declared, (c.requires.entries, (turns, back_kept often behind c.requires.rules))))
 
+pub emit_performing-emit_counted-requires : goal.emit_performing-emit_counted-requires
+emit_performing-emit_counted-requires t c =
+    let scope = scope_in c.args.self.now.declarations.now in
+    let one = c.args.one.now in
+    let often = turns_rules scope.items one.turns in
+    let behind = performed_rules scope.procedures all_permitted (statement_rules scope all_permitted) one.performed in
+    let item : item_rules scope.items integer_item c.in-CountedBy.item ≡ [] = sym (ap (turns_rules scope.items) c.in-CountedBy.is) ∙ front_kept often behind c.requires.rules in
+    (search (rules, the_lemmas), (c.requires.declared, (c.requires.entries, (item, back_kept often behind c.requires.rules))))
+
+pub emit_counted-emit_taking-requires-clause-rules : goal.emit_counted-emit_taking-requires-clause-rules
+emit_counted-emit_taking-requires-clause-rules t c = item_kept (scope_in c.args.self.now.declarations.now).items integer_item c.args.item.now c.requires.item
+
+pub emit_counted-returns : goal.emit_counted-returns
+emit_counted-returns t c =
+    let scope = scope_in c.args.self.now.declarations.now in
+    let old = c.args.code.now in
+    let found = c.emit_taking.new.code in
+    let begun = c.emit_count_begin.new.code in
+    let branched = c.emit_branch.new.code in
+    let middle = c.emit_jump.new.code in
+    let new = c.emit_meeting.new.code in
+    let number = taking_piece scope.items i.Push c.args.item.now in
+    let turn = turn_piece scope (statement_piece scope) c.args.line c.args.one.now in
+    let first = counted_turn (length found.instructions) turn in
+    let branch = c.in_ok-branch.branch in
+    let other = c.in_ok-other.other in
+    let inner : c.emit_counted_turn.new.code ≡ joined branched (first branched) =
+    c.in_ok-emit_counted_turn.ensures ∙ ap (λ n. joined branched (counted_turn n turn branched)) c.in_ok-begin.ensures.begin in
+    on_ok c.emit_meeting.result c.emit_meeting.ensures
+    (λ (m : new ≡ met branch other middle).
+    then_piece number (counted_piece turn) old found new c.in_ok-emit_taking.ensures
+    (then_piece count_begin (either_piece first nothing_piece) found begun new c.in_ok-begin.ensures.code
+    (meeting first nothing_piece begun branched c.emit_counted_turn.new.code middle middle new branch other
+    c.in_ok-branch.ensures.code c.in_ok-branch.ensures.address inner c.in_ok-other.ensures.code c.in_ok-other.ensures.other (sym (joined_nothing middle)) m)))
+
+pub emit_counted_turn-returns : goal.emit_counted_turn-returns
+emit_counted_turn-returns t c =
+    let scope = scope_in c.args.self.now.declarations.now in
+    let old = c.args.code.now in
+    let result = c.emit_turn_end.result in
+    let new = c.emit_turn_end.new.code in
+    let begin = c.args.begin in
+    let turn = turn_piece scope (statement_piece scope) c.args.line c.args.one.now in
+    is_so result new (joined old (both turn (λ b. turn_end begin c.len-to.result) old)) (joined old (counted_turn begin turn old))
+    (ends_so result turn (λ b. turn_end begin c.len-to.result) old c.emit_turn.new.code new c.in_ok-emit_turn.ensures c.emit_turn_end.ensures)
+    (ap (λ n. joined old (both turn (λ b. turn_end begin n) old)) c.len-to.ensures)
+
 pub emit_statement-emit_texts-requires-clause-rules : goal.emit_statement-emit_texts-requires-clause-rules
 emit_statement-emit_texts-requires-clause-rules t c =
     let scope = scope_in c.args.self.now.declarations.now in
@@ -103,52 +163,193 @@ emit_statements-emit_statement-requires t c =
 pub emit_branching-emit_condition-requires-clause-rules : goal.emit_branching-emit_condition-requires-clause-rules
 emit_branching-emit_condition-requires-clause-rules t c =
     let scope = scope_in c.args.self.now.declarations.now in
-    let test = condition_rules scope.items c.parts_of.result.0.now in
-    let first = each (statement_rules scope all_permitted) c.parts_of.result.1.now in
-    let second = phrase_rules (statement_rules scope all_permitted) c.parts_of.result.2.now in
-    let r : test ++ first ++ second ≡ [] = sym (ap (branching_rules scope.items (statement_rules scope all_permitted)) c.parts_of.ensures) ∙ c.requires.rules in
+    let test = condition_rules scope.items c.in-If.condition in
+    let first = each (statement_rules scope all_permitted) c.in-If.statements in
+    let second = phrase_rules (statement_rules scope all_permitted) c.in-If.otherwise in
+    let r : test ++ first ++ second ≡ [] = sym (ap (branching_rules scope.items (statement_rules scope all_permitted)) c.in-If.is) ∙ c.requires.rules in
     front_kept test first (front_kept (test ++ first) second r)
 
 pub emit_branching-emit_statements-requires : goal.emit_branching-emit_statements-requires
 emit_branching-emit_statements-requires t c =
     let scope = scope_in c.args.self.now.declarations.now in
-    let test = condition_rules scope.items c.parts_of.result.0.now in
-    let first = each (statement_rules scope all_permitted) c.parts_of.result.1.now in
-    let second = phrase_rules (statement_rules scope all_permitted) c.parts_of.result.2.now in
-    let r : test ++ first ++ second ≡ [] = sym (ap (branching_rules scope.items (statement_rules scope all_permitted)) c.parts_of.ensures) ∙ c.requires.rules in
-    let d = rw c.parts_of.ensures at c.decreases in
+    let test = condition_rules scope.items c.in-If.condition in
+    let first = each (statement_rules scope all_permitted) c.as_slice.result.now in
+    let second = phrase_rules (statement_rules scope all_permitted) c.in-If.otherwise in
+    let e : c.args.one.now ≡ If c.in-If.condition c.as_slice.result.now c.in-If.otherwise =
+    c.in-If.is ∙ ap (λ (l : List Statement). If c.in-If.condition l c.in-If.otherwise) (sym c.as_slice.ensures) in
+    let r : test ++ first ++ second ≡ [] = sym (ap (branching_rules scope.items (statement_rules scope all_permitted)) e) ∙ c.requires.rules in
+    let d = rw e at c.decreases in
     (omega (arith, d), (c.requires.declared, (c.requires.entries, back_kept test first (front_kept (test ++ first) second r))))
 
 pub emit_branching-emit_phrase-requires : goal.emit_branching-emit_phrase-requires
 emit_branching-emit_phrase-requires t c =
     let scope = scope_in c.args.self.now.declarations.now in
-    let test = condition_rules scope.items c.parts_of.result.0.now in
-    let first = each (statement_rules scope all_permitted) c.parts_of.result.1.now in
-    let second = phrase_rules (statement_rules scope all_permitted) c.parts_of.result.2.now in
-    let r : test ++ first ++ second ≡ [] = sym (ap (branching_rules scope.items (statement_rules scope all_permitted)) c.parts_of.ensures) ∙ c.requires.rules in
-    let d = rw c.parts_of.ensures at c.decreases in
+    let test = condition_rules scope.items c.in-If.condition in
+    let first = each (statement_rules scope all_permitted) c.in-If.statements in
+    let second = phrase_rules (statement_rules scope all_permitted) c.in-If.otherwise in
+    let r : test ++ first ++ second ≡ [] = sym (ap (branching_rules scope.items (statement_rules scope all_permitted)) c.in-If.is) ∙ c.requires.rules in
+    let d = rw c.in-If.is at c.decreases in
     (omega (arith, d), (c.requires.declared, (c.requires.entries, back_kept (test ++ first) second r)))
 
-pub emit_branching-returns : goal.emit_branching-returns
-emit_branching-returns t c =
+pub emit_branching-emit_evaluate-requires : goal.emit_branching-emit_evaluate-requires
+emit_branching-emit_evaluate-requires t c =
+    let scope = scope_in c.args.self.now.declarations.now in
+    let r : evaluate_rules scope.items (statement_rules scope all_permitted) c.in-Evaluate.evaluate ≡ [] =
+    sym (ap (branching_rules scope.items (statement_rules scope all_permitted)) c.in-Evaluate.is) ∙ c.requires.rules in
+    let d = rw c.in-Evaluate.is at c.decreases in
+    (omega (arith, d), (c.requires.declared, (c.requires.entries, r)))
+
+pub emit_branching-returns-in_ok-emit_phrase-in-If : goal.emit_branching-returns-in_ok-emit_phrase-in-If
+emit_branching-returns-in_ok-emit_phrase-in-If t c =
     let scope = scope_in c.args.self.now.declarations.now in
     let inside = statement_piece scope in
     let old = c.args.code.now in
     let new = c.emit_meeting.new.code in
     let tick = tick_piece c.args.line in
-    let test = condition_piece scope.items c.parts_of.result.0.now in
-    let first = in_order inside c.parts_of.result.1.now in
-    let second = phrase_piece scope inside c.parts_of.result.2.now in
+    let test = condition_piece scope.items c.in-If.condition in
+    let first = in_order inside c.as_slice.result.now in
+    let second = phrase_piece scope inside c.in-If.otherwise in
     let ways = either_piece first second in
-    let branch = c.in_ok-branch.branch in
-    let other = c.in_ok-other.other in
+    let branch = c.in_ok-branch-in-If.branch in
+    let other = c.in_ok-other-in-If.other in
+    let e : c.args.one.now ≡ If c.in-If.condition c.as_slice.result.now c.in-If.otherwise =
+    c.in-If.is ∙ ap (λ (l : List Statement). If c.in-If.condition l c.in-If.otherwise) (sym c.as_slice.ensures) in
     on_ok c.emit_meeting.result c.emit_meeting.ensures
-    (λ (e : new ≡ met branch other c.emit_phrase.new.code).
+    (λ (m : new ≡ met branch other c.emit_phrase.new.code).
     then_piece tick (both test ways) old c.emit_tick.new.code new c.in_ok-emit_tick.ensures
-    (then_piece test ways c.emit_tick.new.code c.emit_condition.new.code new c.in_ok-emit_condition.ensures
+    (then_piece test ways c.emit_tick.new.code c.emit_condition.new.code new c.in_ok-emit_condition-in-If.ensures
     (meeting first second c.emit_condition.new.code c.emit_branch.new.code c.emit_statements.new.code c.emit_jump.new.code c.emit_phrase.new.code new branch other
-    c.in_ok-branch.ensures.code c.in_ok-branch.ensures.address c.in_ok-emit_statements.ensures c.in_ok-other.ensures.code c.in_ok-other.ensures.other c.in_ok-emit_phrase.ensures e))
-    ∙ sym (ap (λ (b : Branching Statement). joined old (branching_piece scope inside c.args.line b old)) c.parts_of.ensures))
+    c.in_ok-branch-in-If.ensures.code c.in_ok-branch-in-If.ensures.address c.in_ok-emit_statements-in-If.ensures c.in_ok-other-in-If.ensures.code
+    c.in_ok-other-in-If.ensures.other c.in_ok-emit_phrase-in-If.ensures m))
+    ∙ sym (ap (λ (b : Branching Statement). joined old (branching_piece scope inside c.args.line b old)) e))
+
+pub emit_selected-emit_whens-requires-clause-rules : goal.emit_selected-emit_whens-requires-clause-rules
+emit_selected-emit_whens-requires-clause-rules t c =
+    let scope = scope_in c.args.self.now.declarations.now in
+    let subjects = c.args.subjects.now in
+    let whens = c.args.one.now.whens in
+    let kept = λ (one : When). each (condition_rules scope.items) (asked_each scope.items subjects one.objects) in
+    ap (each kept) c.as_slice.ensures
+    ∙ whens_rules scope.items subjects whens
+    (front_kept (each (when_rules scope.items subjects) whens) (each (statement_rules scope all_permitted) c.args.one.now.statements) c.requires.rules)
+
+pub emit_selected-emit_statements-requires : goal.emit_selected-emit_statements-requires
+emit_selected-emit_statements-requires t c =
+    let scope = scope_in c.args.self.now.declarations.now in
+    let inside = each (statement_rules scope all_permitted) in
+    let one = c.args.one.now in
+    let r : inside c.as_slice-2.result.now ≡ [] =
+    ap inside c.as_slice-2.ensures ∙ back_kept (each (when_rules scope.items c.args.subjects.now) one.whens) (inside one.statements) c.requires.rules in
+    (search (rules, the_lemmas), (c.requires.declared, (c.requires.entries, r)))
+
+pub emit_selected-returns : goal.emit_selected-returns
+emit_selected-returns t c =
+    let scope = scope_in c.args.self.now.declarations.now in
+    let old = c.args.code.now in
+    let one = c.args.one.now in
+    let asks = c.emit_whens.new.code in
+    let after = c.emit_jump.new.code in
+    let done = c.emit_statements.new.code in
+    let test = condition_piece scope.items (selected_asked scope.items c.args.subjects.now one) in
+    let first = in_order (statement_piece scope) one.statements in
+    let branch_piece : Piece = λ now. branch_code 0 in
+    let jump_piece : Piece = λ now. jump_code 0 in
+    let begun : asks ≡ joined old (test old) =
+    c.in_ok-emit_whens.ensures ∙ ap (λ (l : List When). joined old (condition_piece scope.items (Any (whens_asked scope.items c.args.subjects.now l)) old)) c.as_slice.ensures in
+    let inner : done ≡ joined c.emit_branch.new.code (first c.emit_branch.new.code) =
+    c.in_ok-emit_statements.ensures
+    ∙ ap (λ (l : List Statement). joined c.emit_branch.new.code (in_order (statement_piece scope) l c.emit_branch.new.code)) c.as_slice-2.ensures in
+    record {
+      code = then_piece test (both branch_piece (both first jump_piece)) old asks after begun
+          (then_piece branch_piece (both first jump_piece) asks c.emit_branch.new.code after c.in_ok-branch.ensures.code
+          (then_piece first jump_piece c.emit_branch.new.code done after inner c.in_ok-other.ensures.code));
+      branch = c.in_ok-branch.ensures.address ∙ ap (λ (k : Code). length k.instructions) begun;
+      other = c.in_ok-other.ensures.other ∙ sym (length-append done.instructions (Jump 0 ∷ Join ∷ []))
+          ∙ sym (ap (λ (k : Code). length k.instructions) c.in_ok-other.ensures.code);
+    }
+
+pub emit_groups-emit_selected-requires : goal.emit_groups-emit_selected-requires
+emit_groups-emit_selected-requires t c =
+    let scope = scope_in c.args.self.now.declarations.now in
+    let kept = selected_rules scope.items (statement_rules scope all_permitted) c.args.subjects.now in
+    let r : kept c.one-item.result ≡ [] = ap kept c.one-item.is ∙ one_kept kept c.args.selected.now c.loop-one.one-index c.one-item.result c.loop-one-test.true c.requires.rules in
+    (search (rules, the_lemmas), (c.requires.declared, (c.requires.entries, r)))
+
+pub emit_groups-loop-one-preserved : goal.emit_groups-loop-one-preserved
+emit_groups-loop-one-preserved t c =
+    let scope = scope_in c.args.self.now.declarations.now in
+    let inside = statement_piece scope in
+    let subjects = c.args.subjects.now in
+    let groups = c.args.selected.now in
+    let one = c.one-item.result in
+    let ways = c.loop-one.ways.items in
+    let way = c.in_ok-way.way in
+    let now = c.loop-one.code in
+    let next = c.emit_selected.new.code in
+    let test = condition_piece scope.items (selected_asked scope.items subjects one) in
+    let first = in_order inside one.statements in
+    let pushed : c.push.new.self.items ≡ ways ++ way ∷ [] = c.in_ok-push.ensures.items in
+    record {
+      same = λ other.
+          let rest = selecting_piece scope inside subjects (drop (c.loop-one.one-index + 1) groups) other in
+          ap (λ (l : List Way). met_all l (joined next (rest next))) pushed
+          ∙ groups_go_on scope inside subjects other ways groups c.loop-one.one-index one one now next _ way c.loop-one-test.true c.one-item.is c.in_ok-way.ensures
+          (c.loop-one.invariant.same other);
+      within = subst (λ (l : List Way). AllByRecursion (IsWay (length next.instructions)) l) (sym pushed)
+          (with_last (IsWay (length next.instructions)) ways way
+          (still_ways ways (length now.instructions) (length next.instructions) (opened_longer test first now next way c.in_ok-way.ensures) c.loop-one.invariant.within)
+          (opened_way test first now next way c.in_ok-way.ensures));
+    }
+
+pub emit_groups-returns : goal.emit_groups-returns
+emit_groups-returns t c =
+    let scope = scope_in c.args.self.now.declarations.now in
+    let inside = statement_piece scope in
+    let now = c.loop-one.code in
+    record {
+      same = λ other.
+          groups_done scope inside c.args.subjects.now other c.loop-one.ways.items c.args.selected.now c.loop-one.one-index now
+          (joined now (phrase_piece scope inside other now)) _ c.loop-one-test.false refl (c.loop-one.invariant.same other);
+      within = c.loop-one.invariant.within;
+    }
+
+pub emit_evaluate-emit_groups-requires : goal.emit_evaluate-emit_groups-requires
+emit_evaluate-emit_groups-requires t c =
+    let scope = scope_in c.args.self.now.declarations.now in
+    let inside = statement_rules scope all_permitted in
+    let one = c.args.one.now in
+    let r : each (selected_rules scope.items inside c.as_slice.result.now) c.as_slice-2.result.now ≡ [] =
+    ap (λ (l : List Subject). each (selected_rules scope.items inside l) c.as_slice-2.result.now) c.as_slice.ensures
+    ∙ ap (each (selected_rules scope.items inside one.subjects)) c.as_slice-2.ensures ∙ groups_of scope.items inside one c.requires.rules in
+    (search (rules, the_lemmas), (c.requires.declared, (c.requires.entries, r)))
+
+pub emit_evaluate-emit_phrase-requires : goal.emit_evaluate-emit_phrase-requires
+emit_evaluate-emit_phrase-requires t c =
+    let scope = scope_in c.args.self.now.declarations.now in
+    (search (rules, the_lemmas), (c.requires.declared, (c.requires.entries, other_of scope.items (statement_rules scope all_permitted) c.args.one.now c.requires.rules)))
+
+pub emit_evaluate-emit_meetings-requires : goal.emit_evaluate-emit_meetings-requires
+emit_evaluate-emit_meetings-requires t c =
+    let scope = scope_in c.args.self.now.declarations.now in
+    let now = c.emit_groups.new.code in
+    let new = c.emit_phrase.new.code in
+    let part = phrase_piece scope (statement_piece scope) c.args.one.now.other now in
+    let longer : length new.instructions ≡ length now.instructions + length part.instructions =
+    ap (λ (k : Code). length k.instructions) c.in_ok-emit_phrase.ensures ∙ length-append now.instructions part.instructions in
+    still_ways c.in_ok-ways.ways.items (length now.instructions) (length new.instructions) (omega (arith, longer)) c.in_ok-ways.ensures.within
+
+pub emit_evaluate-returns : goal.emit_evaluate-returns
+emit_evaluate-returns t c =
+    let scope = scope_in c.args.self.now.declarations.now in
+    let inside = statement_piece scope in
+    let old = c.args.code.now in
+    let one = c.args.one.now in
+    let ways = c.in_ok-ways.ways.items in
+    on_ok c.emit_meetings.result c.emit_meetings.ensures
+    (λ (e : c.emit_meetings.new.code ≡ met_all ways c.emit_phrase.new.code).
+    e ∙ ap (met_all ways) c.in_ok-emit_phrase.ensures ∙ c.in_ok-ways.ensures.same one.other
+    ∙ ap (λ (l : List Subject). joined old (selecting_piece scope inside l c.as_slice-2.result.now one.other old)) c.as_slice.ensures
+    ∙ ap (λ (l : List (Selected Statement)). joined old (selecting_piece scope inside one.subjects l one.other old)) c.as_slice-2.ensures)
 
 pub emit_until-emit_vary_begin-requires-clause-rules : goal.emit_until-emit_vary_begin-requires-clause-rules
 emit_until-emit_vary_begin-requires-clause-rules t c =

@@ -1,0 +1,134 @@
+//! The code of PERFORM with TIMES (COBOL-85, Nucleus, "The PERFORM statement").
+
+ghost use Rattle.std.specs.Prelude.{◌≡◌, [], length, OnOk, IfOk};
+ghost use Rattle.source_tree.specs.EntryRules.{entry_rules};
+ghost use Rattle.source_tree.specs.NameRules.{item_rules};
+ghost use Rattle.source_tree.specs.Performing.{turns_of};
+ghost use Rattle.source_tree.specs.Rules as rules;
+ghost use Rattle.source_tree.specs.Rules.{all_permitted, integer_item};
+ghost use Rattle.check_rules.specs.Named.{IsDeclared, items_in, scope_in};
+ghost use Rattle.codegen.specs.Pieces.{joined, both};
+ghost use Rattle.codegen.specs.DataCode.{taking_piece};
+ghost use Rattle.codegen.specs.Layout.{loop_begin, count_begin, turn_end, counted_turn, times_piece, counted_piece, turn_piece, statement_piece};
+ghost use Rattle.data_instructions.specs.declared.instruction.DataInstruction.TheVariants as i;
+
+use crate::emitter::Emitter;
+use crate::phrases::{emit_branch, emit_jump, emit_meeting};
+use code_image::{Code, CounterIndex, Instruction};
+use data_instructions::DataInstruction;
+use source_tree::{Integer, Performed, Reference, Statement};
+use std::alloc::AllocError;
+
+/// How many turns an integer before TIMES says.
+pub(crate) fn count_of(integer: &Integer) -> u64
+    ensures { result ≡ turns_of integer.now }
+{
+    let mut count = 0u64;
+    for digit in integer.digits.as_slice() {
+        count = count
+            .saturating_mul(10)
+            .saturating_add(u64::from(digit.saturating_sub(b'0')));
+    }
+    count
+}
+
+/// A loop begins that has so many turns after the first. Answers its address.
+fn emit_loop_begin(code: &mut Code, more: u64) -> Result<usize, AllocError>
+    ensures code { OnOk result (code.new ≡ joined code.old (loop_begin more code.old)) }
+    ensures begin { IfOk result (λ begin. begin ≡ length code.old.instructions) }
+{
+    let number = code.instructions.len();
+    code.instructions.push(Instruction::Count {
+        counter: CounterIndex { number },
+        turns: more,
+    })?;
+    Ok(number)
+}
+
+/// A loop begins that has as many turns as the newest number says. Answers its address.
+fn emit_count_begin(code: &mut Code) -> Result<usize, AllocError>
+    ensures code { OnOk result (code.new ≡ joined code.old (count_begin code.old)) }
+    ensures begin { IfOk result (λ begin. begin ≡ length code.old.instructions) }
+{
+    let number = code.instructions.len();
+    let counter = CounterIndex { number };
+    code.instructions
+        .push(Instruction::CountNumber { counter })?;
+    Ok(number)
+}
+
+/// The end of a turn of the loop that begins at this address, back to where each turn begins.
+fn emit_turn_end(code: &mut Code, begin: usize, to: usize) -> Result<(), AllocError>
+    ensures { OnOk result (code.new ≡ joined code.old (turn_end begin to)) }
+{
+    code.instructions.push(Instruction::Turn {
+        counter: CounterIndex { number: begin },
+        to,
+    })?;
+    Ok(())
+}
+
+impl<'a> Emitter<'a> {
+    /// So many turns.
+    #[cycle(statement)]
+    pub(crate) fn emit_times(
+        &self,
+        code: &mut Code,
+        line: u32,
+        count: u64,
+        one: &Performed<Statement>,
+    ) -> Result<(), AllocError>
+        requires declared { IsDeclared self.now.declarations.now }
+        requires entries { entry_rules self.now.declarations.now.entries.now ≡ [] }
+        requires rules { rules.performed_rules (scope_in self.now.declarations.now).procedures all_permitted (rules.statement_rules (scope_in self.now.declarations.now) all_permitted) one.now ≡ [] }
+        ensures { OnOk result (code.new ≡ joined code.old (times_piece count (turn_piece (scope_in self.now.declarations.now) (statement_piece (scope_in self.now.declarations.now)) line one.now) code.old)) }
+    {
+        if count == 0 {
+            return Ok(());
+        }
+        let begin = emit_loop_begin(code, count - 1)?;
+        self.emit_counted_turn(code, line, begin, one)
+    }
+
+    /// As many turns as an item says.
+    #[cycle(statement)]
+    pub(crate) fn emit_counted(
+        &self,
+        code: &mut Code,
+        line: u32,
+        item: &Reference,
+        one: &Performed<Statement>,
+    ) -> Result<(), AllocError>
+        requires declared { IsDeclared self.now.declarations.now }
+        requires entries { entry_rules self.now.declarations.now.entries.now ≡ [] }
+        requires item { item_rules (items_in self.now.declarations.now) integer_item item.now ≡ [] }
+        requires rules { rules.performed_rules (scope_in self.now.declarations.now).procedures all_permitted (rules.statement_rules (scope_in self.now.declarations.now) all_permitted) one.now ≡ [] }
+        ensures { OnOk result (code.new ≡ joined code.old (both (taking_piece (items_in self.now.declarations.now) i.Push item.now) (counted_piece (turn_piece (scope_in self.now.declarations.now) (statement_piece (scope_in self.now.declarations.now)) line one.now)) code.old)) }
+    {
+        self.emit_taking(code, DataInstruction::Push, item)?;
+        let begin = emit_count_begin(code)?;
+        let branch = emit_branch(code)?;
+        self.emit_counted_turn(code, line, begin, one)?;
+        let other = emit_jump(code)?;
+        emit_meeting(code, branch, other)
+    }
+
+    /// The turns of the loop that begins at this address.
+    #[cycle(statement)]
+    fn emit_counted_turn(
+        &self,
+        code: &mut Code,
+        line: u32,
+        begin: usize,
+        one: &Performed<Statement>,
+    ) -> Result<(), AllocError>
+        requires declared { IsDeclared self.now.declarations.now }
+        requires entries { entry_rules self.now.declarations.now.entries.now ≡ [] }
+        requires rules { rules.performed_rules (scope_in self.now.declarations.now).procedures all_permitted (rules.statement_rules (scope_in self.now.declarations.now) all_permitted) one.now ≡ [] }
+        ensures { OnOk result (code.new ≡ joined code.old (counted_turn begin (turn_piece (scope_in self.now.declarations.now) (statement_piece (scope_in self.now.declarations.now)) line one.now) code.old)) }
+    {
+        let to = code.instructions.len();
+        self.emit_turn(code, line, one)?;
+        emit_turn_end(code, begin, to)
+    }
+}

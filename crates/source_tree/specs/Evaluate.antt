@@ -1,0 +1,145 @@
+-- EVALUATE (COBOL-85, Nucleus, "The EVALUATE statement"), told by the conditions that its objects ask of its subjects (own choice). Nothing
+-- is stored between them, so that a subject has one value at all of them.
+use Rattle.std.specs.Prelude.{Bool, true, false, not, List, [], ◌∷◌, Option, Some, None}
+use Rattle.source_tree.specs.declared.reference.Reference.{Reference}
+use Rattle.source_tree.specs.declared.expression.Operand.{Operand}
+use Rattle.source_tree.specs.declared.expression.Operand.TheVariants as operand
+use Rattle.source_tree.specs.declared.condition.Relation.TheVariants.{Equal, GreaterOrEqual, LessOrEqual}
+use Rattle.source_tree.specs.declared.condition.Side.{Side}
+use Rattle.source_tree.specs.declared.condition.Condition.{Condition}
+use Rattle.source_tree.specs.declared.condition.Condition.TheVariants.{Name, Relation, Not, All, Any}
+use Rattle.source_tree.specs.declared.evaluate.Subject.{Subject}
+use Rattle.source_tree.specs.declared.evaluate.Subject.TheVariants as subject
+use Rattle.source_tree.specs.declared.evaluate.Choice.{Choice}
+use Rattle.source_tree.specs.declared.evaluate.Choice.TheVariants as choice
+use Rattle.source_tree.specs.declared.evaluate.Object.{Object}
+use Rattle.source_tree.specs.declared.evaluate.When.{When}
+use Rattle.source_tree.specs.declared.evaluate.Selected.{Selected}
+use Rattle.source_tree.specs.declared.evaluate.Evaluate.{Evaluate}
+use Rattle.source_tree.specs.Places.{Placed}
+use Rattle.source_tree.specs.LookUp.{NamedCondition, conditions_named}
+use Rattle.source_tree.specs.Conditions.{alone_side, holds}
+use Rattle.source_tree.specs.State.{State, Outcome, in_turn, with_value}
+use Rattle.source_tree.specs.Arithmetic.{in_phrase}
+
+-- the way that fits
+abbrev pub one_of : (State → Outcome) → (State → Outcome) → Bool → State → Outcome
+one_of first second true s = first s
+one_of first second false s = second s
+
+-- a condition that is always true, or always false
+abbrev pub constant : Bool → Condition
+constant true = All []
+constant false = Any []
+
+-- a condition, or its opposite
+abbrev pub told_as : Bool → Condition → Condition
+told_as true one = one
+told_as false one = Not one
+
+-- both true, or neither
+abbrev pub alike : Condition → Condition → Condition
+alike a b = Any (All (a ∷ b ∷ []) ∷ All (Not a ∷ Not b ∷ []) ∷ [])
+
+-- the values that an object names
+pub record Wanted : Type 0 where
+  pub negated : Bool
+  pub first : Side
+  pub last : Option Side
+
+-- A value equals another, or lies from it to the last one.
+abbrev pub value_within : Side → Side → Option Side → Condition
+value_within value first None = Relation value Equal first
+value_within value first (Some last) = All (Relation value GreaterOrEqual first ∷ Relation value LessOrEqual last ∷ [])
+
+abbrev pub value_asked : Side → Wanted → Condition
+value_asked value one = told_as (not one.negated) (value_within value one.first one.last)
+
+-- What a subject or an object is once its names are looked up: a value, TRUE or FALSE, or a condition.
+pub data Looked (V : Type 0) : Type 0 where
+  Value : V → Looked V
+  Truth : Bool → Looked V
+  Asking : Condition → Looked V
+
+-- a reference alone, which is a condition name where some condition is called so
+abbrev pub looked_name : {V : Type 0} → V → Bool → Reference → List NamedCondition → Looked V
+looked_name value negated one [] = Value value
+looked_name value negated one (found ∷ more) = Asking (told_as (not negated) (Name one))
+
+abbrev pub looked_operand : {V : Type 0} → List Placed → V → Bool → Option Operand → Looked V
+looked_operand items value negated (Some (operand.Item one)) = looked_name value negated one (conditions_named items one.item)
+looked_operand items value negated (Some (operand.Literal one)) = Value value
+looked_operand items value negated None = Value value
+
+-- With THRU there are values alone.
+abbrev pub looked_wanted : List Placed → Wanted → Option Side → Looked Wanted
+looked_wanted items one None = looked_operand items one one.negated (alone_side one.first)
+looked_wanted items one (Some last) = Value one
+
+abbrev pub looked_subject : List Placed → Subject → Looked Side
+looked_subject items (subject.Value one) = looked_operand items one false (alone_side one)
+looked_subject items (subject.Condition one) = Asking one
+looked_subject items (subject.Truth one) = Truth one
+
+-- an object other than ANY
+abbrev pub looked_choice : List Placed → Choice → Looked Wanted
+looked_choice items choice.Any = Truth true
+looked_choice items (choice.Value negated first last) = looked_wanted items (record { negated = negated; first = first; last = last }) last
+looked_choice items (choice.Condition one) = Asking one
+looked_choice items (choice.Truth one) = Truth one
+
+-- whether both are values, or neither
+abbrev pub fit : Looked Side → Looked Wanted → Bool
+fit (Value a) (Value b) = true
+fit (Value a) _ = false
+fit _ (Value b) = false
+fit _ _ = true
+
+-- What asks for a value, or whether two truths are the same. Where they don't fit that is never so; the rules leave no such case.
+abbrev pub asked_of : Looked Side → Looked Wanted → Condition
+asked_of (Value a) (Value b) = value_asked a b
+asked_of (Truth a) (Truth b) = told_as a (constant b)
+asked_of (Truth a) (Asking b) = told_as a b
+asked_of (Asking a) (Truth b) = told_as b a
+asked_of (Asking a) (Asking b) = alike a b
+asked_of _ _ = constant false
+
+-- `items` are those of the program.
+module _ (items : List Placed) where
+  -- whether an object may stand for a subject: ANY for each, a value for a value, what is true or false for what is true or false
+  abbrev pub fits : Subject → Choice → Bool
+  fits one choice.Any = true
+  fits one other = fit (looked_subject items one) (looked_choice items other)
+
+  -- the condition that an object asks of its subject
+  abbrev pub asked : Subject → Choice → Condition
+  asked one choice.Any = constant true
+  asked one other = asked_of (looked_subject items one) (looked_choice items other)
+
+  -- those of a WHEN, subject by subject
+  abbrev pub asked_each : List Subject → List Object → List Condition
+  asked_each (one ∷ more) (object ∷ others) = asked one object.choice ∷ asked_each more others
+  asked_each _ _ = []
+
+  -- whether all objects of a WHEN are met
+  abbrev pub when_asked : List Subject → When → Condition
+  when_asked subjects one = All (asked_each subjects one.objects)
+
+  abbrev pub whens_asked : List Subject → List When → List Condition
+  whens_asked subjects [] = []
+  whens_asked subjects (one ∷ more) = when_asked subjects one ∷ whens_asked subjects more
+
+  -- whether one of some WHENs is met
+  abbrev pub selected_asked : {S : Type 0} → List Subject → Selected S → Condition
+  selected_asked subjects one = Any (whens_asked subjects one.whens)
+
+  module _ {S : Type 0} (run : S → State → Outcome) where
+    -- the statements behind the first WHENs of which one is met, else those of OTHER
+    abbrev pub selecting : List Subject → List (Selected S) → Option (List S) → State → Outcome
+    selecting subjects [] other s = in_phrase run other s
+    selecting subjects (one ∷ more) other s =
+        with_value (holds items (selected_asked subjects one) s.storage) s
+        (λ truth. one_of (in_turn run one.statements) (selecting subjects more other) truth s)
+
+    abbrev pub evaluating : Evaluate S → State → Outcome
+    evaluating one s = selecting one.subjects one.selected one.other s
