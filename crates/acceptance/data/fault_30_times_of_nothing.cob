@@ -1,0 +1,9 @@
+       IDENTIFICATION DIVISION.
+       PROGRAM-ID. P.
+       DATA DIVISION.
+       WORKING-STORAGE SECTION.
+       77  N PIC 9.
+       PROCEDURE DIVISION.
+       MAIN-PARA.
+           PERFORM N TIMES.
+           STOP RUN.

@@ -1,0 +1,13 @@
+       IDENTIFICATION DIVISION.
+       PROGRAM-ID. P.
+       DATA DIVISION.
+       WORKING-STORAGE SECTION.
+       77  N PIC 9.
+           88  SMALL VALUE 1.
+       PROCEDURE DIVISION.
+       MAIN-PARA.
+           PERFORM SHOW N TIMES.
+           PERFORM SHOW SMALL TIMES.
+           STOP RUN.
+       SHOW.
+           DISPLAY "A".

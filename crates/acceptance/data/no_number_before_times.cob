@@ -1,0 +1,12 @@
+       IDENTIFICATION DIVISION.
+       PROGRAM-ID. P.
+       DATA DIVISION.
+       WORKING-STORAGE SECTION.
+       01  X PIC X VALUE "A".
+       01  N REDEFINES X PIC 9.
+       PROCEDURE DIVISION.
+           DISPLAY "BEFORE".
+           PERFORM N TIMES
+               DISPLAY "NEVER"
+           END-PERFORM.
+           STOP RUN.
