@@ -29,6 +29,7 @@ use Rattle.initial_storage.proofs.Areas.{small_areas, items_lie}
 use Rattle.initial_storage.proofs.Formed.{all_formed}
 use Rattle.data_instructions.specs.declared.tables.DataTables.{DataTables}
 use Rattle.data_instructions.specs.declared.shape.Shape.{Shape}
+use Rattle.data_instructions.specs.declared.gather.Gather.TheVariants as g
 use Rattle.data_instructions.specs.declared.instruction.DataInstruction.{DataInstruction}
 use Rattle.data_instructions.specs.declared.test.Test.TheVariants as t
 use Rattle.data_instructions.specs.declared.instruction.DataInstruction.TheVariants as i
@@ -116,6 +117,20 @@ named_by tables i.VoidIfTrue s after e = tt
 named_by tables i.Take s after e = tt
 named_by tables i.Move s after e = tt
 named_by tables i.Append s after e = tt
+named_by tables (i.Overlay text) s after e =
+    let front = and_then_some (slice_get tables.texts text.number) _ after.stacks (parts tables (i.Overlay text) s after e).0 in
+    let found = and_then_some (slice_get tables.texts (text.number + 1)) _ after.stacks front.2 in
+    slice_get_within tables.texts (text.number + 1) found.0 found.1
+named_by tables i.DropPlace s after e = tt
+named_by tables (i.Gather g.Bytes) s after e = tt
+named_by tables (i.Gather g.UpToPlace) s after e = tt
+named_by tables (i.Gather (g.UpToText delimiter)) s after e =
+    let found = and_then_some (slice_get tables.texts delimiter.number) _ after.stacks (parts tables (i.Gather (g.UpToText delimiter)) s after e).0 in
+    slice_get_within tables.texts delimiter.number found.0 found.1
+named_by tables (i.Gather (g.TextUpToPlace text)) s after e =
+    let found = and_then_some (slice_get tables.texts text.number) _ after.stacks (parts tables (i.Gather (g.TextUpToPlace text)) s after e).0 in
+    slice_get_within tables.texts text.number found.0 found.1
+named_by tables (i.String pointer) s after e = tt
 
 named_after : (tables : DataTables) (one : Instruction) (s after : Shape) → known_after tables one s ≡ Some after → NamesData tables one
 named_after tables (Data one) s after e = named_by tables one s after e

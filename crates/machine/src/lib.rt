@@ -8,10 +8,12 @@ mod ended;
 mod loaded;
 mod machine;
 mod outside;
+mod plan;
 mod registers;
 mod returns;
 mod room;
 mod show;
+mod working;
 
 pub use ended::{Ended, Refusal};
 pub use machine::Machine;

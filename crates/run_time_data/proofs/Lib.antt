@@ -3,3 +3,8 @@ pub mod Readies
 pub mod Staying
 pub mod KeptNumbers
 pub mod Cutting
+pub mod Together
+pub mod ReadyTogether
+pub mod Overlays
+pub mod Gathers
+pub mod Strings

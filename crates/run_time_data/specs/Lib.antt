@@ -9,3 +9,7 @@ pub mod Ready
 pub mod Subscripts
 pub mod Lines
 pub mod KeptNumbers
+pub mod Fused
+pub mod FindsFirst
+pub mod Overlays
+pub mod Stringing
