@@ -4,3 +4,4 @@ pub mod Standing
 pub mod Ends
 pub mod Counting
 pub mod Progress
+pub mod Plans

@@ -3,15 +3,18 @@
 #![tactic(auto)]
 
 mod accept;
+mod acting;
 mod counting;
 mod ended;
 mod loaded;
 mod machine;
 mod outside;
+mod plan;
 mod registers;
 mod returns;
 mod room;
 mod show;
+mod working;
 
 pub use ended::{Ended, Refusal};
 pub use machine::Machine;

@@ -9,3 +9,5 @@ pub mod Ready
 pub mod Subscripts
 pub mod Lines
 pub mod KeptNumbers
+pub mod Fused
+pub mod FindsFirst

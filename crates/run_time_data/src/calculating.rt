@@ -17,7 +17,7 @@ use source_tree::Operator;
 
 /// What an operator makes of two numbers, if both are numbers and there is no size error.
 #[inline]
-fn operate(operator: Operator, left: Option<Dec>, right: Option<Dec>) -> Option<Dec>
+pub fn operate(operator: Operator, left: Option<Dec>, right: Option<Dec>) -> Option<Dec>
     ensures { result ≡ computed.operate operator left right }
 {
     let left = left?;
