@@ -5,7 +5,7 @@ use data_instructions::DataTables;
 use sqlite_items::Items;
 
 /// The tables of a program, and its instructions, of which the first runs first.
-#[derive(Debug, Drop)]
+#[derive(Drop)]
 pub struct Code {
     /// What instructions on data name.
     pub tables: DataTables,

@@ -17,7 +17,7 @@ pub enum ClauseKind {
 }
 
 /// A clause as it was written.
-#[derive(Debug, Drop)]
+#[derive(Drop)]
 pub enum Clause {
     Redefines(Name),
     Picture(PictureText),

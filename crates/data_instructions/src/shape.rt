@@ -17,7 +17,7 @@ pub struct PlaceShape {
 }
 
 /// What is known of each place on a stack, of the newest first.
-#[derive(Debug, Drop)]
+#[derive(Drop)]
 pub struct PlaceShapes {
     shapes: Vec<PlaceShape>,
 }
@@ -89,14 +89,14 @@ impl PlaceShapes {
 }
 
 /// What is known of the stacks: how many numbers there are, and each place.
-#[derive(Debug, Drop)]
+#[derive(Drop)]
 pub struct Stacks {
     pub numbers: usize,
     pub places: PlaceShapes,
 }
 
 /// What is known at an instruction.
-#[derive(Debug, Drop)]
+#[derive(Drop)]
 pub struct Shape {
     pub stacks: Stacks,
     /// The bytes that the line has at the most.

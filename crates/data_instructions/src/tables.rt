@@ -6,7 +6,7 @@ use picture::Picture;
 use sqlite_items::Items;
 
 /// An item that code names. Its first occurrence begins `offset` bytes behind the start of its area.
-#[derive(Debug, Drop)]
+#[derive(Drop)]
 pub struct DataItem {
     pub item: Item,
     /// The picture by which it is edited, if it is.
@@ -17,14 +17,14 @@ pub struct DataItem {
 }
 
 /// A literal as a sender: what it counts as, and its bytes.
-#[derive(Debug, Drop)]
+#[derive(Drop)]
 pub struct LiteralSender {
     pub taken: Taken,
     pub bytes: Items<u8>,
 }
 
 /// The tables of data that code names.
-#[derive(Debug, Drop)]
+#[derive(Drop)]
 pub struct DataTables {
     /// The bytes of each area at the start of a run. An area keeps its length.
     pub areas: Items<Items<u8>>,

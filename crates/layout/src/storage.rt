@@ -22,7 +22,7 @@ const NOTHING_AROUND: Around = Around {
 };
 
 /// Where the items of working storage stand (COBOL-85, Nucleus, "Data description entry").
-#[derive(Debug, Drop)]
+#[derive(Drop)]
 pub struct Layout {
     /// In the order of their entries.
     pub items: Items<PlacedItem>,

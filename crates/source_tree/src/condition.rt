@@ -32,14 +32,14 @@ pub enum Class {
 }
 
 /// A side of a relation. A numeric literal or ZERO is an expression; other literals are literals.
-#[derive(Debug, Drop)]
+#[derive(Drop)]
 pub enum Side {
     Expression(Expression),
     Literal(Literal),
 }
 
 /// A condition. Parentheses leave no node.
-#[derive(Debug, Drop)]
+#[derive(Drop)]
 pub enum Condition {
     /// A condition name.
     Name(Reference),

@@ -6,7 +6,7 @@ use lexical::Place;
 use sqlite_items::Items;
 
 /// The characters of a PICTURE clause, as they were written, in ASCII.
-#[derive(Debug, Drop)]
+#[derive(Drop)]
 pub struct PictureText {
     pub characters: Items<u8>,
     pub place: Place,
@@ -42,7 +42,7 @@ pub struct Around {
 }
 
 /// An item or a group, with its clauses as they were written. SYNCHRONIZED, which has no effect, isn't kept.
-#[derive(Debug, Drop)]
+#[derive(Drop)]
 pub struct ItemEntry {
     /// The entry stands where its level number does.
     pub level: Integer,
@@ -59,21 +59,21 @@ pub struct ItemEntry {
 }
 
 /// One value of a condition name, or a range of values.
-#[derive(Debug, Drop)]
+#[derive(Drop)]
 pub struct ValueRange {
     pub first: Literal,
     pub last: Option<Literal>,
 }
 
 /// A condition name, with the values of its item at which it is true, one or more. It stands where its name does.
-#[derive(Debug, Drop)]
+#[derive(Drop)]
 pub struct ConditionEntry {
     pub name: Name,
     pub values: Items<ValueRange>,
 }
 
 /// An entry. Those of level 88 have a form of their own. Which entries stand in which group is told by their levels alone.
-#[derive(Debug, Drop)]
+#[derive(Drop)]
 pub enum Entry {
     Item(ItemEntry),
     Condition(ConditionEntry),

@@ -12,7 +12,7 @@ pub enum TestTime {
 }
 
 /// VARYING: an item that begins with a number, to which another is added after each turn.
-#[derive(Debug, Drop)]
+#[derive(Drop)]
 pub struct Varying {
     pub item: Reference,
     pub from: Operand,
@@ -20,7 +20,7 @@ pub struct Varying {
 }
 
 /// Turns up to where a condition is true.
-#[derive(Debug, Drop)]
+#[derive(Drop)]
 pub struct Until {
     pub test: TestTime,
     pub varying: Option<Varying>,
