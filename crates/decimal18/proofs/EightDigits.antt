@@ -182,7 +182,7 @@ below_from p (c ∷ cs) h = (h 0, below_from p cs (λ i. h (suc i)))
 
 -- ---- the steps from digits to their number
 
-one_mask : (k e f : ℕ) → e < 2 ^ k → bit_and (f * 2 ^ k + e) (2 ^ k - 1) ≡ e
+pub one_mask : (k e f : ℕ) → e < 2 ^ k → bit_and (f * 2 ^ k + e) (2 ^ k - 1) ≡ e
 one_mask k e f h = and_mask (f * 2 ^ k + e) k ∙ mod-mul-add f (2 ^ k) e h
 
 abbrev pub pairs_in : ℕ → ℕ

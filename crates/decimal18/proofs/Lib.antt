@@ -3,6 +3,7 @@ pub mod Difference
 pub mod DigitRunParts
 pub mod DigitRuns
 pub mod DigitTexts
+pub mod EightTexts
 pub mod EightDigits
 pub mod Examples
 pub mod Greatest

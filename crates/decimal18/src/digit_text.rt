@@ -1,10 +1,11 @@
 //! Digits as ASCII text.
 
-ghost use Rattle.std.specs.Prelude.{◌≡◌, ◌<◌, ◌^◌, length, unsigned_abs};
+ghost use Rattle.std.specs.Prelude.{◌≡◌, ◌<◌, ◌≤◌, ◌+◌, ◌*◌, ◌/◌, ◌%◌, ◌^◌, length, unsigned_abs};
 ghost use Rattle.decimal18.specs.Digits.{digit_text};
 
 use crate::decimal::Dec;
 use crate::power::power_of_ten;
+use byteorder::{ByteOrder, LittleEndian};
 
 /// The radix of decimal digits.
 const RADIX: u64 = 10;
@@ -19,7 +20,35 @@ const FOUR_DIGITS: u64 = 10_000;
 
 const EIGHT_DIGITS: u64 = 100_000_000;
 
+/// A character `0` in each byte.
+const ZEROS: u64 = 0x3030_3030_3030_3030;
+
+/// The places of the second byte, of the third and of the fifth.
+const BYTE_PLACE: u64 = 0x100;
+
+const PAIR_PLACE: u64 = 0x1_0000;
+
+const FOUR_PLACE: u64 = 0x1_0000_0000;
+
+/// A number of four digits times the one over the other is its hundredth, and one of two digits its tenth, but for fractions.
+const HUNDREDTH: u64 = 10_486;
+
+const HUNDREDTH_UNIT: u64 = 0x10_0000;
+
+const TENTH: u64 = 103;
+
+const TENTH_UNIT: u64 = 0x400;
+
+/// The low bits of each place of 32 bits, and of 16.
+const LOW_SEVEN: u64 = 0x7F_0000_007F;
+
+const LOW_FOUR: u64 = 0x000F_000F_000F_000F;
+
 /// Digits that are written at once.
+const TWO: usize = 2;
+
+const FOUR: usize = 4;
+
 const EIGHT: usize = 8;
 
 /// Pairs of digits.
@@ -44,7 +73,9 @@ fn put_two(number: u64, bytes: &mut [u8])
     requires length { length bytes.old ≡ 2 }
     ensures { bytes.new ≡ digit_text 2 number }
 {
-    bytes.copy_from_slice(&PAIRS[number as usize]);
+    let pair = PAIRS[number as usize];
+    bytes[0] = pair[0];
+    bytes[1] = pair[1];
 }
 
 /// Writes four digits.
@@ -59,19 +90,46 @@ fn put_four(number: u64, bytes: &mut [u8])
     put_two(number % TWO_DIGITS, back);
 }
 
-/// Writes eight digits.
+/// The pairs of digits of two numbers of four digits, in places of 16 bits, the first pair in the lowest place.
+#[inline]
+fn pairs_of(high: u64, low: u64) -> u64
+    requires high { high ≤ 9999 }
+    requires low { low ≤ 9999 }
+    ensures { result ≡ high / 100 + high % 100 * 2 ^ 16 + low / 100 * 2 ^ 32 + low % 100 * 2 ^ 48 }
+{
+    let fours = high + low * FOUR_PLACE;
+    let hundreds = fours * HUNDREDTH / HUNDREDTH_UNIT & LOW_SEVEN;
+    hundreds + (fours - TWO_DIGITS * hundreds) * PAIR_PLACE
+}
+
+/// The digits of these pairs, in places of 8 bits, the first digit in the lowest place.
+#[inline]
+fn digits_of(pairs: u64, high: u64, low: u64) -> u64
+    requires high { high ≤ 9999 }
+    requires low { low ≤ 9999 }
+    requires pairs { pairs ≡ high / 100 + high % 100 * 2 ^ 16 + low / 100 * 2 ^ 32 + low % 100 * 2 ^ 48 }
+    ensures { result ≡ high / 1000 + high / 100 % 10 * 2 ^ 8 + high / 10 % 10 * 2 ^ 16 + high % 10 * 2 ^ 24 + low / 1000 * 2 ^ 32 + low / 100 % 10 * 2 ^ 40 + low / 10 % 10 * 2 ^ 48 + low % 10 * 2 ^ 56 }
+{
+    let tens = pairs * TENTH / TENTH_UNIT & LOW_FOUR;
+    tens + (pairs - RADIX * tens) * BYTE_PLACE
+}
+
+/// Writes eight digits: they are taken apart to fours, to pairs and to digits, in all places of one number at once.
 #[inline]
 fn put_eight(number: u64, bytes: &mut [u8])
     requires number { number < 10 ^ 8 }
     requires length { length bytes.old ≡ 8 }
     ensures { bytes.new ≡ digit_text 8 number }
 {
-    let (front, back) = bytes.split_at_mut(4);
-    put_four(number / FOUR_DIGITS, front);
-    put_four(number % FOUR_DIGITS, back);
+    let high = number / FOUR_DIGITS;
+    let low = number % FOUR_DIGITS;
+    let pairs = pairs_of(high, low);
+    let digits = digits_of(pairs, high, low);
+    LittleEndian::write_u64(bytes, digits + ZEROS);
 }
 
 /// Writes the last digits of a number, one at a time.
+#[inline(never)]
 #[tactic(auto, using(crate::proofs::DigitTexts::none_written, crate::proofs::DigitTexts::all_written))]
 fn put_by_one(number: u64, bytes: &mut [u8])
     ensures { bytes.new ≡ digit_text (length bytes.old) number }
@@ -84,16 +142,59 @@ fn put_by_one(number: u64, bytes: &mut [u8])
     }
 }
 
+/// The same, mostly at most one.
+#[inline]
+#[tactic(auto, using(crate::proofs::DigitTexts::empty_text, crate::proofs::DigitTexts::last_text))]
+fn put_last(number: u64, bytes: &mut [u8])
+    ensures { bytes.new ≡ digit_text (length bytes.old) number }
+{
+    let count = bytes.len();
+    if count > 1 {
+        return put_by_one(number, bytes);
+    }
+    if count == 1 {
+        bytes[0] = b'0' + (number % RADIX) as u8;
+    }
+}
+
+/// The same, mostly at most three.
+#[inline]
+fn put_by_two(number: u64, bytes: &mut [u8])
+    ensures { bytes.new ≡ digit_text (length bytes.old) number }
+{
+    let count = bytes.len();
+    if count < TWO {
+        return put_last(number, bytes);
+    }
+    let (front, back) = bytes.split_at_mut(count - TWO);
+    put_last(number / TWO_DIGITS, front);
+    put_two(number % TWO_DIGITS, back);
+}
+
+/// The same, mostly at most seven.
+#[inline]
+fn put_by_four(number: u64, bytes: &mut [u8])
+    ensures { bytes.new ≡ digit_text (length bytes.old) number }
+{
+    let count = bytes.len();
+    if count < FOUR {
+        return put_by_two(number, bytes);
+    }
+    let (front, back) = bytes.split_at_mut(count - FOUR);
+    put_by_two(number / FOUR_DIGITS, front);
+    put_four(number % FOUR_DIGITS, back);
+}
+
 /// The same, where eight are written at most once.
 fn put_by_eight(number: u64, bytes: &mut [u8])
     ensures { bytes.new ≡ digit_text (length bytes.old) number }
 {
     let count = bytes.len();
     if count < EIGHT {
-        return put_by_one(number, bytes);
+        return put_by_four(number, bytes);
     }
     let (front, back) = bytes.split_at_mut(count - EIGHT);
-    put_by_one(number / EIGHT_DIGITS, front);
+    put_by_four(number / EIGHT_DIGITS, front);
     put_eight(number % EIGHT_DIGITS, back);
 }
 
@@ -104,7 +205,7 @@ pub fn put_digits(number: u64, bytes: &mut [u8])
 {
     let count = bytes.len();
     if count < EIGHT {
-        return put_by_one(number, bytes);
+        return put_by_four(number, bytes);
     }
     let (front, back) = bytes.split_at_mut(count - EIGHT);
     put_by_eight(number / EIGHT_DIGITS, front);
