@@ -9,7 +9,7 @@ ghost use Rattle.edited_move.specs.Moves.{IsPlainKind, is_short};
 ghost use Rattle.items.specs.declared.item.Kind.TheVariants.{Alphanumeric};
 
 use decimal18::Dec;
-use edited_move::{edit, move_into};
+use edited_move::{edit, move_between};
 use items::{Item, Kind, Numeric, OperationalSign, Taken, Usage, number, numbers_are_held, store};
 use picture::Picture;
 use std::alloc::AllocError;
@@ -80,7 +80,7 @@ fn is_moved(taken: &Taken, from: &[u8], receiver: &Item, to: &mut [u8]) -> bool
     requires short { is_short receiver.now taken.now ≡ true }
     requires length { length to.old ≡ receiver.now.length }
 {
-    move_into(*taken, from, *receiver, to).is_ok()
+    move_between(taken, from, receiver, to).is_ok()
 }
 
 /// The least that moves characters: a match on what both sides are, and a copy of a slice.
@@ -214,6 +214,20 @@ fn moved_texts(from: &[u8], to: &mut [u8]) -> u64 {
     sum
 }
 
+/// The same, built into the loop as a copy is.
+fn moved_in_place(from: &[u8], to: &mut [u8]) -> u64 {
+    let (Some(sender), Some(receiver)) = (word(from), word(to)) else {
+        return 0;
+    };
+    let taken = Taken::Item(sender);
+    let mut sum = 0u64;
+    for _ in 0..COUNT {
+        let is_moved = move_between(&taken, from, &receiver, to).is_ok();
+        sum = sum.wrapping_add(u64::from(is_moved));
+    }
+    sum
+}
+
 /// The same by the least that does it, and at last to another kind.
 fn matched_texts(from: &[u8], to: &mut [u8]) -> u64
     requires { length from.now ≡ length to.old }
@@ -242,6 +256,7 @@ enum Measurement {
     CopyText,
     MatchText,
     MoveText,
+    MoveInPlace,
 }
 
 /// What it is measured on.
@@ -276,6 +291,7 @@ impl Operands {
             ),
             Measurement::CopyText | Measurement::MatchText => 0,
             Measurement::MoveText => moved_texts(&self.from, &mut self.to),
+            Measurement::MoveInPlace => moved_in_place(&self.from, &mut self.to),
         }
     }
 
@@ -308,10 +324,17 @@ fn measure_texts(rt: &HostRuntime, size: usize) -> io::Result<()> {
     let copy = operands.nanoseconds(rt, Measurement::CopyText)?;
     let matched = operands.nanoseconds(rt, Measurement::MatchText)?;
     let time = operands.nanoseconds(rt, Measurement::MoveText)?;
+    let in_place = operands.nanoseconds(rt, Measurement::MoveInPlace)?;
     println!(rt; "{size} bytes")?;
     print(rt, "match on the kinds beside a copy", matched, copy)?;
     print(rt, "move of characters beside a copy", time, copy)?;
-    print(rt, "move of characters beside a match", time, matched)
+    print(rt, "move of characters beside a match", time, matched)?;
+    print(
+        rt,
+        "move of characters in the loop beside a copy",
+        in_place,
+        copy,
+    )
 }
 
 /// Moves and editing, in picoseconds a call.

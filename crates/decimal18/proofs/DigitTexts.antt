@@ -114,3 +114,23 @@ pair_at (suc n) k (suc i) d h =
 
 pub pair_of_table : (i : ℕ) (d : List ℕ) → i < 100 → get_or (pairs_from 100 0) i d ≡ digit_text 2 i
 pair_of_table i d h = pair_at 100 0 i d h ∙ ap (digit_text 2) (let e : 0 + i ≡ i = omega arith in e)
+
+-- ---- no digit, and one
+
+pub empty_text : (n : ℕ) (xs : List ℕ) → length xs ≡ 0 → xs ≡ digit_text (length xs) n
+empty_text n [] e = refl
+empty_text n (x ∷ xs) e = absurd (omega (arith, e))
+
+pub last_text : (n : ℕ) (xs : List ℕ) → length xs ≡ 1 → set xs 0 (48 + n % 10) ≡ digit_text (length xs) n
+last_text n [] e = absurd (omega (arith, e))
+last_text n (x ∷ []) e = ap (λ d. (48 + d % 10) ∷ []) (let same : n ≡ n / 1 = omega arith in same)
+last_text n (x ∷ y ∷ xs) e = absurd (omega (arith, e))
+
+-- ---- a pair, a digit at a time
+
+pub pair_written : (n a b : ℕ) (xs ps : List ℕ) → length xs ≡ 2 → ps ≡ digit_text 2 n → a ≡ get_or ps 0 0 → b ≡ get_or ps 1 0 → set (set xs 0 a) 1 b ≡ digit_text 2 n
+pair_written n a b (x ∷ y ∷ []) ps size is first second =
+    ap (λ t. t ∷ b ∷ []) (first ∙ ap (λ t. get_or t 0 0) is) ∙ ap (λ t. (48 + digit_of n 1) ∷ t ∷ []) (second ∙ ap (λ t. get_or t 1 0) is)
+pair_written n a b [] ps size is first second = absurd (omega (arith, size))
+pair_written n a b (x ∷ []) ps size is first second = absurd (omega (arith, size))
+pair_written n a b (x ∷ y ∷ z ∷ xs) ps size is first second = absurd (omega (arith, size))

@@ -113,6 +113,9 @@ impl Dec {
     pub fn abs(self) -> Dec
         ensures { result ≡ absolute self }
     {
+        if self.high == 0 && self.low >= 0 {
+            return self;
+        }
         Dec::from_parts(false, self.magnitude(), self.scale())
     }
 

@@ -29,7 +29,8 @@ fn behind_by_one(front: u64, digits: &[u8]) -> Option<u64>
     Some(number)
 }
 
-/// The same, where eight digits are taken at most once.
+/// The same, where eight digits are taken at most once. It is kept out of its caller, which needs few registers then.
+#[inline(never)]
 fn behind_by_eight(front: u64, digits: &[u8]) -> Option<u64>
     requires { (front + 1) * 10 ^ length digits.now ≤ 10 ^ 18 }
     ensures value { result ≡ spec.number_behind front digits.now }

@@ -20,6 +20,10 @@ const FOUR_DIGITS: u64 = 10_000;
 const EIGHT_DIGITS: u64 = 100_000_000;
 
 /// Digits that are written at once.
+const TWO: usize = 2;
+
+const FOUR: usize = 4;
+
 const EIGHT: usize = 8;
 
 /// Pairs of digits.
@@ -44,7 +48,9 @@ fn put_two(number: u64, bytes: &mut [u8])
     requires length { length bytes.old ≡ 2 }
     ensures { bytes.new ≡ digit_text 2 number }
 {
-    bytes.copy_from_slice(&PAIRS[number as usize]);
+    let pair = PAIRS[number as usize];
+    bytes[0] = pair[0];
+    bytes[1] = pair[1];
 }
 
 /// Writes four digits.
@@ -72,6 +78,7 @@ fn put_eight(number: u64, bytes: &mut [u8])
 }
 
 /// Writes the last digits of a number, one at a time.
+#[inline(never)]
 #[tactic(auto, using(crate::proofs::DigitTexts::none_written, crate::proofs::DigitTexts::all_written))]
 fn put_by_one(number: u64, bytes: &mut [u8])
     ensures { bytes.new ≡ digit_text (length bytes.old) number }
@@ -84,16 +91,59 @@ fn put_by_one(number: u64, bytes: &mut [u8])
     }
 }
 
+/// The same, mostly at most one.
+#[inline]
+#[tactic(auto, using(crate::proofs::DigitTexts::empty_text, crate::proofs::DigitTexts::last_text))]
+fn put_last(number: u64, bytes: &mut [u8])
+    ensures { bytes.new ≡ digit_text (length bytes.old) number }
+{
+    let count = bytes.len();
+    if count > 1 {
+        return put_by_one(number, bytes);
+    }
+    if count == 1 {
+        bytes[0] = b'0' + (number % RADIX) as u8;
+    }
+}
+
+/// The same, mostly at most three.
+#[inline]
+fn put_by_two(number: u64, bytes: &mut [u8])
+    ensures { bytes.new ≡ digit_text (length bytes.old) number }
+{
+    let count = bytes.len();
+    if count < TWO {
+        return put_last(number, bytes);
+    }
+    let (front, back) = bytes.split_at_mut(count - TWO);
+    put_last(number / TWO_DIGITS, front);
+    put_two(number % TWO_DIGITS, back);
+}
+
+/// The same, mostly at most seven.
+#[inline]
+fn put_by_four(number: u64, bytes: &mut [u8])
+    ensures { bytes.new ≡ digit_text (length bytes.old) number }
+{
+    let count = bytes.len();
+    if count < FOUR {
+        return put_by_two(number, bytes);
+    }
+    let (front, back) = bytes.split_at_mut(count - FOUR);
+    put_by_two(number / FOUR_DIGITS, front);
+    put_four(number % FOUR_DIGITS, back);
+}
+
 /// The same, where eight are written at most once.
 fn put_by_eight(number: u64, bytes: &mut [u8])
     ensures { bytes.new ≡ digit_text (length bytes.old) number }
 {
     let count = bytes.len();
     if count < EIGHT {
-        return put_by_one(number, bytes);
+        return put_by_four(number, bytes);
     }
     let (front, back) = bytes.split_at_mut(count - EIGHT);
-    put_by_one(number / EIGHT_DIGITS, front);
+    put_by_four(number / EIGHT_DIGITS, front);
     put_eight(number % EIGHT_DIGITS, back);
 }
 
@@ -104,7 +154,7 @@ pub fn put_digits(number: u64, bytes: &mut [u8])
 {
     let count = bytes.len();
     if count < EIGHT {
-        return put_by_one(number, bytes);
+        return put_by_four(number, bytes);
     }
     let (front, back) = bytes.split_at_mut(count - EIGHT);
     put_by_eight(number / EIGHT_DIGITS, front);

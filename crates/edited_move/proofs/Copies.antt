@@ -1,5 +1,5 @@
 -- Between texts that aren't justified a move copies from the left.
-use Rattle.std.proofs.Common.{◌≡◌, ℕ, Bool, true, false, not, IsTrue, List, Some, refl, ap, sym, ◌∙◌, subst}
+use Rattle.std.proofs.Common.{◌≡◌, ℕ, Bool, false, List, Some, ◌⊎◌, inl, inr, refl, ap, sym, ◌∙◌, subst}
 use Rattle.items.specs.declared.item.Item.{Item}
 use Rattle.items.specs.declared.item.Kind.{Kind}
 use Rattle.items.specs.declared.item.Kind.TheVariants as k
@@ -45,18 +45,19 @@ alphanumeric (k.Numeric n) size length from other = absurd (other n refl)
 pub to_group : (receiver sender : Item) (from : List ℕ) → receiver.kind ≡ k.Group → moved receiver (t.Item sender) from ≡ Some (padded receiver.length from)
 to_group receiver sender from e = subst (λ kind. Copies kind receiver.length sender from) (sym e) (group sender.kind receiver.length sender.length from)
 
-left : (right : Bool) → IsTrue (not right) → right ≡ false
-left true h = cc
-left false h = refl
-
-pub to_alphabetic : (receiver sender : Item) (right : Bool) (from : List ℕ) → receiver.kind ≡ k.Alphabetic right → IsTrue (not right) → ((n : Numeric) → sender.kind ≡ k.Numeric n → ⊥)
+to_alphabetic : (receiver sender : Item) (right : Bool) (from : List ℕ) → receiver.kind ≡ k.Alphabetic right → right ≡ false → ((n : Numeric) → sender.kind ≡ k.Numeric n → ⊥)
     → moved receiver (t.Item sender) from ≡ Some (padded receiver.length from)
 to_alphabetic receiver sender right from e h other =
-    subst (λ kind. Copies kind receiver.length sender from) (sym (e ∙ ap (λ b. k.Alphabetic b) (left right h)))
+    subst (λ kind. Copies kind receiver.length sender from) (sym (e ∙ ap (λ b. k.Alphabetic b) h))
     (alphabetic sender.kind receiver.length sender.length from other)
 
-pub to_alphanumeric : (receiver sender : Item) (right : Bool) (from : List ℕ) → receiver.kind ≡ k.Alphanumeric right → IsTrue (not right) → ((n : Numeric) → sender.kind ≡ k.Numeric n → ⊥)
+to_alphanumeric : (receiver sender : Item) (right : Bool) (from : List ℕ) → receiver.kind ≡ k.Alphanumeric right → right ≡ false → ((n : Numeric) → sender.kind ≡ k.Numeric n → ⊥)
     → moved receiver (t.Item sender) from ≡ Some (padded receiver.length from)
 to_alphanumeric receiver sender right from e h other =
-    subst (λ kind. Copies kind receiver.length sender from) (sym (e ∙ ap (λ b. k.Alphanumeric b) (left right h)))
+    subst (λ kind. Copies kind receiver.length sender from) (sym (e ∙ ap (λ b. k.Alphanumeric b) h))
     (alphanumeric sender.kind receiver.length sender.length from other)
+
+pub to_text : (receiver sender : Item) (right : Bool) (from : List ℕ) → (receiver.kind ≡ k.Alphabetic right) ⊎ (receiver.kind ≡ k.Alphanumeric right) → right ≡ false
+    → ((n : Numeric) → sender.kind ≡ k.Numeric n → ⊥) → moved receiver (t.Item sender) from ≡ Some (padded receiver.length from)
+to_text receiver sender right from (inl e) h other = to_alphabetic receiver sender right from e h other
+to_text receiver sender right from (inr e) h other = to_alphanumeric receiver sender right from e h other

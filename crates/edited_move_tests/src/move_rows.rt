@@ -71,13 +71,73 @@ const ROOM: usize = 8;
 // A receiver, the sender and its bytes, and the receiver's bytes; none for fault 90.
 type Row = (Item, Taken, &'static [u8], Option<&'static [u8]>);
 
-const MOVES: [Row; 27] = [
+const MOVES: [Row; 36] = [
     // the point is aligned and both ends are cut
     (
         number!(3, 1, UNSIGNED, 3),
         Taken::Item(number!(5, 2, UNSIGNED, 5)),
         b"12345",
         Some(b"234"),
+    ),
+    // six digits to as many, to four characters, and to four digits
+    (
+        number!(6, 0, UNSIGNED, 6),
+        Taken::Item(number!(6, 0, UNSIGNED, 6)),
+        b"850917",
+        Some(b"850917"),
+    ),
+    (
+        text!(4),
+        Taken::Item(number!(6, 0, UNSIGNED, 6)),
+        b"850917",
+        Some(b"8509"),
+    ),
+    (
+        number!(4, 0, UNSIGNED, 4),
+        Taken::Item(number!(6, 0, UNSIGNED, 6)),
+        b"850917",
+        Some(b"0917"),
+    ),
+    // edited senders give their characters
+    (
+        text!(8),
+        Taken::Item(Item {
+            kind: EDITED,
+            length: 6,
+        }),
+        b"$ 1.50",
+        Some(b"$ 1.50  "),
+    ),
+    (
+        text!(3),
+        Taken::Item(Item {
+            kind: Kind::AlphanumericEdited,
+            length: 4,
+        }),
+        b"AB/C",
+        Some(b"AB/"),
+    ),
+    // alphabetic items
+    (
+        Item {
+            kind: Kind::Alphabetic { justified: true },
+            length: 3,
+        },
+        Taken::Item(Item {
+            kind: Kind::Alphabetic { justified: false },
+            length: 5,
+        }),
+        b"ABCDE",
+        Some(b"CDE"),
+    ),
+    (
+        Item {
+            kind: Kind::Alphabetic { justified: false },
+            length: 3,
+        },
+        Taken::Figurative(Figurative::Space),
+        b"",
+        Some(b"   "),
     ),
     // characters from the left, or with JUSTIFIED from the right
     (text!(3), Taken::Item(text!(5)), b"ABCDE", Some(b"ABC")),
@@ -193,6 +253,18 @@ const MOVES: [Row; 27] = [
     (text!(3), Taken::All, b"AB", Some(b"ABA")),
     (justified!(7), Taken::All, b"AB", Some(b"ABABABA")),
     // groups are copied
+    (
+        group!(2),
+        Taken::Figurative(Figurative::LowValue),
+        b"",
+        Some(b"\x00\x00"),
+    ),
+    (
+        number!(3, 0, UNSIGNED, 3),
+        Taken::Item(group!(4)),
+        b"1234",
+        Some(b"123"),
+    ),
     (
         group!(4),
         Taken::Item(number!(2, 0, TRAILING, 2)),

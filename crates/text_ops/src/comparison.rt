@@ -9,10 +9,10 @@ ghost use Rattle.items.specs.Items.{IsOf, IsTaken};
 ghost use Rattle.items.specs.Texts.{characters, characters_in, plain_bytes};
 ghost use Rattle.text_ops.specs.Compare as spec;
 
-use crate::digits::MOST_DIGITS;
+use crate::digits::{MOST_DIGITS, put_all_digits};
 use crate::text_order::{order_beside_character, order_beside_repeated, order_of_texts};
 use decimal18::Dec;
-use items::{DataFault, Figurative, Item, Kind, Numeric, Taken, number};
+use items::{DataFault, Figurative, Item, Kind, Numeric, Taken, number, numbers_are_held};
 use std::cmp::Ordering;
 
 fn is_numeric_item(taken: Taken) -> bool
@@ -84,9 +84,10 @@ fn order_of_item(item: Item, ones: &[u8], beside: Taken, others: &[u8]) -> Optio
         return Some(order_beside(ones, beside, others));
     };
     let x = number(numeric, ones)?;
-    let mut room = [b'0'; MOST_DIGITS];
+    numbers_are_held();
+    let mut room = [0; MOST_DIGITS];
     let (digits, _) = room.split_at_mut(numeric.digits as usize);
-    x.digits_into(digits);
+    put_all_digits(x, digits);
     Some(order_beside(digits, beside, others))
 }
 

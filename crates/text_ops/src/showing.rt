@@ -1,16 +1,16 @@
 //! What DISPLAY shows.
 
 ghost use Rattle.std.specs.Prelude.{◌≡◌, ◌≤◌, ◌+◌, length, take};
-ghost use Rattle.items.specs.Numbers.{IsNumeric};
+ghost use Rattle.items.specs.Numbers.{IsNumeric, Holds};
 ghost use Rattle.items.specs.Display.{sign_character};
 ghost use Rattle.items.specs.Faults.{WritesFirst};
 ghost use Rattle.items.specs.Items.{IsOf};
 ghost use Rattle.text_ops.specs.Lengths.{shown_length};
 ghost use Rattle.text_ops.specs.Shown as spec;
 
-use crate::digits::MOST_DIGITS;
+use crate::digits::{MOST_DIGITS, put_all_digits};
 use decimal18::Dec;
-use items::{DataFault, Item, Kind, Numeric, number};
+use items::{DataFault, Item, Kind, Numeric, number, numbers_are_held};
 
 fn sign_character(negative: bool) -> u8
     ensures { result ≡ sign_character negative }
@@ -38,12 +38,13 @@ fn put_point(digits: &[u8], scale: usize, to: &mut [u8]) -> usize
 /// Writes a number: its sign if the item has S, and its digits. Answers the length.
 fn put_number(numeric: Numeric, x: Dec, to: &mut [u8]) -> usize
     requires numeric { IsNumeric numeric }
+    requires held { Holds numeric x }
     requires room { numeric.digits + 2 ≤ length to.old }
     ensures { take result to.new ≡ spec.shown_number numeric x }
 {
-    let mut room = [b'0'; MOST_DIGITS];
+    let mut room = [0; MOST_DIGITS];
     let (digits, _) = room.split_at_mut(numeric.digits as usize);
-    x.digits_into(digits);
+    put_all_digits(x, digits);
     let scale = numeric.scale as usize;
     if !numeric.is_signed() {
         return put_point(digits, scale, to);
@@ -66,6 +67,7 @@ pub fn shown(item: Item, bytes: &[u8], to: &mut [u8]) -> Result<usize, DataFault
             let Some(x) = number(numeric, bytes) else {
                 return Err(DataFault);
             };
+            numbers_are_held();
             Ok(put_number(numeric, x, to))
         }
         _ => {

@@ -29,6 +29,15 @@ pub fn binary(digits: u8, scale: u8) -> Kind {
     })
 }
 
+/// The same without S.
+pub fn unsigned_binary(digits: u8, scale: u8) -> Kind {
+    Kind::Numeric(Numeric {
+        digits,
+        scale,
+        usage: Usage::Binary { signed: false },
+    })
+}
+
 /// A number in PACKED-DECIMAL usage, with S.
 pub fn packed(digits: u8, scale: u8) -> Kind {
     Kind::Numeric(Numeric {

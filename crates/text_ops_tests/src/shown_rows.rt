@@ -1,7 +1,7 @@
 //! Rows of what DISPLAY shows. The forms of numbers are this project's own choice, so expected texts are those of the worked
 //! rows in docs/ACCEPTANCE.md, or follow from their rule with a pencil.
 use crate::asserted::{holds, same_in};
-use crate::operands::{TEXT, binary, display, item, packed};
+use crate::operands::{TEXT, binary, display, item, packed, unsigned_binary};
 use items::{Kind, OperationalSign};
 use std::process::Abort;
 use text_ops::shown;
@@ -32,6 +32,7 @@ fn numbers(rt: HostRuntime) {
         b"-001.50",
     );
     shows(&rt, display(2, 2, OperationalSign::Unsigned), b"50", b".50");
+    shows(&rt, unsigned_binary(4, 0), &[0x00, 0x07], b"0007");
     shows(&rt, binary(4, 0), &[0x00, 0x07], b"+0007");
     shows(&rt, display(1, 0, OperationalSign::Trailing), b"s", b"-3");
     shows(
@@ -47,11 +48,24 @@ fn numbers(rt: HostRuntime) {
         b"123456789012345678",
         b"123456789012345678",
     );
+    shows(
+        &rt,
+        display(18, 17, OperationalSign::Trailing),
+        b"00000000000000000s",
+        b"-0.00000000000000003",
+    );
+    shows(
+        &rt,
+        display(6, 6, OperationalSign::Unsigned),
+        b"000000",
+        b".000000",
+    );
 }
 
 #[test]
 fn texts(rt: HostRuntime) {
     shows(&rt, TEXT, b"a b", b"a b");
+    shows(&rt, TEXT, b"xy", b"xy");
     shows(&rt, Kind::Group, b"\x00 1", b"\x00 1");
     shows(
         &rt,

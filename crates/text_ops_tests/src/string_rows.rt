@@ -3,9 +3,10 @@ use crate::asserted::same_in;
 use text_ops::{delimited, string_into};
 
 // A sender, its delimiter, and what is sent.
-const SENDERS: [(&[u8], &[u8], &[u8]); 6] = [
+const SENDERS: [(&[u8], &[u8], &[u8]); 7] = [
     (b"C D", b" ", b"C"),
     (b"AB", b" ", b"AB"),
+    (b"E", b" ", b"E"),
     (b"AXYB", b"XY", b"A"),
     (b"AXYB", b"XYZ", b"AXYB"),
     (b"AXYB", b"A", b""),

@@ -1,21 +1,25 @@
-use Rattle.std.proofs.Common.{◌≡◌, Some, sym, subst}
+use Rattle.std.proofs.Common.{◌≡◌, Bool, true, false, not, IsTrue, Some, sym, subst}
+use Rattle.std.proofs.lemmas.Bool.{false≢true}
 use Rattle.items.specs.declared.taken.Taken.{Taken}
 use Rattle.items.specs.Texts.{padded}
 use Rattle.edited_move.specs.Moves.{moved}
-use Rattle.edited_move.proofs.Copies.{to_group, to_alphabetic, to_alphanumeric}
+use Rattle.edited_move.proofs.Copies.{to_group, to_text}
 use Rattle.edited_move.proofs.moving.is_copy.Goals as goal
+use Rattle.edited_move.proofs.moving.is_copy.Goals.{in-Numeric, in_default-matches}
 
-pub returns-in_default-Group : goal.returns-in_default-Group
-returns-in_default-Group c = λ h from.
-    let P : Taken → Type 0 = λ t. moved c.args.receiver t from ≡ Some (padded c.args.receiver.length from) in
-    subst P (sym c.in-Item.is) (to_group c.args.receiver c.in-Item.sender from c.in_default-Group.is-1)
+no : (b : Bool) → b ≡ true → IsTrue (not b) → ⊥
+no true e h = false≢true h
+no false e h = false≢true e
 
-pub returns-in_default-Alphabetic : goal.returns-in_default-Alphabetic
-returns-in_default-Alphabetic c = λ h from.
-    let P : Taken → Type 0 = λ t. moved c.args.receiver t from ≡ Some (padded c.args.receiver.length from) in
-    subst P (sym c.in-Item.is) (to_alphabetic c.args.receiver c.in-Item.sender _ from c.in_default-Alphabetic.is-1 h c.in_default-Alphabetic.not-Numeric-0)
+pub returns-in-Group : goal.returns-in-Group
+returns-in-Group c = λ h from.
+    let P : Taken → Type 0 = λ t. moved c.args.receiver.now t from ≡ Some (padded c.args.receiver.now.length from) in
+    subst P (sym c.in-Item.is) (to_group c.args.receiver.now c.in-Item.sender from c.in-Group.is)
 
-pub returns-in_default-Alphanumeric : goal.returns-in_default-Alphanumeric
-returns-in_default-Alphanumeric c = λ h from.
-    let P : Taken → Type 0 = λ t. moved c.args.receiver t from ≡ Some (padded c.args.receiver.length from) in
-    subst P (sym c.in-Item.is) (to_alphanumeric c.args.receiver c.in-Item.sender _ from c.in_default-Alphanumeric.is-1 h c.in_default-Alphanumeric.not-Numeric-0)
+pub returns-then-not-justified : goal.returns-then-not-justified
+returns-then-not-justified c = λ h from.
+    let P : Taken → Type 0 = λ t. moved c.args.receiver.now t from ≡ Some (padded c.args.receiver.now.length from) in
+    elim c.match-matches.branch [
+      | in-Numeric w ↦ absurd (no c.match-matches.matches w.matches-is h)
+      | in_default-matches w ↦ subst P (sym c.in-Item.is) (to_text c.args.receiver.now c.in-Item.sender _ from c.in-Alphabetic.is c.if-not-justified.true w.in_default-matches.not-Numeric)
+    ]
