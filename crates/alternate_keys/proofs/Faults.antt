@@ -1,0 +1,29 @@
+-- Which refusal of the pages was told.
+use Rattle.std.proofs.Common.{◌≡◌, ◌⊎◌, inl, inr, refl, sym, ap, ◌∙◌}
+use Rattle.pages.specs.declared.error.PagesError.{PagesError}
+use Rattle.pages.specs.declared.error.PagesError.TheVariants as pages
+use Rattle.records.specs.declared.fault.StoreFault.TheVariants.{Device, Full, Damaged, Memory, Spent}
+use Rattle.alternate_keys.specs.Faults.{fault_of}
+
+pub damaged_back : (error : PagesError) → fault_of error ≡ Damaged → error ≡ pages.Damaged
+damaged_back pages.Device is = cc
+damaged_back pages.Full is = cc
+damaged_back pages.Damaged is = refl
+damaged_back pages.Memory is = cc
+damaged_back pages.Spent is = cc
+damaged_back pages.ForeignMark is = cc
+
+pub full_back : (error : PagesError) → fault_of error ≡ Full → error ≡ pages.Full
+full_back pages.Device is = cc
+full_back pages.Full is = refl
+full_back pages.Damaged is = cc
+full_back pages.Memory is = cc
+full_back pages.Spent is = cc
+full_back pages.ForeignMark is = cc
+
+-- a commit never tells of damage
+pub commit_sound : (error : PagesError) → (error ≡ pages.Device) ⊎ (error ≡ pages.Full) ⊎ (error ≡ pages.Memory) ⊎ (error ≡ pages.Spent) → fault_of error ≡ Damaged → ⊥
+commit_sound error (inl is) told = let clash : Device ≡ Damaged = sym (ap fault_of is) ∙ told in cc
+commit_sound error (inr (inl is)) told = let clash : Full ≡ Damaged = sym (ap fault_of is) ∙ told in cc
+commit_sound error (inr (inr (inl is))) told = let clash : Memory ≡ Damaged = sym (ap fault_of is) ∙ told in cc
+commit_sound error (inr (inr (inr is))) told = let clash : Spent ≡ Damaged = sym (ap fault_of is) ∙ told in cc

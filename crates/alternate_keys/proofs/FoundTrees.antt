@@ -1,0 +1,100 @@
+-- The trees in which a row of a file that was found is sought.
+use Rattle.std.proofs.Common.{◌≡◌, ◌≤◌, ◌<◌, ◌^◌, ℕ, true, List, length, refl, sym, ap, subst, ◌∙◌, arith}
+use Rattle.std.specs.Prelude.{Option, Some}
+use Rattle.std.proofs.lemmas.Bool.{eqb-true}
+use Rattle.station.specs.Disk.{Sector}
+use Rattle.pages.specs.Image.{Map}
+use Rattle.btree.specs.Rooted.{Rooted}
+use Rattle.btree.specs.Entries.{Entry}
+use Rattle.records.specs.declared.file_spec.AlternateKey.{AlternateKey}
+use Rattle.records.specs.declared.file_spec.KeyPlace.{KeyPlace}
+use Rattle.records.specs.declared.file_spec.Organization.{Organization}
+use Rattle.records.specs.declared.file_spec.Organization.TheVariants.{Sequential, Relative, Indexed}
+use Rattle.records.specs.declared.key.KeyOfReference.{KeyOfReference}
+use Rattle.records.specs.declared.key.KeyOfReference.TheVariants.{Prime, Alternate}
+use Rattle.records.specs.Spec.{Spec, is_spec, are_keys}
+use Rattle.records.specs.Rows.{prime_place}
+use Rattle.records.specs.Order.{Bound}
+use Rattle.records.specs.Stores.{IsKey}
+use Rattle.records.specs.Files.{File}
+use Rattle.file_trees.specs.Trees.{layout_under, prime_key_length}
+use Rattle.file_trees.specs.Volume.{Kept}
+use Rattle.file_trees.proofs.Small.{place_short, spec_keys}
+use Rattle.alternate_keys.specs.declared.aim.Aim.{Aim}
+use Rattle.alternate_keys.specs.Aims.{IsBound, aim_of, aim_key}
+use Rattle.alternate_keys.specs.Listed.{IsFound, IsListed, root_in}
+use Rattle.alternate_keys.specs.Seen.{HasRows, HasPairs, IsSought}
+use Rattle.alternate_keys.proofs.Keeping.{rows_seen, pairs_seen, tree_is, tree_under}
+
+-- only an indexed file has alternate keys
+indexed_by : (n : ℕ) (o : Organization) (keys : List AlternateKey) (i : ℕ) → are_keys n o keys ≡ true → i < length keys → (place : KeyPlace) × (o ≡ Indexed place)
+indexed_by n Sequential keys i is within = absurd (let none : length keys ≡ 0 = eqb-true _ _ is in omega (arith, none, within))
+indexed_by n Relative keys i is within = absurd (let none : length keys ≡ 0 = eqb-true _ _ is in omega (arith, none, within))
+indexed_by n (Indexed place) keys i is within = (place, refl)
+
+pub indexed : (spec : Spec) (key : KeyOfReference) → is_spec spec ≡ true → IsKey spec key → (i : ℕ) → key ≡ Alternate i → (place : KeyPlace) × (spec.organization ≡ Indexed place)
+indexed spec key is within i same =
+    let own : IsKey spec (Alternate i) = subst (IsKey spec) same within in
+    indexed_by spec.record_length spec.organization spec.alternates i (spec_keys spec is) own
+
+key_by : (spec : Spec) (o : Organization) → spec.organization ≡ o → is_spec spec ≡ true → prime_key_length o ≤ 128
+key_by spec Sequential same is = omega arith
+key_by spec Relative same is = omega arith
+key_by spec (Indexed place) same is =
+    let short = place_short spec Prime is (omega arith) in
+    let here : (prime_place spec.organization).length ≡ place.length = ap (λ (o : Organization). (prime_place o).length) same in
+    omega (arith, short, here)
+
+pub layout_short : (spec : Spec) (key : KeyOfReference) → is_spec spec ≡ true → IsKey spec key → (layout_under spec key).key_length ≤ 128
+layout_short spec Prime is within = key_by spec spec.organization refl is
+layout_short spec (Alternate i) is within = let short = place_short spec (Alternate i) is within in omega (arith, short)
+
+-- the file that was found, under another name for it and its spec
+rows_as : (pages : List (Option Sector)) (one : File) (held : File) (spec : Spec) (own : Rooted) (tree : Rooted) → one ≡ held → held.spec ≡ spec → tree ≡ own → HasRows one.spec pages one.rows own → HasRows spec pages held.rows tree
+rows_as pages one held spec own tree same is there rows =
+    subst (λ (t : Rooted). HasRows spec pages held.rows t) (sym there)
+    (subst (λ (s : Spec). HasRows s pages held.rows own) is (subst (λ (f : File). HasRows f.spec pages f.rows own) same rows))
+
+pairs_as : (pages : List (Option Sector)) (one : File) (held : File) (spec : Spec) (key : KeyOfReference) (own : Rooted) (tree : Rooted) → one ≡ held → held.spec ≡ spec → tree ≡ own → HasPairs one.spec key pages one.rows own → HasPairs spec key pages held.rows tree
+pairs_as pages one held spec key own tree same is there pairs =
+    subst (λ (t : Rooted). HasPairs spec key pages held.rows t) (sym there)
+    (subst (λ (s : Spec). HasPairs s key pages held.rows own) is (subst (λ (f : File). HasPairs f.spec key pages f.rows own) same pairs))
+
+-- what is known where the trees of a file are looked into
+pub record Knows (m : Map) (found : Option File) (held : File) (spec : Spec) (key : KeyOfReference) (listed : Option Entry) (entry : Entry) (prime under : Rooted) : Type 0 where
+  pub few : m.generation < 2 ^ 63
+  pub small : length m.pages ≤ 921600
+  pub listing : IsListed m found listed
+  pub some : listed ≡ Some entry
+  pub there : found ≡ Some held
+  pub spec_is : held.spec ≡ spec
+  pub good : is_spec spec ≡ true
+  pub key_is : IsKey spec key
+  pub prime_layout : prime.layout ≡ layout_under spec Prime
+  pub prime_root : prime.root ≡ root_in Prime entry.value
+  pub under_layout : under.layout ≡ layout_under spec key
+  pub under_root : under.root ≡ root_in key entry.value
+
+pub sought_in : (m : Map) (found : Option File) (held : File) (spec : Spec) (key : KeyOfReference) (bound : Bound) (listed : Option Entry) (entry : Entry) (prime under : Rooted) (way : Aim) (at : List ℕ) →
+    Knows m found held spec key listed entry prime under → IsBound spec key bound → way ≡ aim_of spec key bound → at ≡ aim_key spec key bound → IsSought spec key bound m.pages held.rows prime under way at
+sought_in m found held spec key bound listed entry prime under way at knows bounded way_is at_is =
+    let there = subst (IsListed m found) knows.some knows.listing in
+    let kept : Kept = there.0 in
+    let is : IsFound m found kept = there.1 in
+    let some : Some kept.named.file ≡ Some held = sym is.there ∙ knows.there in
+    let same : kept.named.file ≡ held = cc in
+    let spec_is : kept.named.file.spec ≡ spec = ap (λ (f : File). f.spec) same ∙ knows.spec_is in
+    let low = knows.small in
+    let small : length m.pages ≤ 2 ^ 20 = omega (arith, low) in
+    let value = ap (λ (e : Entry). e.value) there.2 in
+    let own : IsKey kept.named.file.spec key = subst (λ (s : Spec). IsKey s key) (sym spec_is) knows.key_is in
+    let prime_is = tree_is m found kept spec Prime entry prime is small spec_is (omega arith) value knows.prime_layout knows.prime_root in
+    let under_is = tree_is m found kept spec key entry under is small spec_is knows.key_is value knows.under_layout knows.under_root in
+    record {
+      there = rows_as m.pages kept.named.file held spec kept.prime.tree prime same knows.spec_is prime_is (rows_seen m found kept is knows.few);
+      pairs = pairs_as m.pages kept.named.file held spec key (tree_under key kept).tree under same knows.spec_is under_is (pairs_seen m found kept key is knows.few own);
+      bounded = bounded;
+      way_is = way_is;
+      at_is = at_is;
+      indexed = indexed spec key knows.good knows.key_is;
+    }

@@ -1,0 +1,21 @@
+-- What a call that only reads leaves.
+use Rattle.std.proofs.Common.{◌≡◌, sym, ap, subst, ◌∙◌}
+use Rattle.station.specs.Disk.{Disk}
+use Rattle.pages.specs.Image.{Map, map_of}
+use Rattle.pages.specs.Volumes.{volume_of}
+use Rattle.pages.specs.Pages.{committed_of, Agrees, Unchanged, SameCommitted}
+use Rattle.pages.specs.declared.page_map.PageMap.{PageMap}
+use Rattle.records.specs.Files.{Files}
+use Rattle.file_trees.specs.Volume.{MapHolds}
+use Rattle.alternate_keys.specs.Stands.{Stands}
+
+pub same_volume : (old new : PageMap) → SameCommitted old new → committed_of new ≡ committed_of old
+same_volume old new same = ap volume_of same.volume
+
+pub stands_still : (old new : PageMap) (disk : Disk) (files : Files) → Unchanged old new → Agrees new disk → Stands old disk files → Stands new disk files
+stands_still old new disk files unchanged agrees stands = record {
+  agrees = agrees;
+  still = unchanged.map disk.present ∙ stands.still ∙ ap (map_of disk.present) (sym (same_volume old new unchanged.committed));
+  rested = unchanged.changed_pages ∙ stands.rested;
+  holds = subst (λ (m : Map). MapHolds m files) (sym (unchanged.map disk.present)) stands.holds;
+}

@@ -1,0 +1,24 @@
+use Rattle.std.proofs.Common.{◌≡◌, List, sym, ap, subst}
+use Rattle.station.specs.Disk.{Sector}
+use Rattle.station.specs.State.{State}
+use Rattle.records.specs.declared.fault.StoreFault.{StoreFault}
+use Rattle.file_trees.specs.Volume.{Holds}
+use Rattle.alternate_keys.specs.Opened.{Refused, IsReadCause}
+use Rattle.alternate_keys.proofs.OpenedStore.{stands_for, refused_of, cause_of}
+use Rattle.alternate_keys.proofs.store.PagedStore.open.Goals as goal
+
+pub returns-in-Ok-clause-stands : goal.returns-in-Ok-clause-stands
+returns-in-Ok-clause-stands g c = λ honest files holds.
+    let old : State = g.D.Device.state c.args.device.now in
+    let new : State = g.D.Device.state c.open.new.device in
+    let same : new.disk.present ≡ old.disk.present = ap (λ (s : State). s.disk.present) (c.in-Ok.ensures.state honest) in
+    stands_for c.in-Ok.pages new.disk files (c.in-Ok.ensures.agrees honest) c.in-Ok.ensures.map c.in-Ok.ensures.ready.3 (subst (λ (l : List Sector). Holds l files) (sym same) holds)
+
+pub returns-in-Err-clause-refused : goal.returns-in-Err-clause-refused
+returns-in-Err-clause-refused g c = λ honest.
+    let present : List Sector = (g.D.Device.state c.args.device.now).disk.present in
+    subst (λ (f : StoreFault). Refused present f) (sym c.to_fault.ensures) (refused_of present c.in-Err.error (c.in-Err.ensures.refused honest))
+
+pub returns-in-Err-clause-opens : goal.returns-in-Err-clause-opens
+returns-in-Err-clause-opens g c = λ honest files holds.
+    subst (λ (f : StoreFault). IsReadCause f) (sym c.to_fault.ensures) (cause_of c.in-Err.error (c.in-Err.ensures.opens honest holds.0 holds.1))

@@ -1,0 +1,10 @@
+pub mod Aims
+pub mod Seen
+pub mod Faults
+pub mod Listed
+pub mod Stands
+pub mod Opened
+pub mod Among
+pub mod NewRow
+pub mod Held
+pub mod Settles

@@ -1,0 +1,28 @@
+-- A file among those that a map keeps.
+use Rattle.std.specs.Prelude.{◌≡◌, ◌+◌, ◌*◌, ℕ, List, drop, Option, Some, None}
+use Rattle.std.specs.List.{All}
+use Rattle.byteorder.specs.Endian.{big_number}
+use Rattle.pages.specs.Image.{Map}
+use Rattle.btree.specs.Entries.{Entry}
+use Rattle.records.specs.declared.key.KeyOfReference.{KeyOfReference}
+use Rattle.records.specs.declared.key.KeyOfReference.TheVariants.{Prime, Alternate}
+use Rattle.records.specs.Files.{File, IsNamed}
+use Rattle.file_trees.specs.Forest.{Grows}
+use Rattle.file_trees.specs.Volume.{Kept, IsKept, trees_of, catalog_entry}
+
+-- this file was found, with its trees
+pub record IsFound (m : Map) (found : Option File) (kept : Kept) : Type 0 where
+  pub there : found ≡ Some kept.named.file
+  pub is : IsKept m.generation kept
+  pub named : IsNamed kept.named
+  pub grow : All (Grows m.pages) (trees_of kept)
+
+-- what the catalog says of a name under which this file was found, or none
+abbrev pub IsListed : Map → Option File → Option Entry → Type 0
+IsListed m found None = found ≡ None
+IsListed m found (Some entry) = (kept : Kept) × IsFound m found kept × (entry ≡ catalog_entry kept)
+
+-- the page of the root of a key's tree, by a value of the catalog
+abbrev pub root_in : KeyOfReference → List ℕ → ℕ
+root_in Prime value = big_number 4 (drop 43 value)
+root_in (Alternate i) value = big_number 4 (drop (47 + 4 * i) value)

@@ -1,0 +1,31 @@
+-- What the store stands for.
+use Rattle.std.specs.Prelude.{◌≡◌, ◌<◌, ◌≤◌, ◌⊎◌, ◌+◌, ◌*◌, ◌^◌, Bool, ℕ, List, [], length, Option, Some, None, if◌then◌else◌}
+use Rattle.station.specs.Disk.{Disk}
+use Rattle.pages.specs.Layout.{map_count}
+use Rattle.pages.specs.Image.{Volume, map_of}
+use Rattle.pages.specs.Use.{free_count}
+use Rattle.pages.specs.Pages.{map_now, committed_of, changed_pages_of, Agrees}
+use Rattle.pages.specs.declared.page_map.PageMap.{PageMap}
+use Rattle.records.specs.Files.{File, Files, file_at}
+use Rattle.file_trees.specs.Volume.{MapHolds}
+
+-- over this disk the pages hold these files, and nothing waits for a commit
+pub record Stands (pages : PageMap) (disk : Disk) (files : Files) : Type 0 where
+  pub agrees : Agrees pages disk
+  pub still : map_now pages disk.present ≡ map_of disk.present (committed_of pages)
+  pub rested : changed_pages_of pages ≡ []
+  pub holds : MapHolds (map_now pages disk.present) files
+
+-- how many alternate keys the file has
+abbrev pub keys_of : Option File → ℕ
+keys_of None = 0
+keys_of (Some file) = length file.spec.alternates
+
+-- how many free sectors are enough for a change of a file of so many alternate keys; a new file may need all sectors of the map besides
+abbrev pub enough : Volume → Bool → ℕ → ℕ
+enough volume is_new keys = 200 * (keys + 2) + (if is_new then map_count volume.root.sectors else 0)
+
+-- too few sectors are free, the files are more than 255, or no generation is left
+abbrev pub LacksRoom : Volume → Bool → List ℕ → Files → Type 0
+LacksRoom volume is_new name after =
+    (free_count volume < enough volume is_new (keys_of (file_at name after))) ⊎ (255 < length after) ⊎ (2 ^ 63 ≤ volume.root.generation + 1)

@@ -1,0 +1,57 @@
+//! Entries of a file's trees.
+ghost use Rattle.std.specs.Prelude.{◌≡◌, ◌≤◌, ◌<◌, ◌+◌, ◌↔◌, true, Err, Some, List, [], length, take, drop, IfOk, OnOk, OnErr, IfErr};
+ghost use Rattle.station.specs.Calls.{OnlyReads};
+ghost use Rattle.pages.specs.Pages.{map_now, is_spent, sectors_of, Agrees, IsOpen, Unchanged};
+ghost use Rattle.btree.specs.Tree.{TreeNode, Holds};
+ghost use Rattle.btree.specs.Entries.{entries_of};
+ghost use Rattle.btree.specs.Reading.{IsReadRefusal};
+ghost use Rattle.alternate_keys.specs.Aims.{looked};
+
+use crate::aim::Aim;
+use btree::{Entry, Tree};
+use pages::{PageMap, PagesError};
+use station::Device;
+
+/// The entry of a tree that is looked for.
+pub(crate) fn look<D: Device>(
+    tree: &Tree,
+    pages: &mut PageMap,
+    device: &mut D,
+    aim: Aim,
+    key: &[u8],
+) -> Result<Option<Entry>, PagesError>
+    requires open { IsOpen pages.old }
+    requires sectors { sectors_of pages.old ≤ D.sectors device.old }
+    requires short { tree.now.layout.key_length ≤ 128 }
+    ensures only { OnlyReads D.Device (result ≡ Err PagesError.Device) device.old device.new }
+    ensures unchanged { Unchanged pages.old pages.new }
+    ensures agrees { D.is_honest device.old → Agrees pages.old (D.state device.old).disk → Agrees pages.new (D.state device.new).disk }
+    ensures open { IsOpen pages.new }
+    ensures entry { D.is_honest device.old → Agrees pages.old (D.state device.old).disk → (levels : List (List TreeNode)) →
+        Holds tree.now.layout (map_now pages.old (D.state device.old).disk.present).pages tree.now.root levels →
+        IfOk result (λ entry. entry ≡ looked aim (entries_of tree.now.layout levels) key.now) }
+    ensures damaged { D.is_honest device.old → Agrees pages.old (D.state device.old).disk → result ≡ Err PagesError.Damaged →
+        (levels : List (List TreeNode)) → Holds tree.now.layout (map_now pages.old (D.state device.old).disk.present).pages tree.now.root levels → ⊥ }
+    ensures spent { result ≡ Err PagesError.Spent → is_spent pages.old ≡ true }
+    ensures cause { IfErr result IsReadRefusal }
+{
+    match aim {
+        Aim::Nothing => Ok(None),
+        Aim::From => tree.seek(pages, device, key),
+        Aim::After => tree.next(pages, device, key),
+    }
+}
+
+/// Puts the record of a row's entry into `bytes`. A value that is shorter is none of a row.
+pub(crate) fn copy_record(entry: &Entry, bytes: &mut [u8]) -> Result<(), PagesError>
+    ensures ok { OnOk result (bytes.new ≡ take (length bytes.old) entry.now.value) }
+    ensures kept { OnErr result (bytes.new ≡ bytes.old) }
+    ensures err { IfErr result (λ error. (error ≡ PagesError.Damaged) × (length entry.now.value < length bytes.old)) }
+{
+    let value = entry.value();
+    if value.len() < bytes.len() {
+        return Err(PagesError::Damaged);
+    }
+    bytes.copy_from_slice(&value[..bytes.len()]);
+    Ok(())
+}

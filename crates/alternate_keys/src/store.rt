@@ -1,0 +1,29 @@
+//! The store.
+
+use pages::PageMap;
+use std::alloc::Global;
+use std::marker::Model;
+
+/// All files of a volume of pages.
+#[derive(Drop)]
+pub struct PagedStore {
+    pub(crate) alloc: Global,
+    pub(crate) pages: PageMap,
+    pub(crate) spent: bool,
+}
+
+impl Model for PagedStore {
+    ghost use Rattle.std.specs.Prelude.{◌≡◌, false};
+    ghost use Rattle.pages.specs.Pages.{IsOpen, is_spent};
+    ghost use Rattle.std.specs.Coded.{codes};
+    ghost use Rattle.pages.specs.contracts.page_map.PageMap as page_map;
+    ghost use Rattle.alternate_keys.specs.Opened.{Opened};
+
+    ghost Value = { Opened };
+
+    ghost coded = { Prim.hlevel (codes, page_map.the_row.coded) };
+
+    ghost view = { λ store. record { pages = store.pages; spent = store.spent } };
+
+    ghost invariant = { λ store. IsOpen store.pages × (store.spent ≡ false → is_spent store.pages ≡ false) };
+}
