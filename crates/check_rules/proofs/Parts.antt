@@ -1,4 +1,4 @@
--- What a sender asks of receivers.
+-- What a sender asks of receivers, and what a name breaks that names no one thing.
 use Rattle.std.proofs.Common.{◌≡◌, List, [], ◌∷◌, None, Some, refl}
 use Rattle.std.specs.Prelude.{Option}
 use Rattle.items.specs.declared.taken.Taken.{Taken}
@@ -8,6 +8,7 @@ use Rattle.source_tree.specs.LookUp.{first}
 use Rattle.source_tree.specs.MoveRules.{only_item, receives}
 use Rattle.source_tree.specs.NameRules.{named}
 use Rattle.source_tree.specs.Places.{Placed}
+use Rattle.source_tree.specs.StringRules.{only_length}
 use Rattle.check_rules.specs.Asking.{asks, asked_by}
 
 -- What a MOVE asks of its receivers is what is asked for what it sends.
@@ -20,3 +21,9 @@ pub sends_nothing : (place : Place) (found : List Placed) (broken : Broken) → 
 sends_nothing place [] broken h = refl
 sends_nothing place (one ∷ []) broken h = let no : ◌≡◌ {A = Option Broken} None (Some broken) = h (λ found. []) in cc
 sends_nothing place (one ∷ other ∷ more) broken h = refl
+
+-- What doesn't name one item has no bytes.
+pub no_length : (place : Place) (found : List Placed) (broken : Broken) → ((rules : Placed → List Broken) → first (named place rules found) ≡ Some broken) → only_length found ≡ 0
+no_length place [] broken h = refl
+no_length place (one ∷ []) broken h = let no : ◌≡◌ {A = Option Broken} None (Some broken) = h (λ found. []) in cc
+no_length place (one ∷ other ∷ more) broken h = refl

@@ -3,6 +3,8 @@ use Rattle.std.proofs.Common.{◌≡◌, List, [], ◌∷◌, ◌++◌, None, So
 use Rattle.std.specs.Prelude.{Option, map}
 use Rattle.lexical.specs.declared.place.Place.{Place}
 use Rattle.source_tree.specs.declared.arithmetic.Operation.{Operation}
+use Rattle.source_tree.specs.declared.reference.Reference.{Reference}
+use Rattle.source_tree.specs.declared.stringing.Sending.{Sending}
 use Rattle.source_tree.specs.declared.condition.Condition.{Condition}
 use Rattle.source_tree.specs.declared.branching.Branching.TheVariants.{If, Evaluate}
 use Rattle.source_tree.specs.declared.evaluate.Subject.{Subject}
@@ -66,6 +68,17 @@ module _ {A B : Type 0} (f : A → B) (performs : B → List Performance) where
       ap (λ l. l ++ each_performs performs (map f other)) (each_map inside)
       ∙ ap (λ l. each_performs (λ a. performs (f a)) inside ++ l) (each_map other)
 
+  strung_map : (procedures : List Procedure) (place : Place) (sendings : List Sending) (receiver : Reference) (pointer : Option Reference) (arose did_not : Option (List A))
+      → verb_performs procedures performs
+      (map-Statement A B f (record { place = place; verb = verb.Stringing (record { sendings = sendings; receiver = receiver; pointer = pointer; phrases = record { arose = arose; did_not = did_not } }) })).verb
+      ≡ verb_performs procedures (λ a. performs (f a)) (verb.Stringing (record { sendings = sendings; receiver = receiver; pointer = pointer; phrases = record { arose = arose; did_not = did_not } }))
+  strung_map procedures place sendings receiver pointer None None = refl
+  strung_map procedures place sendings receiver pointer (Some inside) None = ap (λ l. l ++ []) (each_map inside)
+  strung_map procedures place sendings receiver pointer None (Some other) = each_map other
+  strung_map procedures place sendings receiver pointer (Some inside) (Some other) =
+      ap (λ l. l ++ each_performs performs (map f other)) (each_map inside)
+      ∙ ap (λ l. each_performs (λ a. performs (f a)) inside ++ l) (each_map other)
+
   pub verb_map : (procedures : List Procedure) (place : Place) (one : Verb A)
       → verb_performs procedures performs (map-Statement A B f (record { place = place; verb = one })).verb ≡ verb_performs procedures (λ a. performs (f a)) one
   verb_map procedures place (verb.Moving one) = refl
@@ -74,6 +87,7 @@ module _ {A B : Type 0} (f : A → B) (performs : B → List Performance) where
   verb_map procedures place (verb.Branching (Evaluate one)) = evaluate_map procedures place one.subjects one.selected one.other
   verb_map procedures place (verb.Performing one) = performing_map procedures place one.turns one.performed
   verb_map procedures place (verb.Text one) = refl
+  verb_map procedures place (verb.Stringing one) = strung_map procedures place one.sendings one.receiver one.pointer one.phrases.arose one.phrases.did_not
   verb_map procedures place (verb.Ending one) = refl
 
 -- one layer of what a statement performs

@@ -28,6 +28,7 @@ use Rattle.source_tree.specs.declared.statement.Statement.TheFolds.{map-Statemen
 use Rattle.source_tree.specs.ArithmeticRules.{operation_rules}
 use Rattle.source_tree.specs.Broken.{Broken, where_so, each}
 use Rattle.source_tree.specs.ConditionRules.{condition_rules}
+use Rattle.source_tree.specs.StringRules.{string_rules}
 use Rattle.source_tree.specs.EvaluateRules.{subject_rules, when_rules, selected_rules}
 use Rattle.source_tree.specs.PerformRules.{procedure_named, last_named, last_place, found_rules, range_rules}
 use Rattle.source_tree.specs.Procedures.{Range, Procedure, paragraphs_or_one, paragraphs_in, paragraph_procedures, procedures_from, procedures_of, is_procedure, procedures_named, only_range, range_named, to_end_of, through, range_of}
@@ -202,6 +203,7 @@ module _ (items_and : Scope) (count : ℕ) (below : AllByRecursion (LiesBelow co
     verb_in_order (verb.Performing one) e =
         performed_in_order one.performed (right_none (turns_rules items_and.items one.turns) (performed_rules procedures all_permitted rules one.performed) e)
     verb_in_order (verb.Text one) e = tt
+    verb_in_order (verb.Stringing one) e = phrases_in_order one.phrases (right_none (string_rules items_and.items one) (phrases_rules rules one.phrases) e)
     verb_in_order (verb.Ending one) e = tt
 
   record KeepsOrder (one : Statement) : Type 0 where

@@ -19,6 +19,7 @@ use Rattle.source_tree.specs.declared.statement.Statement.TheFolds.{map-Statemen
 use Rattle.source_tree.specs.ArithmeticRules.{operation_rules}
 use Rattle.source_tree.specs.Broken.{Broken, where_so, each}
 use Rattle.source_tree.specs.ConditionRules.{condition_rules}
+use Rattle.source_tree.specs.StringRules.{string_rules}
 use Rattle.source_tree.specs.EvaluateRules.{subject_rules, when_rules, selected_rules}
 use Rattle.source_tree.specs.PerformRules.{procedure_named, last_named, last_place, found_rules, range_rules}
 use Rattle.source_tree.specs.Procedures.{Range, range_of}
@@ -109,6 +110,7 @@ module _ (scope : Scope) (permits : Range → Bool) where
     verb_same (verb.Branching one) h = branching_same one h
     verb_same (verb.Performing one) h = ap (λ l. turns_rules scope.items one.turns ++ l) (performed_same one.performed h)
     verb_same (verb.Text one) h = refl
+    verb_same (verb.Stringing one) h = ap (λ l. string_rules scope.items one ++ l) (phrases_same one.phrases h)
     verb_same (verb.Ending one) h = refl
 
   record IsSame (one : Statement) : Type 0 where

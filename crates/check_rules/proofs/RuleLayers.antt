@@ -3,6 +3,8 @@ use Rattle.std.proofs.Common.{◌≡◌, List, [], ◌∷◌, ◌++◌, None, So
 use Rattle.std.specs.Prelude.{Bool, Option, map}
 use Rattle.lexical.specs.declared.place.Place.{Place}
 use Rattle.source_tree.specs.declared.arithmetic.Operation.{Operation}
+use Rattle.source_tree.specs.declared.reference.Reference.{Reference}
+use Rattle.source_tree.specs.declared.stringing.Sending.{Sending}
 use Rattle.source_tree.specs.declared.condition.Condition.{Condition}
 use Rattle.source_tree.specs.declared.branching.Branching.TheVariants.{If, Evaluate}
 use Rattle.source_tree.specs.declared.evaluate.Subject.{Subject}
@@ -18,6 +20,7 @@ use Rattle.source_tree.specs.declared.statement.Statement.TheFolds.{map-Statemen
 use Rattle.source_tree.specs.Broken.{Broken, each}
 use Rattle.source_tree.specs.ArithmeticRules.{operation_rules}
 use Rattle.source_tree.specs.ConditionRules.{condition_rules}
+use Rattle.source_tree.specs.StringRules.{string_rules}
 use Rattle.source_tree.specs.EvaluateRules.{subject_rules, when_rules, selected_rules}
 use Rattle.source_tree.specs.Places.{Placed}
 use Rattle.source_tree.specs.Procedures.{Range}
@@ -63,6 +66,11 @@ module _ {A B : Type 0} (f : A → B) (rules : B → List Broken) where
         ap (λ l. each (subject_rules scope.items) subjects ++ l ++ each rules (map f statements)) (selected_map scope.items subjects selected)
         ∙ ap (λ l. each (subject_rules scope.items) subjects ++ each (selected_rules scope.items (λ a. rules (f a)) subjects) selected ++ l) (each_map statements)
 
+    -- the rules of a STRING in front of its phrases
+    abbrev front_of : List Sending → Reference → Option Reference → List Broken
+    front_of sendings receiver pointer =
+        string_rules scope.items {S = A} (record { sendings = sendings; receiver = receiver; pointer = pointer; phrases = record { arose = None; did_not = None } })
+
     phrases_map : (place : Place) (operation : Operation) (arose did_not : Option (List A))
         → verb_rules scope permits rules
         (map-Statement A B f (record { place = place; verb = verb.Arithmetic (record { operation = operation; phrases = record { arose = arose; did_not = did_not } }) })).verb
@@ -74,6 +82,17 @@ module _ {A B : Type 0} (f : A → B) (rules : B → List Broken) where
         ap (λ l. operation_rules scope.items operation ++ (l ++ each rules (map f other))) (each_map inside)
         ∙ ap (λ l. operation_rules scope.items operation ++ (each (λ a. rules (f a)) inside ++ l)) (each_map other)
 
+    strung_map : (place : Place) (sendings : List Sending) (receiver : Reference) (pointer : Option Reference) (arose did_not : Option (List A))
+        → verb_rules scope permits rules
+        (map-Statement A B f (record { place = place; verb = verb.Stringing (record { sendings = sendings; receiver = receiver; pointer = pointer; phrases = record { arose = arose; did_not = did_not } }) })).verb
+        ≡ verb_rules scope permits (λ a. rules (f a)) (verb.Stringing (record { sendings = sendings; receiver = receiver; pointer = pointer; phrases = record { arose = arose; did_not = did_not } }))
+    strung_map place sendings receiver pointer None None = refl
+    strung_map place sendings receiver pointer (Some inside) None = ap (λ l. front_of sendings receiver pointer ++ (l ++ [])) (each_map inside)
+    strung_map place sendings receiver pointer None (Some other) = ap (λ l. front_of sendings receiver pointer ++ l) (each_map other)
+    strung_map place sendings receiver pointer (Some inside) (Some other) =
+        ap (λ l. front_of sendings receiver pointer ++ (l ++ each rules (map f other))) (each_map inside)
+        ∙ ap (λ l. front_of sendings receiver pointer ++ (each (λ a. rules (f a)) inside ++ l)) (each_map other)
+
     pub verb_map : (place : Place) (one : Verb A)
         → verb_rules scope permits rules (map-Statement A B f (record { place = place; verb = one })).verb ≡ verb_rules scope permits (λ a. rules (f a)) one
     verb_map place (verb.Moving one) = refl
@@ -82,6 +101,7 @@ module _ {A B : Type 0} (f : A → B) (rules : B → List Broken) where
     verb_map place (verb.Branching (Evaluate one)) = evaluate_map place one.subjects one.selected one.other
     verb_map place (verb.Performing one) = performing_map place one.turns one.performed
     verb_map place (verb.Text one) = refl
+    verb_map place (verb.Stringing one) = strung_map place one.sendings one.receiver one.pointer one.phrases.arose one.phrases.did_not
     verb_map place (verb.Ending one) = refl
 
 module _ (scope : Scope) (permits : Range → Bool) where

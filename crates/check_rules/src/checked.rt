@@ -1,6 +1,8 @@
 //! Programs that keep the rules.
 
 ghost use Rattle.std.specs.Prelude.{◌≡◌, [], IfOk, IfErr, OnOk};
+ghost use Rattle.source_tree.specs.EntryRules.{entry_rules};
+ghost use Rattle.source_tree.specs.PerformRules.{procedure_name_rules};
 ghost use Rattle.source_tree.specs.Recursion.{HasOrder};
 ghost use Rattle.source_tree.specs.Rules.{program_rules};
 ghost use Rattle.entry_rules.specs.Checks.{fault_of};
@@ -9,6 +11,7 @@ ghost use Rattle.check_rules.specs.Told.{IsTold};
 
 use crate::declarations::Declarations;
 use crate::procedure::procedure_rules;
+use answers::beside;
 use entry_rules::{CheckError, check_entries};
 use source_tree::Program;
 use std::alloc::Global;
@@ -72,11 +75,30 @@ pub fn check(alloc: Global, program: &Program) -> Result<Checked<'_>, CheckError
     let sections = program.sections.as_slice();
     check_entries(alloc, storage)?;
     let declarations = Declarations::of(alloc, storage, sections)?;
-    declarations.sections_rules(sections)?;
-    procedure_rules(program)?;
-    declarations.recursion_rules(alloc, program)?;
+    let ruled = declarations.procedure_division_rules(alloc, program);
+    let (declarations, ()) = beside(declarations, ruled)?;
     Ok(Checked {
         program,
         declarations,
     })
+}
+
+impl<'a> Declarations<'a> {
+    /// The rules of the statements, 56 and 54, of a program that breaks none before them.
+    fn procedure_division_rules(&self, alloc: Global, program: &Program) -> Result<(), CheckError>
+        requires declared { IsDeclared self.now }
+        requires entries { self.now.entries.now ≡ program.now.storage }
+        requires sections { self.now.sections.now ≡ program.now.sections }
+        requires kept_entries { entry_rules program.now.storage ≡ [] }
+        requires kept_names { procedure_name_rules program.now.sections ≡ [] }
+        ensures kept { OnOk result (program_rules program.now ≡ []) }
+        ensures order { OnOk result (HasOrder program.now) }
+        ensures exact { IfErr result (λ e. IsTold program.now (fault_of e)) }
+    {
+        let sections = program.sections.as_slice();
+        self.sections_rules(sections)?;
+        procedure_rules(program)?;
+        self.recursion_rules(alloc, program)?;
+        Ok(())
+    }
 }

@@ -49,7 +49,7 @@ impl<'a> Declarations<'a> {
     }
 
     /// The name of a condition, which has as many subscripts as its item has dimensions.
-    fn condition_named_rules(&self, one: &Reference) -> Result<(), BrokenRule>
+    pub(crate) fn condition_named_rules(&self, one: &Reference) -> Result<(), BrokenRule>
         requires { IsDeclared self.now }
         ensures { Finds result (condition_named_rules (items_in self.now) one.now) }
     {

@@ -10,6 +10,7 @@ mod declarations;
 mod evaluate;
 mod expression;
 mod forms;
+mod initializing;
 mod looked;
 mod moving;
 mod performs;
@@ -18,8 +19,10 @@ mod procedures;
 mod recursion;
 mod references;
 mod sent;
+mod setting;
 mod sides;
 mod statements;
+mod stringing;
 mod text;
 mod until;
 

@@ -42,7 +42,7 @@ impl<'a> Declarations<'a> {
     }
 
     /// Receivers, of which the same is asked, in order.
-    fn receivers_rules(&self, asked: Asked, all: &[Reference]) -> Result<(), BrokenRule>
+    pub(crate) fn receivers_rules(&self, asked: Asked, all: &[Reference]) -> Result<(), BrokenRule>
         requires { IsDeclared self.now }
         ensures { Finds result (each (names.item_rules (items_in self.now) (asks asked)) all.now) }
     {

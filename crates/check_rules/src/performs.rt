@@ -11,7 +11,7 @@ use crate::declarations::Declarations;
 use perform_order::PerformedRange;
 use source_tree::{
     Arithmetic, Branching, Evaluate, Name, Paragraph, Performed, Performing, Phrases, Place,
-    Section, Selected, Sentence, Statement, Verb,
+    Section, Selected, Sentence, Statement, Stringing, Verb,
 };
 use sqlite_items::Items;
 use std::alloc::{AllocError, Global};
@@ -102,6 +102,15 @@ impl<'a> Declarations<'a> {
             Verb::Branching(Branching::Evaluate(one)) => self.evaluate_performs(number, one, all),
             Verb::Performing(Performing { performed, .. }) => {
                 self.performed_performs(number, performed, all)
+            }
+            Verb::Stringing(
+                Stringing {
+                    phrases: Phrases { arose, did_not },
+                    ..
+                },
+            ) => {
+                self.phrase_performs(number, arose, all)?;
+                self.phrase_performs(number, did_not, all)
             }
             Verb::Moving(_) | Verb::Text(_) | Verb::Ending(_) => Ok(()),
         }

@@ -23,6 +23,8 @@ impl<'a> Declarations<'a> {
     {
         match one {
             Moving::Move { sender, receivers } => self.move_rules(sender, receivers.as_slice()),
+            Moving::Initialize { receivers } => self.initialize_rules(receivers.as_slice()),
+            Moving::Set { conditions } => self.set_rules(conditions.as_slice()),
         }
     }
 
@@ -76,6 +78,11 @@ impl<'a> Declarations<'a> {
                 }
             }
             Verb::Text(text) => self.text_rules(text),
+            Verb::Stringing(stringing) => {
+                self.string_rules(stringing)?;
+                self.phrase_rules(&stringing.phrases.arose)?;
+                self.phrase_rules(&stringing.phrases.did_not)
+            }
             Verb::Ending(_) => Ok(()),
         }
     }

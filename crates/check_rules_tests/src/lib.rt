@@ -29,7 +29,13 @@ mod program_texts;
 #[cfg(test)]
 mod reference_texts;
 #[cfg(test)]
+mod setting_rows;
+#[cfg(test)]
 mod statement_rows;
+#[cfg(test)]
+mod string_rows;
+#[cfg(test)]
+mod string_texts;
 #[cfg(test)]
 mod texts;
 #[cfg(test)]

@@ -3,15 +3,17 @@
 //! an arithmetic statement stand, each behind a `|`, the statement of ON SIZE ERROR and that of NOT ON SIZE ERROR; nothing there
 //! is no phrase. IF stands as `IF SMALL THEN MOVE M N ELSE CONTINUE`, and UNTIL in front of `>`, as `UNTIL SMALL>CONTINUE`. PERFORM of
 //! procedures stands as `PERFORM A` or `PERFORM A THRU B`, and EVALUATE as `EVALUATE M WHEN =1 WHEN =2 THEN MOVE M N OTHER CONTINUE`.
+//! Behind STRING, as `string_texts` has it, stand the statements of its OVERFLOW phrases as those of SIZE ERROR do.
 //! The item before TIMES stands in front of `>`, as `T,2 TIMES>CONTINUE`, and behind procedures, as `PERFORM A THRU B M TIMES`.
 use crate::arithmetic_texts::{cut, operation};
 use crate::condition_texts::{condition, until};
 use crate::evaluate_texts::{subjects, when};
 use crate::reference_texts::{OPERAND, operand, push, reference};
+use crate::string_texts::stringing;
 use crate::texts::{entries, name};
 use source_tree::{
     Arithmetic, Branching, Ending, Evaluate, Moving, Paragraph, Performed, Performing, Phrases,
-    Place, Program, Section, Selected, Sentence, Statement, Text, Turns, Verb,
+    Place, Program, Reference, Section, Selected, Sentence, Statement, Text, Turns, Verb,
 };
 use sqlite_items::Items;
 use std::alloc::Global;
@@ -35,18 +37,30 @@ pub fn alone<T: Drop>(rt: &impl Abort, alloc: Global, one: T) -> Items<T> {
     Items::from_vec(all)
 }
 
+fn references(rt: &impl Abort, alloc: Global, line: u32, words: &str) -> Items<Reference> {
+    let mut all = Vec::new(alloc);
+    for word in words.split_whitespace() {
+        push(rt, &mut all, reference(rt, alloc, line, word));
+    }
+    Items::from_vec(all)
+}
+
 fn moving(rt: &impl Abort, alloc: Global, line: u32, words: &str) -> Moving {
     let (from, to) = words.split_once(' ').unwrap_or((words, ""));
-    let sender = operand(rt, alloc, line, from);
-    let mut receivers = Vec::new(alloc);
-    for word in to.split_whitespace() {
-        let one = reference(rt, alloc, line, word);
-        push(rt, &mut receivers, one);
-    }
     Moving::Move {
-        sender,
-        receivers: Items::from_vec(receivers),
+        sender: operand(rt, alloc, line, from),
+        receivers: references(rt, alloc, line, to),
     }
+}
+
+fn initialize(rt: &impl Abort, alloc: Global, line: u32, words: &str) -> Moving {
+    let receivers = references(rt, alloc, line, words);
+    Moving::Initialize { receivers }
+}
+
+fn set(rt: &impl Abort, alloc: Global, line: u32, words: &str) -> Moving {
+    let conditions = references(rt, alloc, line, words);
+    Moving::Set { conditions }
 }
 
 fn display(rt: &impl Abort, alloc: Global, line: u32, words: &str) -> Text {
@@ -108,6 +122,8 @@ fn plain(rt: &impl Abort, alloc: Global, line: u32, text: &str) -> Statement {
     let (word, words) = text.split_once(' ').unwrap_or((text, ""));
     let verb = match word {
         "MOVE" => Verb::Moving(moving(rt, alloc, line, words)),
+        "INITIALIZE" => Verb::Moving(initialize(rt, alloc, line, words)),
+        "SET" => Verb::Moving(set(rt, alloc, line, words)),
         "DISPLAY" => Verb::Text(display(rt, alloc, line, words)),
         "ACCEPT" => Verb::Text(accept(rt, alloc, line, words)),
         "CONTINUE" => Verb::Ending(Ending::Continue),
@@ -169,6 +185,14 @@ fn evaluate(rt: &impl Abort, alloc: Global, line: u32, text: &str) -> Statement 
     at(line, Verb::Branching(Branching::Evaluate(one)))
 }
 
+fn phrases(rt: &impl Abort, alloc: Global, line: u32, text: &str) -> Phrases<Statement> {
+    let (arose, did_not) = text.split_once('|').unwrap_or((text, ""));
+    Phrases {
+        arose: phrase(rt, alloc, line, arose),
+        did_not: phrase(rt, alloc, line, did_not),
+    }
+}
+
 fn statement(rt: &impl Abort, alloc: Global, line: u32, text: &str) -> Statement {
     if let Some(rest) = text.strip_prefix("IF ") {
         return branching(rt, alloc, line, rest);
@@ -176,15 +200,16 @@ fn statement(rt: &impl Abort, alloc: Global, line: u32, text: &str) -> Statement
     if let Some(rest) = text.strip_prefix("EVALUATE ") {
         return evaluate(rt, alloc, line, rest);
     }
-    let (words, phrases) = text.split_once('|').unwrap_or((text, ""));
+    let (words, behind) = text.split_once('|').unwrap_or((text, ""));
+    if let Some(sent) = words.strip_prefix("STRING ") {
+        let phrases = phrases(rt, alloc, line, behind);
+        let one = stringing(rt, alloc, line, sent, phrases);
+        return at(line, Verb::Stringing(one));
+    }
     let Some(operation) = operation(rt, alloc, line, words) else {
         return plain(rt, alloc, line, text);
     };
-    let (arose, did_not) = phrases.split_once('|').unwrap_or((phrases, ""));
-    let phrases = Phrases {
-        arose: phrase(rt, alloc, line, arose),
-        did_not: phrase(rt, alloc, line, did_not),
-    };
+    let phrases = phrases(rt, alloc, line, behind);
     at(line, Verb::Arithmetic(Arithmetic { operation, phrases }))
 }
 

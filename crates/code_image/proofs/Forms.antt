@@ -6,6 +6,7 @@ use Rattle.std.specs.Cmp.Lexicographic.{same_text}
 use Rattle.std.proofs.lemmas.List.{take-append-drop}
 use Rattle.data_instructions.specs.declared.calculation.Calculation.TheVariants as c
 use Rattle.data_instructions.specs.declared.test.Test.TheVariants as t
+use Rattle.data_instructions.specs.declared.gather.Gather.TheVariants as g
 use Rattle.data_instructions.specs.declared.instruction.DataInstruction.{DataInstruction}
 use Rattle.data_instructions.specs.declared.instruction.DataInstruction.TheVariants as i
 use Rattle.image_tables.specs.declared.fault.ImageFault.TheVariants as faults
@@ -205,6 +206,14 @@ begins_data (i.Test (t.Class one)) rest = refl
 begins_data (i.Test (t.OrEqual literal)) rest = refl
 begins_data (i.Test (t.OrWithin first)) rest = refl
 begins_data (i.Test t.Invert) rest = refl
+begins_data (i.Overlay text) rest = refl
+begins_data i.DropPlace rest = refl
+begins_data (i.Gather g.Bytes) rest = refl
+begins_data (i.Gather g.UpToPlace) rest = refl
+begins_data (i.Gather (g.UpToText delimiter)) rest = refl
+begins_data (i.Gather (g.TextUpToPlace text)) rest = refl
+begins_data (i.String false) rest = refl
+begins_data (i.String true) rest = refl
 
 data_again : (one : DataInstruction) (rest : List ℕ) → HasShorts one → instruction_at (data_instruction_bytes one ++ rest) ≡ Ok (Data one, rest)
 data_again one rest h = begins_data one rest ∙ part_again data_instruction_form one rest (λ one. Ok (Data one.0, one.1)) h

@@ -18,7 +18,8 @@ use Rattle.data_instructions.specs.Scratch.{Step}
 use Rattle.data_instructions.specs.Fits.{Fits, Safe}
 use Rattle.data_instructions.specs.Table.{work, accepted, dated, after_showing}
 use Rattle.data_instructions.specs.Shapes.{empty, showing}
-use Rattle.data_instructions.proofs.Safety.{safe, safe_accept, safe_date, safe_showing}
+use Rattle.data_instructions.proofs.Safety.{safe_accept, safe_date, safe_showing}
+use Rattle.data_instructions.proofs.EachSafety.{safe}
 use Rattle.code_image.specs.declared.code.Code.{Code}
 use Rattle.code_image.specs.declared.counter.CounterIndex.{CounterIndex}
 use Rattle.code_image.specs.declared.paragraph.ParagraphIndex.{ParagraphIndex}

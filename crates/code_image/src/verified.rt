@@ -1,6 +1,6 @@
 //! Code that a machine can run.
 
-ghost use Rattle.std.specs.Prelude.{◌≡◌, ◌-◌, ◌<◌, ◌↔◌, IsTrue, All, length, slice_get, Some, IfOk, IfErr};
+ghost use Rattle.std.specs.Prelude.{◌≡◌, ◌-◌, ◌<◌, ◌↔◌, IsTrue, All, length, slice_get, Some, IfOk, IfErr, OnOk};
 ghost use Rattle.code_image.specs.declared.instruction.Instruction.TheVariants.{Stop};
 ghost use Rattle.code_image.specs.Demands.{IsVerified, IsWithin, HasShape, Blames, NamesData, NamesCounter, NamesParagraph, IsAddress, UsesBudget, IsJoin, LeadsOn, LeadsBack, Leads, AllLead};
 ghost use Rattle.code_image.specs.Paragraphs.{ListsParagraphs};
@@ -183,6 +183,23 @@ fn has_shape(alloc: Global, code: &Code) -> Result<bool, AllocError>
     find_operands(alloc, code)
 }
 
+/// Whether code meets the demands: 72 for its tables, then 73 for what it names, then 74 for its shape.
+fn meets_demands(alloc: Global, code: &Code) -> Result<(), ImageError>
+    ensures verified { OnOk result (IsVerified code.now) }
+    ensures refused { IfErr result (λ e. Blames code.now (fault_of e)) }
+{
+    if !code.tables.are_in_order() {
+        return Err(ImageError::Refused(ImageFault::Value));
+    }
+    if !is_within(code) {
+        return Err(ImageError::Refused(ImageFault::Index));
+    }
+    if !has_shape(alloc, code)? {
+        return Err(ImageError::Refused(ImageFault::Shape));
+    }
+    Ok(())
+}
+
 /// Tests that a machine can run the code: its tables are in order, else 72; each entry that it names, each counter, each code
 /// paragraph and each start of one is an index in its table, else 73; each way leads on behind a `join` that comes later or
 /// back to a `tick` or `perform` before it, in its code paragraph; each code paragraph ends with the `back` of its number and
@@ -193,14 +210,6 @@ pub fn verify(alloc: Global, code: Code) -> Result<Verified, ImageError>
     ensures verified { IfOk result (λ _. IsVerified code) }
     ensures refused { IfErr result (λ e. Blames code (fault_of e)) }
 {
-    if !code.tables.are_in_order() {
-        return Err(ImageError::Refused(ImageFault::Value));
-    }
-    if !is_within(&code) {
-        return Err(ImageError::Refused(ImageFault::Index));
-    }
-    if !has_shape(alloc, &code)? {
-        return Err(ImageError::Refused(ImageFault::Shape));
-    }
+    meets_demands(alloc, &code)?;
     Ok(Verified { code })
 }

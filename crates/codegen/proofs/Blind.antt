@@ -12,22 +12,27 @@ use Rattle.source_tree.specs.declared.expression.Operand.{Operand}
 use Rattle.source_tree.specs.declared.expression.Operand.TheVariants as operand
 use Rattle.source_tree.specs.declared.table.Dimension.{Dimension}
 use Rattle.source_tree.specs.declared.moving.Moving.{Moving}
-use Rattle.source_tree.specs.declared.moving.Moving.TheVariants.{Move}
+use Rattle.source_tree.specs.declared.moving.Moving.TheVariants.{Move, Initialize, Set}
 use Rattle.source_tree.specs.declared.text.Text.{Text}
 use Rattle.source_tree.specs.declared.text.Text.TheVariants.{Display, Accept, AcceptDate}
 use Rattle.source_tree.specs.Display.{shown_literal, line_end}
+use Rattle.source_tree.specs.Initializing.{Pattern}
 use Rattle.source_tree.specs.Integers.{number_of}
 use Rattle.source_tree.specs.Literals.{literal_sender}
+use Rattle.source_tree.specs.LookUp.{all_conditions}
 use Rattle.source_tree.specs.Places.{Placed}
 use Rattle.data_instructions.specs.declared.calculation.Calculation.TheVariants as c
 use Rattle.data_instructions.specs.declared.tables.DataTables.{DataTables}
 use Rattle.data_instructions.specs.declared.instruction.DataInstruction.{DataInstruction}
 use Rattle.data_instructions.specs.declared.instruction.DataInstruction.TheVariants as i
 use Rattle.data_instructions.specs.Codes.{integer, index_code}
+use Rattle.data_instructions.specs.TextCodes.{new_byte, new_mark}
 use Rattle.code_image.specs.declared.code.Code.{Code}
 use Rattle.code_image.specs.declared.instruction.Instruction.TheVariants as instruction
 use Rattle.codegen.specs.Pieces.{Piece, no_tables, nothing, joined_tables, joined, both, in_order, plain}
 use Rattle.codegen.specs.DataCode.{item_number, item_index, dimensions_of, work_piece, works_piece, number_piece, integer_piece, adjustment_piece, text_piece, literal_entry, literal_piece, line_end_piece, show_piece, subscript_piece, subscripts_piece, reference_piece, taking_piece, sender_piece, receivers_piece, operand_piece, operands_piece}
+use Rattle.codegen.specs.ConditionCode.{condition_number, condition_item}
+use Rattle.codegen.specs.PatternCode.{overlay_piece, pattern_piece, pattern_of, set_of, initialize_piece, set_piece}
 use Rattle.codegen.specs.Layout.{moving_piece, texts_piece}
 
 -- Two codes that no piece tells apart: the same tables, and as many instructions.
@@ -90,12 +95,22 @@ number_blind x = tables_blind (λ (t : DataTables). record {
   instructions = instruction.Data (i.Literal (record { number = length t.numbers })) ∷ [];
 })
 
-text_blind : (bytes : List ℕ) → Blind (text_piece bytes)
+pub text_blind : (bytes : List ℕ) → Blind (text_piece bytes)
 text_blind bytes = tables_blind (λ (t : DataTables). record {
   tables = record no_tables { texts = bytes ∷ [] };
   starts = [];
   instructions = instruction.Data (i.AppendLiteral (record { number = length t.texts })) ∷ [];
 })
+
+overlay_blind : (bytes marks : List ℕ) → Blind (overlay_piece bytes marks)
+overlay_blind bytes marks = tables_blind (λ (t : DataTables). record {
+  tables = record no_tables { texts = bytes ∷ marks ∷ [] };
+  starts = [];
+  instructions = instruction.Data (i.Overlay (record { number = length t.texts })) ∷ [];
+})
+
+pattern_blind : (pattern : Pattern) → Blind (pattern_piece pattern)
+pattern_blind pattern = overlay_blind (map new_byte pattern) (map new_mark pattern)
 
 literal_blind : (value : LiteralValue) → Blind (literal_piece value)
 literal_blind value = tables_blind (λ (t : DataTables). record {
@@ -148,10 +163,26 @@ module _ (items : List Placed) where
   operand_blind (operand.Item one) = taking_blind i.Append one
   operand_blind (operand.Literal one) = text_blind (shown_literal one.value)
 
+  initialize_blind : (one : Reference) → Blind (initialize_piece items one)
+  initialize_blind one =
+      let pattern = pattern_of (slice_get items (item_number items one.item)) in
+      both_blind (reference_piece items one) (pattern_piece pattern) (reference_blind one) (pattern_blind pattern)
+
+  set_blind : (one : Reference) → Blind (set_piece items one)
+  set_blind one =
+      let place = i.Place (condition_item items one.item) in
+      let dimensions = dimensions_of (slice_get items (condition_item items one.item).number) in
+      let subscripts = subscripts_piece items dimensions one.subscripts in
+      let pattern = set_of (slice_get (all_conditions items) (condition_number items one.item)) in
+      both_blind (work_piece place) (both subscripts (pattern_piece pattern)) (work_blind place)
+      (both_blind subscripts (pattern_piece pattern) (subscripts_blind dimensions one.subscripts) (pattern_blind pattern))
+
   pub moving_blind : (one : Moving) → Blind (moving_piece items one)
   moving_blind (Move sender receivers) =
       both_blind (sender_piece items sender) (receivers_piece items receivers) (sender_blind sender)
       (in_order_blind (taking_piece items i.Move) (λ one. taking_blind i.Move one) receivers)
+  moving_blind (Initialize receivers) = in_order_blind (initialize_piece items) (λ one. initialize_blind one) receivers
+  moving_blind (Set conditions) = in_order_blind (set_piece items) (λ one. set_blind one) conditions
 
   pub texts_blind : (one : Text) → Blind (texts_piece items one)
   texts_blind (Display operands advancing) =

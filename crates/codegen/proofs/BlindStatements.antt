@@ -30,10 +30,12 @@ use Rattle.codegen.specs.DataCode.{taking_piece}
 use Rattle.codegen.specs.ArithmeticCode.{arithmetic_piece}
 use Rattle.codegen.specs.Meeting.{either_piece, nothing_piece}
 use Rattle.codegen.specs.ConditionCode.{condition_piece}
+use Rattle.codegen.specs.StringCode.{string_piece}
 use Rattle.codegen.specs.UntilCode.{tick_piece, until_piece}
 use Rattle.codegen.specs.Layout.{ending_piece, loop_begin, count_begin, turn_end, counted_turn, times_piece, counted_piece, turns_piece, moving_piece, texts_piece, range_piece, turn_piece, phrase_piece, phrases_from, selecting_piece, branching_piece, verb_piece, statement_piece}
 use Rattle.codegen.proofs.Blind.{Blind, blind_as, constant_blind, count_blind, both_blind, in_order_blind, taking_blind, moving_blind, texts_blind}
 use Rattle.codegen.proofs.BlindArithmetic.{arithmetic_blind}
+use Rattle.codegen.proofs.BlindStrings.{string_blind}
 use Rattle.codegen.proofs.ConditionBlind.{nothing_blind, condition_blind}
 use Rattle.codegen.proofs.Either.{either_blind}
 use Rattle.codegen.proofs.Layers.{verb_map, rolled_is}
@@ -154,6 +156,11 @@ module _ (scope : Scope) where
     verb_blind line (verb.Performing one) =
         turns_blind items line one.turns (turn_piece scope inside line one.performed) (turn_blind line one.performed)
     verb_blind line (verb.Text one) = both_blind (tick_piece line) (texts_piece items one) (tick_blind line) (texts_blind items one)
+    verb_blind line (verb.Stringing one) =
+        let part = string_piece items one.sendings one.receiver one.pointer in
+        let phrases = phrases_from scope inside one.phrases.arose one.phrases.did_not in
+        both_blind (tick_piece line) (both part phrases) (tick_blind line)
+        (both_blind part phrases (string_blind items one.sendings one.receiver one.pointer) (phrases_blind one.phrases.arose one.phrases.did_not))
     verb_blind line (verb.Ending one) = ending_blind line one
 
   -- a statement whose code is so

@@ -260,7 +260,7 @@ module _ (items : List Placed) (whole : Code) (entries : (n : ℕ) (one : Placed
 
   -- ---- DISPLAY
 
-  text_coded : (bytes : List ℕ) (before : Code) → Stands whole before (text_piece bytes before) → Coded (IsTextCode items whole.tables bytes) (text_piece bytes before)
+  pub text_coded : (bytes : List ℕ) (before : Code) → Stands whole before (text_piece bytes before) → Coded (IsTextCode items whole.tables bytes) (text_piece bytes before)
   text_coded bytes before st = record {
     code = i.AppendLiteral (record { number = length before.tables.texts }) ∷ [];
     is = refl;

@@ -150,7 +150,7 @@ module _ (items : List Placed) where
   alone_keeps one a is e = sym (ap (λ (o : Option Operand). side_from items o one) is) ∙ e
 
 -- the only condition name that is named
-only_condition : (place : Place) (rules : NamedCondition → List Broken) (found : List NamedCondition) → named place rules found ≡ []
+pub only_condition : (place : Place) (rules : NamedCondition → List Broken) (found : List NamedCondition) → named place rules found ≡ []
     → (one : NamedCondition) × (found ≡ one ∷ []) × (rules one ≡ [])
 only_condition place rules [] e = absurd cc
 only_condition place rules (one ∷ []) e = (one, refl, e)

@@ -37,6 +37,7 @@ use Rattle.source_tree.specs.Recursion.{Performance, each_performs, phrase_perfo
 use Rattle.source_tree.specs.Setting.{Scope}
 use Rattle.source_tree.specs.Places.{Placed}
 use Rattle.source_tree.specs.Until.{vary_operation}
+use Rattle.source_tree.specs.StringRules.{string_rules}
 use Rattle.source_tree.specs.Rules.{phrase_rules, phrases_rules, performed_rules, turns_rules, branching_rules, verb_rules, statement_rules, sentence_rules}
 use Rattle.data_instructions.specs.declared.instruction.DataInstruction.TheVariants as i
 use Rattle.code_image.specs.declared.code.Code.{Code}
@@ -49,6 +50,7 @@ use Rattle.codegen.specs.Pieces.{Piece, joined, both, in_order}
 use Rattle.codegen.specs.Meeting.{branch_code, either_piece, nothing_piece}
 use Rattle.codegen.specs.DataCode.{work_piece, taking_piece}
 use Rattle.codegen.specs.ArithmeticCode.{arithmetic_piece}
+use Rattle.codegen.specs.StringCode.{string_piece}
 use Rattle.codegen.specs.ConditionCode.{condition_piece}
 use Rattle.codegen.specs.UntilCode.{tick_piece, turning_piece, until_before_piece, until_after_piece, until_from_piece, vary_begin_piece, vary_on_piece, until_piece}
 use Rattle.codegen.specs.Layout.{loop_begin, count_begin, turn_end, counted_turn, times_piece, counted_piece, range_piece, turn_piece, turns_piece, moving_piece, texts_piece, phrase_piece, phrases_from, phrases_piece, selecting_piece, branching_piece, stop_run_piece, verb_piece, statement_piece, sentence_piece}
@@ -62,6 +64,7 @@ use Rattle.codegen.proofs.EvaluateKept.{statements_of, selected_kept, first_grou
 use Rattle.codegen.proofs.BlindStatements.{counted_turn_blind, turn_blind, phrase_blind, selecting_blind, statement_blind}
 use Rattle.codegen.proofs.Straight.{AlwaysStraight, work_straight, taking_straight, moving_straight, texts_straight}
 use Rattle.codegen.proofs.ArithmeticStraight.{arithmetic_straight}
+use Rattle.codegen.proofs.StringStraight.{string_straight}
 use Rattle.codegen.proofs.Leading.{none_end, stays_within, plain_names, Meets, both_meet, nothing_meets, straight_meets, branch_meets, either_meets}
 use Rattle.codegen.proofs.Ranges.{IsWithin, EndsWithin, FoundWithin, range_within}
 use Rattle.codegen.proofs.ConditionValues.{AreFormed}
@@ -449,6 +452,12 @@ module _ (scope : Scope) (permits : Range → Bool) (formed : AreFormed scope.it
         turns_meet Q items formed line one.turns turn (turn_blind scope inside blind line one.performed) often
         (turn_begins scope inside line one.performed) (turn_meets line one.performed performed q)
     verb_meets line (verb.Text one) e q = ticked line (texts_piece items one) (texts_straight items one)
+    verb_meets line (verb.Stringing one) e q =
+        let part = string_piece items one.sendings one.receiver one.pointer in
+        let phrases = phrases_piece scope inside one.phrases in
+        pieces_meet Q (tick_piece line) (both part phrases) (tick_meets Q line)
+        (pieces_meet Q part phrases (λ before. straight_meets Q before (part before) (string_straight items one.sendings one.receiver one.pointer before))
+        (phrases_meet one.phrases.arose one.phrases.did_not (right_none (string_rules items one) (phrases_rules rules one.phrases) e) q))
     verb_meets line (verb.Ending ending.StopRun) e q = stop_meets Q line
     verb_meets line (verb.Ending ending.Continue) e q = tick_meets Q line
     verb_meets line (verb.Ending ending.Exit) e q = tick_meets Q line

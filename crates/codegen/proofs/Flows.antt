@@ -3,7 +3,7 @@ use Rattle.std.proofs.Common.{◌≡◌, ℕ, zero, suc, List, [], ◌∷◌, �
 use Rattle.std.specs.Prelude.{slice_get}
 use Rattle.items.specs.declared.taken.Taken.{Taken}
 use Rattle.source_tree.specs.declared.moving.Moving.{Moving}
-use Rattle.source_tree.specs.declared.moving.Moving.TheVariants.{Move}
+use Rattle.source_tree.specs.declared.moving.Moving.TheVariants.{Move, Initialize, Set}
 use Rattle.source_tree.specs.declared.text.Text.{Text}
 use Rattle.source_tree.specs.declared.text.Text.TheVariants.{Display, Accept, AcceptDate}
 use Rattle.source_tree.specs.declared.reference.Reference.{Reference}
@@ -23,6 +23,7 @@ use Rattle.source_tree.specs.declared.until.TestTime.{TestTime}
 use Rattle.source_tree.specs.declared.until.TestTime.TheVariants.{Before, After}
 use Rattle.source_tree.specs.declared.until.Until as until
 use Rattle.source_tree.specs.declared.until.Varying.{Varying}
+use Rattle.source_tree.specs.declared.stringing.Stringing.{Stringing}
 use Rattle.source_tree.specs.declared.statement.Verb.{Verb}
 use Rattle.source_tree.specs.declared.statement.Verb.TheVariants as verb
 use Rattle.source_tree.specs.declared.statement.Statement.{Statement, roll-Statement}
@@ -42,6 +43,7 @@ use Rattle.source_tree.specs.Performing.{turns_of}
 use Rattle.source_tree.specs.Places.{Placed}
 use Rattle.source_tree.specs.Procedures.{Range, range_of}
 use Rattle.source_tree.specs.Setting.{Scope}
+use Rattle.source_tree.specs.StringRules.{string_rules}
 use Rattle.source_tree.specs.Until.{vary_operation}
 use Rattle.source_tree.specs.Rules.{integer_item, moving_rules, text_rules, phrase_rules, phrases_rules, performed_rules, turns_rules, branching_rules, verb_rules, statement_rules, sentence_rules, paragraph_rules}
 use Rattle.data_instructions.specs.declared.tables.DataTables.{DataTables}
@@ -54,6 +56,7 @@ use Rattle.data_instructions.specs.Chains.{effects, LiesWhole}
 use Rattle.data_instructions.proofs.Chains.{move_known, display_known, accept_known, date_known}
 use Rattle.data_instructions.proofs.Expressions.{value_known}
 use Rattle.data_instructions.proofs.ArithmeticChains.{arithmetic_known}
+use Rattle.data_instructions.proofs.TextChains.{initialize_known, set_known, string_known}
 use Rattle.code_image.specs.declared.code.Code.{Code}
 use Rattle.code_image.specs.declared.instruction.Instruction.{Instruction}
 use Rattle.code_image.specs.declared.instruction.Instruction.TheVariants as instruction
@@ -64,10 +67,13 @@ use Rattle.codegen.specs.Meeting.{branch_code, either_piece, nothing_piece}
 use Rattle.codegen.specs.DataCode.{work_piece, taking_piece, reference_piece, operands_piece, line_end_piece, show_piece}
 use Rattle.codegen.specs.ArithmeticCode.{arithmetic_piece}
 use Rattle.codegen.specs.ConditionCode.{condition_piece}
+use Rattle.codegen.specs.StringCode.{string_piece}
 use Rattle.codegen.specs.UntilCode.{tick_piece, turning_piece, until_before_piece, until_after_piece, until_from_piece, vary_begin_piece, vary_on_piece, until_piece}
 use Rattle.codegen.specs.Layout.{loop_begin, count_begin, turn_end, counted_turn, times_piece, counted_piece, turns_piece, range_piece, turn_piece, moving_piece, texts_piece, phrase_piece, phrases_from, phrases_piece, selecting_piece, branching_piece, verb_piece, statement_piece, sentence_piece, start_piece, back_piece, paragraph_piece}
 use Rattle.codegen.proofs.Codes.{left_none, right_none, taking_coded, move_coded, display_coded, accept_coded, date_coded}
 use Rattle.codegen.proofs.ArithmeticCodes.{arithmetic_coded}
+use Rattle.codegen.proofs.PatternCodes.{initializes_codes, sets_codes, lie_each, lie_conditions}
+use Rattle.codegen.proofs.StringCodes.{string_codes, lies_string}
 use Rattle.codegen.proofs.Lying.{lies_all, shows_all, sends, receives_one, receive_each, lies_operation}
 use Rattle.codegen.proofs.Layers.{verb_map, rolled_is}
 use Rattle.codegen.proofs.Standing.{Stands, front, back}
@@ -121,6 +127,20 @@ module _ (items : List Placed) (whole : Code)
               ∙ known (rest before_it),
         );
       }
+  moving_flows (Initialize receivers) before e st =
+      let coded = (initializes_codes items whole entries receivers e).by before st in
+      let known = initialize_known items whole.tables receivers coded.code coded.holds (lie_each items whole entries lie receivers e) in
+      record {
+        by = λ sender.
+            (sender, ap (λ l. known_along whole.tables l (rest sender)) coded.is ∙ along_data whole.tables coded.code (rest sender) ∙ known (rest sender));
+      }
+  moving_flows (Set conditions) before e st =
+      let coded = (sets_codes items whole entries conditions e).by before st in
+      let known = set_known items whole.tables conditions coded.code coded.holds (lie_conditions items whole entries lie conditions e) in
+      record {
+        by = λ sender.
+            (sender, ap (λ l. known_along whole.tables l (rest sender)) coded.is ∙ along_data whole.tables coded.code (rest sender) ∙ known (rest sender));
+      }
 
   -- a reference's code, and an instruction behind it that takes its place
   placed_flows : (one : Instruction) (part : Code) (code : List DataInstruction) → part.instructions ≡ map instruction.Data code
@@ -172,6 +192,17 @@ module _ (items : List Placed) (whole : Code)
       record {
         by = λ sender.
             (sender, ap (λ l. known_along whole.tables l (rest sender)) coded.is ∙ along_data whole.tables coded.code (rest sender) ∙ known (rest sender));
+      }
+
+  string_flows : {S : Type 0} (one : Stringing S) (before : Code) → string_rules items one ≡ []
+      → Stands whole before (string_piece items one.sendings one.receiver one.pointer before)
+      → Flows whole.tables (string_piece items one.sendings one.receiver one.pointer before)
+  string_flows one before e st =
+      let coded = (string_codes items whole entries one e).by before st in
+      let known = string_known items whole.tables one coded.code coded.holds (lies_string items whole entries lie one e) in
+      record {
+        by = λ sender.
+            (sender, ap (λ l. known_along whole.tables l (rest sender)) coded.is ∙ along_data whole.tables coded.code (rest sender) ∙ known (rest sender) refl);
       }
 
   -- ---- pieces
@@ -419,6 +450,15 @@ module _ (scope : Scope) (permits : Range → Bool) (whole : Code)
         (turn_flows line one.performed performed)
     verb_flows line (verb.Text one) e =
         behind_tick line (texts_piece items one) (record { by = λ before st. texts_flow items whole entries order lie one before e st })
+    verb_flows line (verb.Stringing one) e =
+        let part = string_piece items one.sendings one.receiver one.pointer in
+        let phrases = phrases_piece scope inside one.phrases in
+        let string_keeps = left_none (string_rules items one) (phrases_rules rules one.phrases) e in
+        let phrases_keep = right_none (string_rules items one) (phrases_rules rules one.phrases) e in
+        behind_tick line (both part phrases)
+        (pair_flows part phrases
+        (record { by = λ before st. string_flows items whole entries order lie one before string_keeps st })
+        (phrases_flow one.phrases.arose one.phrases.did_not phrases_keep))
     verb_flows line (verb.Ending ending.StopRun) e = record { by = λ before st. record { by = λ sender. (None, refl) } }
     verb_flows line (verb.Ending ending.Continue) e = record { by = λ before st. record { by = λ sender. (None, refl) } }
     verb_flows line (verb.Ending ending.Exit) e = record { by = λ before st. record { by = λ sender. (None, refl) } }

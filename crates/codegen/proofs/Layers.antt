@@ -7,6 +7,8 @@ use Rattle.source_tree.specs.declared.performing.Performed.{Performed}
 use Rattle.source_tree.specs.declared.performing.Performed.TheVariants.{Procedures, Statements}
 use Rattle.source_tree.specs.declared.performing.Turns.{Turns}
 use Rattle.source_tree.specs.declared.performing.Turns.TheVariants.{Once, Times, CountedBy, Until}
+use Rattle.source_tree.specs.declared.reference.Reference.{Reference}
+use Rattle.source_tree.specs.declared.stringing.Sending.{Sending}
 use Rattle.source_tree.specs.declared.statement.Verb.{Verb}
 use Rattle.source_tree.specs.declared.statement.Verb.TheVariants as verb
 use Rattle.source_tree.specs.declared.statement.Statement.{Statement, out-Statement, roll-Statement}
@@ -31,6 +33,7 @@ use Rattle.data_instructions.specs.declared.instruction.DataInstruction.TheVaria
 use Rattle.codegen.specs.Meeting.{branch_code, either_piece, nothing_piece}
 use Rattle.codegen.specs.DataCode.{work_piece, taking_piece}
 use Rattle.codegen.specs.ConditionCode.{condition_piece}
+use Rattle.codegen.specs.StringCode.{string_piece}
 use Rattle.codegen.specs.UntilCode.{tick_piece, turning_piece, until_from_piece, vary_begin_piece, vary_on_piece, until_piece}
 use Rattle.codegen.specs.Layout.{loop_begin, count_begin, turn_end, counted_turn, times_piece, counted_piece, turns_piece, turn_piece, phrase_piece, phrases_from, selecting_piece, verb_piece, statement_layer, statement_piece}
 use Rattle.codegen.proofs.Either.{either_map}
@@ -142,6 +145,28 @@ module _ (scope : Scope) {A B : Type 0} (f : A → B) (g : B → Piece) where
   calculating_map place operation None (Some other) before = behind_map place.line false operation None (Some other) before
   calculating_map place operation (Some inside) (Some other) before = behind_map place.line true operation (Some inside) (Some other) before
 
+  -- the same behind what STRING stores
+  stored_map : (line : ℕ) (sendings : List Sending) (receiver : Reference) (pointer : Option Reference) (arose did_not : Option (List A)) (before : Code)
+      → both (tick_piece line) (both (string_piece items sendings receiver pointer) (phrases_from scope g (mapped arose) (mapped did_not))) before
+      ≡ both (tick_piece line) (both (string_piece items sendings receiver pointer) (phrases_from scope (λ a. g (f a)) arose did_not)) before
+  stored_map line sendings receiver pointer arose did_not before =
+      let tick = tick_piece line before in
+      let part = string_piece items sendings receiver pointer (joined before tick) in
+      ap (λ (c : Code). joined tick (joined part c)) (phrases_map arose did_not (joined (joined before tick) part))
+
+  -- a STRING with these phrases
+  abbrev strings : {S : Type 0} → List Sending → Reference → Option Reference → Option (List S) → Option (List S) → Verb S
+  strings sendings receiver pointer arose did_not =
+      verb.Stringing (record { sendings = sendings; receiver = receiver; pointer = pointer; phrases = record { arose = arose; did_not = did_not } })
+
+  stringing_map : (place : Place) (sendings : List Sending) (receiver : Reference) (pointer : Option Reference) (arose did_not : Option (List A)) (before : Code)
+      → verb_piece scope g place.line (map-Statement A B f (record { place = place; verb = strings sendings receiver pointer arose did_not })).verb before
+      ≡ verb_piece scope (λ a. g (f a)) place.line (strings sendings receiver pointer arose did_not) before
+  stringing_map place sendings receiver pointer None None before = stored_map place.line sendings receiver pointer None None before
+  stringing_map place sendings receiver pointer (Some inside) None before = stored_map place.line sendings receiver pointer (Some inside) None before
+  stringing_map place sendings receiver pointer None (Some other) before = stored_map place.line sendings receiver pointer None (Some other) before
+  stringing_map place sendings receiver pointer (Some inside) (Some other) before = stored_map place.line sendings receiver pointer (Some inside) (Some other) before
+
   if_map : (place : Place) (condition : Condition) (statements : List A) (otherwise : Option (List A)) (before : Code)
       → verb_piece scope g place.line (map-Statement A B f (record { place = place; verb = verb.Branching (branch.If condition statements otherwise) })).verb before
       ≡ verb_piece scope (λ a. g (f a)) place.line (verb.Branching (branch.If condition statements otherwise)) before
@@ -188,6 +213,7 @@ module _ (scope : Scope) {A B : Type 0} (f : A → B) (g : B → Piece) where
   verb_map place (verb.Branching one) before = branching_map place one before
   verb_map place (verb.Performing one) before = performing_map place one.turns one.performed before
   verb_map place (verb.Text one) before = refl
+  verb_map place (verb.Stringing one) before = stringing_map place one.sendings one.receiver one.pointer one.phrases.arose one.phrases.did_not before
   verb_map place (verb.Ending one) before = refl
 
 -- one layer of a statement's code

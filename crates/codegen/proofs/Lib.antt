@@ -8,6 +8,7 @@ pub mod Layers
 pub mod ConditionForms
 pub mod ConditionBlind
 pub mod UntilBlind
+pub mod BlindStrings
 pub mod BlindStatements
 -- What the code is made from
 pub mod Works
@@ -17,6 +18,7 @@ pub mod Opening
 pub mod ExpressionForms
 pub mod Kept
 pub mod Operations
+pub mod NewBytes
 pub mod Subscripts
 pub mod StorageItems
 pub mod ConditionItems
@@ -36,12 +38,15 @@ pub mod ExpressionLayers
 pub mod ExpressionCodes
 pub mod ArithmeticCodes
 pub mod ConditionCodes
+pub mod PatternCodes
+pub mod StringCodes
 pub mod Running
 -- The machine does what the tree means
 pub mod Doing
 pub mod Ways
 pub mod Evaluating
 pub mod DataDoing
+pub mod TextDoing
 pub mod ConditionDoes
 pub mod Turning
 pub mod Branching
@@ -54,6 +59,7 @@ pub mod ProgramDoes
 pub mod Straight
 pub mod ArithmeticStraight
 pub mod ConditionStraight
+pub mod StringStraight
 pub mod Flowing
 pub mod ConditionFlows
 pub mod Flows

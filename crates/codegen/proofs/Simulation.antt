@@ -10,7 +10,7 @@ use Rattle.source_tree.specs.declared.evaluate.Selected.{Selected}
 use Rattle.source_tree.specs.declared.condition.Condition.{Condition}
 use Rattle.source_tree.specs.declared.moving.Moving.{Moving}
 use Rattle.source_tree.specs.declared.name.Name.{Name}
-use Rattle.source_tree.specs.declared.moving.Moving.TheVariants.{Move}
+use Rattle.source_tree.specs.declared.moving.Moving.TheVariants.{Move, Initialize, Set}
 use Rattle.source_tree.specs.declared.reference.Reference.{Reference}
 use Rattle.source_tree.specs.declared.text.Text.{Text}
 use Rattle.source_tree.specs.declared.text.Text.TheVariants as text
@@ -21,6 +21,7 @@ use Rattle.source_tree.specs.declared.performing.Turns.{Turns}
 use Rattle.source_tree.specs.declared.performing.Turns.TheVariants.{Once, Times, CountedBy, Until}
 use Rattle.source_tree.specs.declared.until.Until as until
 use Rattle.source_tree.specs.declared.until.Varying.{Varying}
+use Rattle.source_tree.specs.declared.stringing.Stringing.{Stringing}
 use Rattle.source_tree.specs.declared.statement.Verb.{Verb}
 use Rattle.source_tree.specs.declared.statement.Verb.TheVariants as verb
 use Rattle.source_tree.specs.Accepting.{next_line, later_lines, accept_line, accept_date}
@@ -33,21 +34,24 @@ use Rattle.source_tree.specs.Conditions.{holds}
 use Rattle.source_tree.specs.Evaluate.{one_of, selected_asked, selecting}
 use Rattle.source_tree.specs.EvaluateRules.{selected_rules}
 use Rattle.source_tree.specs.Evaluated.{Fault, Evaluated, ◌>>=◌}
+use Rattle.source_tree.specs.Initializing.{initialize, set}
 use Rattle.source_tree.specs.MoveRules.{move_rules}
-use Rattle.source_tree.specs.Moving.{taken_of, move_to_each, moving}
+use Rattle.source_tree.specs.Moving.{taken_of, move_to_each}
 use Rattle.source_tree.specs.PerformRules.{procedure_named, last_named, last_place, found_rules, range_rules}
 use Rattle.source_tree.specs.Places.{Placed}
 use Rattle.source_tree.specs.Procedures.{Range, range_of}
 use Rattle.source_tree.specs.Showing.{displayed}
 use Rattle.source_tree.specs.Storage.{Storage}
-use Rattle.source_tree.specs.Rules.{moving_rules, text_rules, phrase_rules, phrases_rules, arithmetic_rules, performed_rules, turns_rules, branching_rules, verb_rules}
+use Rattle.source_tree.specs.StringRules.{string_rules}
+use Rattle.source_tree.specs.Stringing.{string, stringing}
+use Rattle.source_tree.specs.Rules.{moving_rules, text_rules, phrase_rules, phrases_rules, arithmetic_rules, stringing_rules, performed_rules, turns_rules, branching_rules, verb_rules}
 use Rattle.source_tree.specs.State.{State, Outcome, Done, showing, in_turn, spend, with_value, changing}
 use Rattle.source_tree.specs.Setting.{Scope}
 use Rattle.source_tree.specs.Texts.{texts}
 use Rattle.source_tree.specs.Performing.{turns_of, turns_in, turns, performed_range, repeat, body}
 use Rattle.source_tree.specs.Until as meant
 use Rattle.source_tree.specs.Until.{vary_operation, vary_begin, vary_on, until_from}
-use Rattle.source_tree.specs.Meaning.{step}
+use Rattle.source_tree.specs.Meaning.{moving, step}
 use Rattle.source_tree.proofs.Runs.{IsRun, body_runs}
 use Rattle.data_instructions.specs.declared.instruction.DataInstruction.{DataInstruction}
 use Rattle.data_instructions.specs.declared.instruction.DataInstruction.TheVariants as i
@@ -59,6 +63,7 @@ use Rattle.data_instructions.specs.Chains.{LiesWhole}
 use Rattle.data_instructions.specs.Codes.{data_item, go_on, works, IsReferenceCode}
 use Rattle.data_instructions.proofs.Codes.{move_works, display_works, accept_works, date_works}
 use Rattle.data_instructions.proofs.ArithmeticCodes.{arithmetic_works}
+use Rattle.data_instructions.proofs.TextCodes.{initialize_works, set_works, string_works}
 use Rattle.code_image.specs.declared.code.Code.{Code}
 use Rattle.code_image.specs.declared.instruction.Instruction.{Instruction}
 use Rattle.code_image.specs.declared.instruction.Instruction.TheVariants.{Show, Accept, Date}
@@ -67,6 +72,8 @@ use Rattle.code_image.specs.Table.{data_from, exec_code}
 use Rattle.codegen.specs.Pieces.{Piece, nothing, joined, both, in_order, plain}
 use Rattle.codegen.specs.DataCode.{reference_piece, taking_piece, move_piece, operands_piece, line_end_piece, show_piece}
 use Rattle.codegen.specs.ArithmeticCode.{arithmetic_piece}
+use Rattle.codegen.specs.PatternCode.{initializes_piece, sets_piece}
+use Rattle.codegen.specs.StringCode.{string_piece}
 use Rattle.codegen.specs.Meeting.{either_piece}
 use Rattle.codegen.specs.ConditionCode.{condition_piece}
 use Rattle.codegen.specs.UntilCode.{tick_piece, until_from_piece, vary_begin_piece, vary_on_piece, until_piece}
@@ -81,9 +88,12 @@ use Rattle.codegen.proofs.Standing.{Stands, front, back, first_stands, code_stan
 use Rattle.codegen.proofs.Running.{at, one_step, WorksFrom, works_from}
 use Rattle.codegen.proofs.Codes.{left_none, right_none, Coded, move_coded, display_coded, accept_coded, date_coded}
 use Rattle.codegen.proofs.ArithmeticCodes.{arithmetic_coded}
+use Rattle.codegen.proofs.PatternCodes.{initializes_codes, sets_codes}
+use Rattle.codegen.proofs.StringCodes.{string_codes}
 use Rattle.codegen.proofs.Doing.{end_of, Does, PartDoes, Sits, back_sits, IsRoom, still_room, moved, stays, behind, parts_do, tick_part, ticks_alone, ending_does, nothing_does, Follows, in_order_does, Repeats, fewer_does}
 use Rattle.codegen.proofs.Turning.{times_does}
 use Rattle.codegen.proofs.Counting.{said_does}
+use Rattle.codegen.proofs.TextDoing.{changed_does, strung_does}
 use Rattle.codegen.proofs.ConditionDoes.{condition_does}
 use Rattle.codegen.proofs.Evaluating.{evaluated_does}
 use Rattle.codegen.proofs.UntilTurns.{Tests, until_from_does}
@@ -123,6 +133,26 @@ module _ (whole : Code) (kept : ℕ → Type 0) (scope : Scope)
       (λ taken. move_to_each scope.items taken receivers s.storage)
       (subst (WorksFrom whole (end_of before) cs s (length coded.code)) works_as
       (works_from whole coded.code (end_of before) cs s (code_stands whole before part coded.code coded.is st)))
+  moving_does (Initialize receivers) before cs s keep st =
+      let part = initializes_piece scope.items receivers before in
+      let coded = (initializes_codes scope.items whole entries receivers keep).by before st in
+      let works_as = initialize_works scope.items whole.tables order receivers coded.code coded.holds (scratch_of s cs) in
+      let from = end_of before in
+      let to = end_of (joined before part) in
+      changed_does whole kept from to from to cs s (length coded.code) (behind_code whole before part coded.code coded.is)
+      (initialize scope.items receivers s.storage)
+      (subst (WorksFrom whole from cs s (length coded.code)) works_as
+      (works_from whole coded.code from cs s (code_stands whole before part coded.code coded.is st)))
+  moving_does (Set conditions) before cs s keep st =
+      let part = sets_piece scope.items conditions before in
+      let coded = (sets_codes scope.items whole entries conditions keep).by before st in
+      let works_as = set_works scope.items whole.tables order conditions coded.code coded.holds (scratch_of s cs) in
+      let from = end_of before in
+      let to = end_of (joined before part) in
+      changed_does whole kept from to from to cs s (length coded.code) (behind_code whole before part coded.code coded.is)
+      (set scope.items conditions s.storage)
+      (subst (WorksFrom whole from cs s (length coded.code)) works_as
+      (works_from whole coded.code from cs s (code_stands whole before part coded.code coded.is st)))
 
   -- a reference's code, and an instruction behind it that takes its place
   placed_does : (receiver : Reference) (one : Instruction) (before : Code) (cs : Own) (s : State) (lines : List (List ℕ))
@@ -386,6 +416,35 @@ module _ (whole : Code) (kept : ℕ → Type 0) (scope : Scope)
         (phrases_do one.phrases.arose one.phrases.did_not (joined before part) ds t phrases_keep (omega arith)
         (record { counters = room.counters; line = room.line }) (back_sits whole kept before part phrases sits)))
 
+    -- STRING, behind its `tick`
+    strings_do : (one : Stringing S) (before : Code) (cs : Own) (s : State) → stringing_rules scope.items rules one ≡ [] → s.budget < depth
+        → IsRoom whole cs
+        → Sits whole kept before (both (string_piece scope.items one.sendings one.receiver one.pointer) (phrases_piece scope inside one.phrases) before)
+        → PartDoes whole kept before
+        (both (string_piece scope.items one.sendings one.receiver one.pointer) (phrases_piece scope inside one.phrases) before) cs s
+        (stringing scope.items run one s)
+    strings_do one before cs s keep below room sits =
+        let part = string_piece scope.items one.sendings one.receiver one.pointer before in
+        let phrases = phrases_piece scope inside one.phrases (joined before part) in
+        let here = front whole before part phrases sits.stands in
+        let string_keeps = left_none (string_rules scope.items one) (phrases_rules rules one.phrases) keep in
+        let phrases_keep = right_none (string_rules scope.items one) (phrases_rules rules one.phrases) keep in
+        let coded = (string_codes scope.items whole entries one string_keeps).by before here in
+        let works_as = string_works scope.items whole.tables order one coded.code coded.holds (scratch_of s cs) room.line in
+        let from = end_of before in
+        let to = end_of (joined before (joined part phrases)) in
+        strung_does whole kept from to from (end_of (joined before part)) cs s (length coded.code)
+        (behind_code whole before part coded.code coded.is) to
+        (string scope.items one s.storage) (phrase_for run one.phrases)
+        (subst (WorksFrom whole from cs s (length coded.code)) works_as
+        (works_from whole coded.code from cs s (code_stands whole before part coded.code coded.is here)))
+        (λ after.
+        let ds = record cs { truth = after.overflow } in
+        let t : State = record s { storage = after.storage } in
+        behind whole kept before part phrases ds t (phrase_for run one.phrases after.overflow t)
+        (phrases_do one.phrases.arose one.phrases.did_not (joined before part) ds t phrases_keep (omega arith)
+        (record { counters = room.counters; line = room.line }) (back_sits whole kept before part phrases sits)))
+
     each_does : (statements : List S) → each rules statements ≡ [] → Repeats whole kept depth (in_turn run statements) (in_order inside statements)
     each_does statements keep =
         record { by = λ before cs s below room sits. in_order_does whole kept depth rules run inside f statements before cs s keep below room sits }
@@ -482,4 +541,9 @@ module _ (whole : Code) (kept : ℕ → Type 0) (scope : Scope)
         let b = texts_piece scope.items one (joined before a) in
         tick_part whole kept line before b cs s (texts scope.items one) sits.stands
         (λ t lt. texts_do one (joined before a) cs t keep room (back whole before a b sits.stands))
+    verb_does line (verb.Stringing one) before cs s keep le room sits =
+        let a = tick_piece line before in
+        let b = both (string_piece scope.items one.sendings one.receiver one.pointer) (phrases_piece scope inside one.phrases) (joined before a) in
+        tick_part whole kept line before b cs s (stringing scope.items run one) sits.stands
+        (λ t lt. strings_do one (joined before a) cs t keep (omega arith) room (back_sits whole kept before a b sits))
     verb_does line (verb.Ending one) before cs s keep le room sits = ending_does whole kept line before cs s one sits.stands

@@ -13,7 +13,7 @@ use Rattle.source_tree.specs.declared.reference.Subscript.TheVariants as subscri
 use Rattle.source_tree.specs.declared.reference.Reference.{Reference}
 use Rattle.source_tree.specs.declared.table.Dimension.{Dimension}
 use Rattle.source_tree.specs.declared.moving.Moving.{Moving}
-use Rattle.source_tree.specs.declared.moving.Moving.TheVariants.{Move}
+use Rattle.source_tree.specs.declared.moving.Moving.TheVariants.{Move, Initialize, Set}
 use Rattle.source_tree.specs.declared.text.Text.{Text}
 use Rattle.source_tree.specs.declared.text.Text.TheVariants.{Display, Accept, AcceptDate}
 use Rattle.source_tree.specs.Broken.{each}
@@ -22,6 +22,8 @@ use Rattle.source_tree.specs.Integers.{number_of}
 use Rattle.source_tree.specs.MoveRules.{sent_by, receives}
 use Rattle.source_tree.specs.NameRules.{item_rules, operand_rules, form_rule}
 use Rattle.source_tree.specs.Places.{Placed}
+use Rattle.source_tree.specs.Initializing.{Pattern}
+use Rattle.source_tree.specs.LookUp.{all_conditions}
 use Rattle.source_tree.specs.Rules.{moving_rules}
 use Rattle.source_tree.specs.ValueRules.{has_form}
 use Rattle.literals.proofs.Forms.{sender_formed}
@@ -30,11 +32,14 @@ use Rattle.data_instructions.specs.declared.calculation.Calculation.TheVariants 
 use Rattle.data_instructions.specs.declared.instruction.DataInstruction.{DataInstruction}
 use Rattle.data_instructions.specs.declared.instruction.DataInstruction.TheVariants as i
 use Rattle.data_instructions.specs.Codes.{integer, index_code}
+use Rattle.data_instructions.specs.TextCodes.{new_byte, new_mark}
 use Rattle.code_image.specs.declared.code.Code.{Code}
 use Rattle.code_image.specs.declared.instruction.Instruction.{Instruction}
 use Rattle.code_image.specs.declared.instruction.Instruction.TheVariants as instruction
 use Rattle.codegen.specs.Pieces.{Piece, nothing, joined, both, in_order, plain}
 use Rattle.codegen.specs.DataCode.{item_index, item_number, dimensions_of, work_piece, works_piece, number_piece, integer_piece, adjustment_piece, text_piece, line_end_piece, show_piece, subscript_piece, subscripts_piece, reference_piece, taking_piece, sender_piece, receivers_piece, operand_piece, operands_piece}
+use Rattle.codegen.specs.ConditionCode.{condition_number, condition_item}
+use Rattle.codegen.specs.PatternCode.{pattern_piece, pattern_of, set_of, initialize_piece, set_piece}
 use Rattle.codegen.specs.Layout.{moving_piece, texts_piece}
 use Rattle.codegen.proofs.Codes.{left_none}
 use Rattle.codegen.proofs.Integers.{kept, not_false}
@@ -113,8 +118,11 @@ adjustment_straight adjustment.Nothing before = nothing_straight
 adjustment_straight (adjustment.Plus n) before = both_straight (integer_piece (number_of n)) (work_piece (i.Calculate c.Add)) (number_straight (integer (pos (number_of n)))) (work_straight (i.Calculate c.Add)) before
 adjustment_straight (adjustment.Minus n) before = both_straight (integer_piece (number_of n)) (work_piece (i.Calculate c.Subtract)) (number_straight (integer (pos (number_of n)))) (work_straight (i.Calculate c.Subtract)) before
 
-text_straight : (bytes : List ℕ) → AlwaysStraight (text_piece bytes)
+pub text_straight : (bytes : List ℕ) → AlwaysStraight (text_piece bytes)
 text_straight bytes before = record { instructions = (tt, tt); starts = refl; areas = refl; items = refl; senders = tt }
+
+pattern_straight : (pattern : Pattern) → AlwaysStraight (pattern_piece pattern)
+pattern_straight pattern before = record { instructions = (tt, tt); starts = refl; areas = refl; items = refl; senders = tt }
 
 line_end_straight : (advancing : Bool) → AlwaysStraight (line_end_piece advancing)
 line_end_straight true before = text_straight (line_end true) before
@@ -138,7 +146,7 @@ module _ (items : List Placed) where
       both_straight (both (subscript_piece items written) (work_piece (index_code one))) (subscripts_piece items more others)
       (both_straight (subscript_piece items written) (work_piece (index_code one)) (subscript_straight written) (work_straight (index_code one))) (subscripts_straight more others) before
 
-  reference_straight : (one : Reference) → AlwaysStraight (reference_piece items one)
+  pub reference_straight : (one : Reference) → AlwaysStraight (reference_piece items one)
   reference_straight one =
       let dimensions = dimensions_of (slice_get items (item_number items one.item)) in
       both_straight (work_piece (i.Place (item_index items one.item))) (subscripts_piece items dimensions one.subscripts) (work_straight (i.Place (item_index items one.item))) (subscripts_straight dimensions one.subscripts)
@@ -162,10 +170,26 @@ module _ (items : List Placed) where
   operand_straight (operand.Item one) = taking_straight i.Append one
   operand_straight (operand.Literal one) = text_straight (shown_literal one.value)
 
+  initialize_straight : (one : Reference) → AlwaysStraight (initialize_piece items one)
+  initialize_straight one =
+      let pattern = pattern_of (slice_get items (item_number items one.item)) in
+      both_straight (reference_piece items one) (pattern_piece pattern) (reference_straight one) (pattern_straight pattern)
+
+  set_straight : (one : Reference) → AlwaysStraight (set_piece items one)
+  set_straight one =
+      let place = i.Place (condition_item items one.item) in
+      let dimensions = dimensions_of (slice_get items (condition_item items one.item).number) in
+      let subscripts = subscripts_piece items dimensions one.subscripts in
+      let pattern = set_of (slice_get (all_conditions items) (condition_number items one.item)) in
+      both_straight (work_piece place) (both subscripts (pattern_piece pattern)) (work_straight place)
+      (both_straight subscripts (pattern_piece pattern) (subscripts_straight dimensions one.subscripts) (pattern_straight pattern))
+
   pub moving_straight : (one : Moving) → moving_rules items one ≡ [] → AlwaysStraight (moving_piece items one)
   moving_straight (Move sender receivers) e =
       both_straight (sender_piece items sender) (receivers_piece items receivers)
       (sender_straight sender (left_none (operand_rules items sender) (each (item_rules items (receives (sent_by items sender))) receivers) e)) (in_order_straight (taking_piece items i.Move) (taking_straight i.Move) receivers)
+  moving_straight (Initialize receivers) e = in_order_straight (initialize_piece items) initialize_straight receivers
+  moving_straight (Set conditions) e = in_order_straight (set_piece items) set_straight conditions
 
   pub texts_straight : (one : Text) → AlwaysStraight (texts_piece items one)
   texts_straight (Display operands advancing) =

@@ -2,7 +2,7 @@
 use Rattle.std.proofs.Common.{◌≡◌, ℕ, zero, suc, ◌+◌, ◌-◌, ◌*◌, ◌≤◌, List, [], ◌∷◌, ◌++◌, length, map, Option, Some, None, refl, sym, ap, ◌∙◌, subst, inl, arith, length-append, All}
 use Rattle.std.specs.List.{AllByRecursion}
 use Rattle.std.specs.Prelude.{Bool, slice_get, slice_index}
-use Rattle.std.proofs.lemmas.Option.{slice_get_within, get_or_from_slice_get, same_Some}
+use Rattle.std.proofs.lemmas.Option.{slice_get_within, same_Some}
 use Rattle.std.proofs.lemmas.List.{append-nil}
 use Rattle.std.proofs.lemmas.List.Elements.{All-from_recursion, recursion_from_All}
 use Rattle.picture.specs.declared.picture.Picture.{Picture}
@@ -29,6 +29,7 @@ use Rattle.initial_storage.proofs.Areas.{small_areas, items_lie}
 use Rattle.initial_storage.proofs.Formed.{all_formed}
 use Rattle.data_instructions.specs.declared.tables.DataTables.{DataTables}
 use Rattle.data_instructions.specs.declared.shape.Shape.{Shape}
+use Rattle.data_instructions.specs.declared.gather.Gather.TheVariants as g
 use Rattle.data_instructions.specs.declared.instruction.DataInstruction.{DataInstruction}
 use Rattle.data_instructions.specs.declared.test.Test.TheVariants as t
 use Rattle.data_instructions.specs.declared.instruction.DataInstruction.TheVariants as i
@@ -49,6 +50,7 @@ use Rattle.codegen.proofs.Standing.{Stands, at_seam}
 use Rattle.codegen.proofs.Flowing.{along_append}
 use Rattle.codegen.proofs.ConditionValues.{conditions_formed}
 use Rattle.codegen.proofs.Codes.{left_none, right_none}
+use Rattle.codegen.proofs.NewBytes.{all_at}
 use Rattle.codegen.proofs.Pieces.{flat}
 use Rattle.codegen.proofs.Straight.{all_both, IsSent}
 use Rattle.codegen.proofs.Leading.{all_weaker, more_counters, all_lead, both_lead, all_stay, Names}
@@ -56,9 +58,6 @@ use Rattle.codegen.proofs.Ranges.{EndsWithin, procedures_end}
 use Rattle.codegen.proofs.Paragraphs.{performed_append, starts_stay, start_at, starts_within, AreParagraphs, paragraphs_lie}
 use Rattle.codegen.proofs.Flowing.{Flows}
 use Rattle.codegen.proofs.Flows.{paragraphs_flows}
-
-all_at : {A : Type 0} (P : A → Type 0) (xs : List A) → All P xs → (k : ℕ) (x : A) → slice_get xs k ≡ Some x → P x
-all_at P xs all k x here = subst P (get_or_from_slice_get xs k x x here) (all k x (slice_get_within xs k x here))
 
 each_at : {A : Type 0} (P : A → Type 0) (xs : List A) → AllByRecursion P xs → (k : ℕ) (x : A) → slice_get xs k ≡ Some x → P x
 each_at P [] all k x here = absurd cc
@@ -116,6 +115,20 @@ named_by tables i.VoidIfTrue s after e = tt
 named_by tables i.Take s after e = tt
 named_by tables i.Move s after e = tt
 named_by tables i.Append s after e = tt
+named_by tables (i.Overlay text) s after e =
+    let front = and_then_some (slice_get tables.texts text.number) _ after.stacks (parts tables (i.Overlay text) s after e).0 in
+    let found = and_then_some (slice_get tables.texts (text.number + 1)) _ after.stacks front.2 in
+    slice_get_within tables.texts (text.number + 1) found.0 found.1
+named_by tables i.DropPlace s after e = tt
+named_by tables (i.Gather g.Bytes) s after e = tt
+named_by tables (i.Gather g.UpToPlace) s after e = tt
+named_by tables (i.Gather (g.UpToText delimiter)) s after e =
+    let found = and_then_some (slice_get tables.texts delimiter.number) _ after.stacks (parts tables (i.Gather (g.UpToText delimiter)) s after e).0 in
+    slice_get_within tables.texts delimiter.number found.0 found.1
+named_by tables (i.Gather (g.TextUpToPlace text)) s after e =
+    let found = and_then_some (slice_get tables.texts text.number) _ after.stacks (parts tables (i.Gather (g.TextUpToPlace text)) s after e).0 in
+    slice_get_within tables.texts text.number found.0 found.1
+named_by tables (i.String pointer) s after e = tt
 
 named_after : (tables : DataTables) (one : Instruction) (s after : Shape) → known_after tables one s ≡ Some after → NamesData tables one
 named_after tables (Data one) s after e = named_by tables one s after e

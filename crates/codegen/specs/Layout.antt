@@ -2,7 +2,7 @@
 use Rattle.std.specs.Prelude.{ℕ, zero, suc, List, [], ◌∷◌, length, map, Option, Some, None}
 use Rattle.source_tree.specs.declared.entry.Entry.{Entry}
 use Rattle.source_tree.specs.declared.moving.Moving.{Moving}
-use Rattle.source_tree.specs.declared.moving.Moving.TheVariants.{Move}
+use Rattle.source_tree.specs.declared.moving.Moving.TheVariants.{Move, Initialize, Set}
 use Rattle.source_tree.specs.declared.text.Text.{Text}
 use Rattle.source_tree.specs.declared.text.Text.TheVariants.{Display, Accept, AcceptDate}
 use Rattle.source_tree.specs.declared.phrases.Phrases.{Phrases}
@@ -18,6 +18,7 @@ use Rattle.source_tree.specs.declared.performing.Performed.TheVariants.{Procedur
 use Rattle.source_tree.specs.declared.performing.Turns.{Turns}
 use Rattle.source_tree.specs.declared.performing.Turns.TheVariants.{Once, Times, CountedBy, Until}
 use Rattle.source_tree.specs.declared.performing.Performing.{Performing}
+use Rattle.source_tree.specs.declared.stringing.Stringing.{Stringing}
 use Rattle.source_tree.specs.declared.statement.Verb.{Verb}
 use Rattle.source_tree.specs.declared.statement.Verb.TheVariants as verb
 use Rattle.source_tree.specs.declared.statement.Statement.{Statement}
@@ -44,6 +45,8 @@ use Rattle.source_tree.specs.Arithmetic.{is_there}
 use Rattle.codegen.specs.DataCode.{taking_piece, move_piece, display_piece, accept_piece, date_piece}
 use Rattle.codegen.specs.ArithmeticCode.{arithmetic_piece}
 use Rattle.codegen.specs.ConditionCode.{condition_piece}
+use Rattle.codegen.specs.PatternCode.{initializes_piece, sets_piece}
+use Rattle.codegen.specs.StringCode.{string_piece}
 use Rattle.codegen.specs.UntilCode.{tick_piece, until_piece}
 
 abbrev pub stop_run_piece : ℕ → Piece
@@ -94,6 +97,8 @@ range_piece line (Some range) before = plain (Perform line (record { number = ra
 
 abbrev pub moving_piece : List Placed → Moving → Piece
 moving_piece items (Move sender receivers) = move_piece items sender receivers
+moving_piece items (Initialize receivers) = initializes_piece items receivers
+moving_piece items (Set conditions) = sets_piece items conditions
 
 abbrev pub texts_piece : List Placed → Text → Piece
 texts_piece items (Display operands advancing) = display_piece items operands advancing
@@ -127,6 +132,10 @@ module _ (scope : Scope) {S : Type 0} (inside : S → Piece) where
   calculating_piece line one =
       both (tick_piece line) (both (arithmetic_piece scope.items (is_there one.phrases.arose) one.operation) (phrases_piece one.phrases))
 
+  abbrev pub stringing_piece : ℕ → Stringing S → Piece
+  stringing_piece line one =
+      both (tick_piece line) (both (string_piece scope.items one.sendings one.receiver one.pointer) (phrases_piece one.phrases))
+
   -- The condition of each group of WHENs in turn, and its statements where it is true; those of OTHER behind the last one.
   abbrev pub selecting_piece : List Subject → List (Selected S) → Option (List S) → Piece
   selecting_piece subjects [] other = phrase_piece other
@@ -146,6 +155,7 @@ module _ (scope : Scope) {S : Type 0} (inside : S → Piece) where
   verb_piece line (verb.Branching one) = branching_piece line one
   verb_piece line (verb.Performing one) = performing_piece line one
   verb_piece line (verb.Text one) = both (tick_piece line) (texts_piece scope.items one)
+  verb_piece line (verb.Stringing one) = stringing_piece line one
   verb_piece line (verb.Ending one) = ending_piece line one
 
 module _ (scope : Scope) where

@@ -3,6 +3,8 @@ pub mod Meeting
 pub mod DataCode
 pub mod ArithmeticCode
 pub mod ConditionCode
+pub mod PatternCode
+pub mod StringCode
 pub mod UntilCode
 pub mod Operations
 pub mod Layout

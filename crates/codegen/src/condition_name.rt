@@ -44,7 +44,7 @@ fn emit_values(alloc: Global, code: &mut Code, all: &[ValueRange]) -> Result<(),
 
 impl<'a> Emitter<'a> {
     /// The number of the condition name that a name names.
-    fn condition_number(&self, name: &QualifiedName) -> usize
+    pub(crate) fn condition_number(&self, name: &QualifiedName) -> usize
         requires { IsDeclared self.now.declarations.now }
         ensures { result ≡ spec.condition_number (items_in self.now.declarations.now) name.now }
     {
@@ -55,7 +55,7 @@ impl<'a> Emitter<'a> {
     }
 
     /// The item of the condition name that a name names.
-    fn condition_item(&self, name: &QualifiedName) -> Result<ItemIndex, AllocError>
+    pub(crate) fn condition_item(&self, name: &QualifiedName) -> Result<ItemIndex, AllocError>
         requires { IsDeclared self.now.declarations.now }
         ensures { IfOk result (λ index. index ≡ spec.condition_item (items_in self.now.declarations.now) name.now) }
     {
@@ -69,7 +69,7 @@ impl<'a> Emitter<'a> {
     }
 
     /// The values of the condition name that a name names.
-    fn values_named(&self, name: &QualifiedName) -> &[ValueRange]
+    pub(crate) fn values_named(&self, name: &QualifiedName) -> &[ValueRange]
         requires { IsDeclared self.now.declarations.now }
         ensures { result.now ≡ spec.values_named (items_in self.now.declarations.now) name.now }
     {

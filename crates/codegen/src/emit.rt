@@ -85,6 +85,7 @@ impl<'a> Emitter<'a> {
     /// A statement that moves, with its `tick`.
     fn emit_moving(&self, code: &mut Code, line: u32, one: &Moving) -> Result<(), AllocError>
         requires declared { IsDeclared self.now.declarations.now }
+        requires entries { entry_rules self.now.declarations.now.entries.now ≡ [] }
         requires rules { rules.moving_rules (items_in self.now.declarations.now) one.now ≡ [] }
         ensures { OnOk result (code.new ≡ joined code.old (both (tick_piece line) (moving_piece (items_in self.now.declarations.now) one.now) code.old)) }
     {
@@ -93,6 +94,8 @@ impl<'a> Emitter<'a> {
             Moving::Move { sender, receivers } => {
                 self.emit_move(code, sender, receivers.as_slice())
             }
+            Moving::Initialize { receivers } => self.emit_initializes(code, receivers.as_slice()),
+            Moving::Set { conditions } => self.emit_sets(code, conditions.as_slice()),
         }
     }
 
@@ -129,6 +132,7 @@ impl<'a> Emitter<'a> {
             Verb::Branching(branching) => self.emit_branching(code, line, branching),
             Verb::Performing(performing) => self.emit_performing(code, line, performing),
             Verb::Text(text) => self.emit_texts(code, line, text),
+            Verb::Stringing(stringing) => self.emit_stringing(code, line, stringing),
             Verb::Ending(ending) => emit_ending(code, line, *ending),
         }
     }
@@ -155,7 +159,11 @@ impl<'a> Emitter<'a> {
 
     /// The phrases, where one stands.
     #[cycle(statement)]
-    fn emit_phrases(&self, code: &mut Code, one: &Phrases<Statement>) -> Result<(), AllocError>
+    pub(crate) fn emit_phrases(
+        &self,
+        code: &mut Code,
+        one: &Phrases<Statement>,
+    ) -> Result<(), AllocError>
         requires declared { IsDeclared self.now.declarations.now }
         requires entries { entry_rules self.now.declarations.now.entries.now ≡ [] }
         requires arose { rules.phrase_rules (rules.statement_rules (scope_in self.now.declarations.now) all_permitted) one.now.arose ≡ [] }

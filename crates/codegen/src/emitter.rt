@@ -44,7 +44,7 @@ fn scale_kept(one: &PlacedItem) -> u8
 
 impl<'a> Emitter<'a> {
     /// The number of the item that a name names.
-    fn item_number(&self, name: &QualifiedName) -> usize
+    pub(crate) fn item_number(&self, name: &QualifiedName) -> usize
         requires { IsDeclared self.now.declarations.now }
         ensures { result ≡ spec.item_number (items_in self.now.declarations.now) name.now }
     {

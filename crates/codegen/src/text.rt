@@ -15,7 +15,7 @@ use sqlite_items::Items;
 use std::alloc::{AllocError, Global};
 
 /// A text, added to the line.
-fn emit_text(code: &mut Code, bytes: Items<u8>) -> Result<(), AllocError>
+pub(crate) fn emit_text(code: &mut Code, bytes: Items<u8>) -> Result<(), AllocError>
     ensures { OnOk result (code.new ≡ joined code.old (spec.text_piece bytes code.old)) }
 {
     let number = entry_number(code.tables.texts.len())?;

@@ -119,7 +119,7 @@ module _ (items : List Placed) (tables : DataTables) where
       ∙ index_known one index found reach entry (nearer (data_item found) (last_reach reach one.stride one.count) (greatest (last_reach reach one.stride one.count) more) (further (last_reach reach one.stride one.count) more) lies) back s
       ∙ subscripts_known more others back is_back index found (last_reach reach one.stride one.count) entry lies s
 
-  reference_known : (reference : Reference) (code : List DataInstruction) (r : IsReferenceCode items tables reference code) → LiesAll items tables reference → (s : Shape) → effects tables code s ≡ Some (at r.index (greatest r.found.offset r.found.dimensions) s)
+  pub reference_known : (reference : Reference) (code : List DataInstruction) (r : IsReferenceCode items tables reference code) → LiesAll items tables reference → (s : Shape) → effects tables code s ≡ Some (at r.index (greatest r.found.offset r.found.dimensions) s)
   reference_known reference code r lies s =
       ap (λ c. effects tables c s) r.is
       ∙ place_known r.index r.found r.has.entry r.subscripts s
@@ -163,19 +163,19 @@ module _ (items : List Placed) (tables : DataTables) where
       ∙ ap (λ o. and_then o (effects tables back)) (sender_known sender front is_front sent sends s)
       ∙ receivers_known receivers back is_back sent may s
 
-  text_known : (bytes : List ℕ) (code : List DataInstruction) → IsTextCode items tables bytes code → (s : Shape) → effects tables code s ≡ Some (record s { line = s.line + length bytes })
+  pub text_known : (bytes : List ℕ) (code : List DataInstruction) → IsTextCode items tables bytes code → (s : Shape) → effects tables code s ≡ Some (record s { line = s.line + length bytes })
   text_known bytes code (index, here, is) s =
       ap (λ c. effects tables c s) is
       ∙ ap (λ o. and_then (shape_with (Some s.stacks) (and_then o (λ text. Some (s.line + length text))) (Some s.sender)) (effects tables [])) here
 
   -- one part after another, each of which makes the line longer
-  longer : (front back : List DataInstruction) → KnowsDisplay items tables front → KnowsDisplay items tables back → KnowsDisplay items tables (front ++ back)
+  pub longer : (front back : List DataInstruction) → KnowsDisplay items tables front → KnowsDisplay items tables back → KnowsDisplay items tables (front ++ back)
   longer front back one other s =
       let first = one s in
       let second = other (record s { line = first.0 }) in
       (second.0, effects_append tables front back s ∙ ap (λ o. and_then o (effects tables back)) first.1 ∙ second.1)
 
-  as_it_is : (code other : List DataInstruction) → code ≡ other → KnowsDisplay items tables other → KnowsDisplay items tables code
+  pub as_it_is : (code other : List DataInstruction) → code ≡ other → KnowsDisplay items tables other → KnowsDisplay items tables code
   as_it_is code other is known s = let k = known s in (k.0, ap (λ c. effects tables c s) is ∙ k.1)
 
   operand_known : (one : Operand) (code : List DataInstruction) → IsOperandCode items tables one code → ShowsAll items tables (one ∷ []) → KnowsDisplay items tables code

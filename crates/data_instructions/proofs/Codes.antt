@@ -162,12 +162,12 @@ module _ (items : List Placed) (tables : DataTables) (order : IsTables tables) w
       found_bytes : Evaluated ℕ
       found_bytes = tree.bytes_before items r.found.dimensions reference.subscripts s.storage
 
-  nothing_more : (step : Step) → go_on step (works tables []) ≡ step
+  pub nothing_more : (step : Step) → go_on step (works tables []) ≡ step
   nothing_more (Went s) = refl
   nothing_more (Faulted fault) = refl
   nothing_more Stuck = refl
 
-  go_same : (step : Step) (f g : Scratch → Step) → ((s : Scratch) → f s ≡ g s) → go_on step f ≡ go_on step g
+  pub go_same : (step : Step) (f g : Scratch → Step) → ((s : Scratch) → f s ≡ g s) → go_on step f ≡ go_on step g
   go_same (Went s) f g same = same s
   go_same (Faulted fault) f g same = refl
   go_same Stuck f g same = refl
@@ -222,7 +222,7 @@ module _ (items : List Placed) (tables : DataTables) (order : IsTables tables) w
       ∙ go_with (taken_of items sender s.storage) (λ taken. Went (record s { sender = Some taken })) (works tables back)
       ∙ with_same (taken_of items sender s.storage) _ _ (λ taken. receivers_works receivers back is_back taken s)
 
-  text_works : (bytes : List ℕ) (code : List DataInstruction) → IsTextCode items tables bytes code → (s : Scratch) → works tables code s ≡ Went (record s { line = s.line ++ bytes })
+  pub text_works : (bytes : List ℕ) (code : List DataInstruction) → IsTextCode items tables bytes code → (s : Scratch) → works tables code s ≡ Went (record s { line = s.line ++ bytes })
   text_works bytes code (index, here, is) s =
       ap (λ c. works tables c s) is ∙ nothing_more (work tables (i.AppendLiteral index) s) ∙ ap (λ o. step_at o (λ text. appended text s)) here
 

@@ -3,6 +3,8 @@ pub mod Known
 pub mod Lengths
 pub mod Calculations
 pub mod Safety
+pub mod TextSafety
+pub mod EachSafety
 pub mod Entries
 pub mod Integers
 pub mod Codes
@@ -12,5 +14,8 @@ pub mod ArithmeticCodes
 pub mod ArithmeticChains
 pub mod Conditions
 pub mod ConditionChains
+pub mod TextCodes
+pub mod TextChains
 mod Examples
 mod ConditionExamples
+mod TextExamples

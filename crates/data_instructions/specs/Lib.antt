@@ -11,3 +11,4 @@ pub mod Statements
 pub mod Chains
 pub mod ArithmeticCodes
 pub mod ConditionCodes
+pub mod TextCodes

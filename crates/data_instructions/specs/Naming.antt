@@ -3,6 +3,8 @@ use Rattle.std.specs.Prelude.{◌<◌, ◌+◌, length}
 use Rattle.data_instructions.specs.declared.test.Test.{Test}
 use Rattle.data_instructions.specs.declared.test.Test.TheVariants as test
 use Rattle.data_instructions.specs.declared.tables.DataTables.{DataTables}
+use Rattle.data_instructions.specs.declared.gather.Gather.{Gather}
+use Rattle.data_instructions.specs.declared.gather.Gather.TheVariants as gather
 use Rattle.data_instructions.specs.declared.instruction.DataInstruction.{DataInstruction}
 use Rattle.data_instructions.specs.declared.instruction.DataInstruction.TheVariants as i
 
@@ -11,6 +13,11 @@ TestsEntries tables (test.CompareLiteral one literal) = literal.number < length 
 TestsEntries tables (test.OrEqual literal) = literal.number < length tables.senders
 TestsEntries tables (test.OrWithin first) = first.number + 1 < length tables.senders
 TestsEntries tables _ = Unit {0}
+
+abbrev pub GathersEntries : DataTables → Gather → Type 0
+GathersEntries tables (gather.UpToText delimiter) = delimiter.number < length tables.texts
+GathersEntries tables (gather.TextUpToPlace text) = text.number < length tables.texts
+GathersEntries tables _ = Unit {0}
 
 -- each entry that it names is there
 abbrev pub NamesEntries : DataTables → DataInstruction → Type 0
@@ -28,3 +35,7 @@ NamesEntries tables i.VoidIfTrue = Unit {0}
 NamesEntries tables i.Take = Unit {0}
 NamesEntries tables i.Move = Unit {0}
 NamesEntries tables i.Append = Unit {0}
+NamesEntries tables (i.Overlay text) = text.number + 1 < length tables.texts
+NamesEntries tables i.DropPlace = Unit {0}
+NamesEntries tables (i.Gather one) = GathersEntries tables one
+NamesEntries tables (i.String pointer) = Unit {0}

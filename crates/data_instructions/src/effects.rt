@@ -7,7 +7,8 @@ ghost use Rattle.source_tree.specs.MoveRules as rules;
 ghost use Rattle.data_instructions.specs.Shapes as spec;
 
 use crate::calculation::Calculation;
-use crate::index::ItemIndex;
+use crate::gather::Gather;
+use crate::index::{ItemIndex, TextIndex};
 use crate::instruction::DataInstruction;
 use crate::shape::{PlaceShape, Shape, Stacks};
 use crate::tables::{DataItem, DataTables};
@@ -222,6 +223,64 @@ fn stacks_tested(one: Test, stacks: Stacks) -> Option<Stacks>
     }
 }
 
+/// What is known, where a text of the table is there.
+fn with_text(tables: &DataTables, number: usize, rest: Option<Stacks>) -> Option<Stacks>
+    ensures { result ≡ spec.with_text tables.now number rest }
+{
+    if number < tables.texts.len() {
+        rest
+    } else {
+        None
+    }
+}
+
+/// The stacks, where there is a newest place, which stays.
+fn beside_place(stacks: Stacks) -> Option<Stacks>
+    ensures { result ≡ spec.beside_place stacks }
+{
+    if stacks.places.is_empty() {
+        None
+    } else {
+        Some(stacks)
+    }
+}
+
+/// The stacks after a part was gathered.
+fn stacks_gathered(tables: &DataTables, one: Gather, stacks: Stacks) -> Option<Stacks>
+    ensures { result ≡ spec.stacks_gathered tables.now one stacks }
+{
+    match one {
+        Gather::Bytes => without_place(stacks),
+        Gather::UpToPlace => beside_place(without_place(stacks)?),
+        Gather::UpToText { delimiter } => {
+            with_text(tables, delimiter.number as usize, without_place(stacks))
+        }
+        Gather::TextUpToPlace { text } => {
+            with_text(tables, text.number as usize, beside_place(stacks))
+        }
+    }
+}
+
+/// The stacks without the places of STRING's pointer, if there is one, and receiver.
+fn without_receiver(pointer: bool, stacks: Stacks) -> Option<Stacks>
+    ensures { result ≡ spec.without_receiver pointer stacks }
+{
+    if pointer {
+        without_place(without_place(stacks)?)
+    } else {
+        without_place(stacks)
+    }
+}
+
+/// The stacks after bytes were laid over others, where both texts are there.
+fn stacks_overlaid(tables: &DataTables, text: TextIndex, stacks: Stacks) -> Option<Stacks>
+    ensures { result ≡ spec.with_text tables.now text.number (spec.with_text tables.now (text.number + 1) (spec.without_place stacks)) }
+{
+    let text = text.number as usize;
+    let rest = without_place(stacks);
+    with_text(tables, text, with_text(tables, text + 1, rest))
+}
+
 /// The stacks after an instruction.
 fn stacks_after(
     tables: &DataTables,
@@ -245,9 +304,13 @@ fn stacks_after(
         DataInstruction::Store { .. } => Ok(storing(stacks)),
         DataInstruction::Test(test) => Ok(stacks_tested(test, stacks)),
         DataInstruction::VoidIfTrue => and_one_of(without(1, stacks)),
-        DataInstruction::Take | DataInstruction::Move | DataInstruction::Append => {
-            Ok(without_place(stacks))
-        }
+        DataInstruction::Take
+        | DataInstruction::Move
+        | DataInstruction::Append
+        | DataInstruction::DropPlace => Ok(without_place(stacks)),
+        DataInstruction::Overlay { text } => { Ok(stacks_overlaid(tables, text, stacks)) }
+        DataInstruction::Gather(one) => Ok(stacks_gathered(tables, one, stacks)),
+        DataInstruction::String { pointer } => Ok(without_receiver(pointer, stacks)),
         DataInstruction::ClearTruth
         | DataInstruction::TakeLiteral { .. }
         | DataInstruction::AppendLiteral { .. } => Ok(Some(stacks)),
@@ -261,6 +324,34 @@ fn longer(line: usize, more: usize) -> Result<Option<usize>, AllocError>
     match line.checked_add(more) {
         Some(line) => Ok(Some(line)),
         None => Err(AllocError),
+    }
+}
+
+/// A line with the bytes of the newest place more.
+fn longer_by_item(
+    tables: &DataTables,
+    newest: Option<PlaceShape>,
+    line: usize,
+) -> Result<Option<usize>, AllocError>
+    ensures { IfOk result (λ after. after ≡ spec.longer_by_item tables.now newest line) }
+{
+    match item_at(tables, newest) {
+        Some(one) => longer(line, one.item.length as usize),
+        None => Ok(None),
+    }
+}
+
+/// A line with a text more.
+fn longer_by_text(
+    tables: &DataTables,
+    text: usize,
+    line: usize,
+) -> Result<Option<usize>, AllocError>
+    ensures { IfOk result (λ after. after ≡ spec.and_then (slice_get tables.now.texts text) (λ bytes. Some (line + length bytes))) }
+{
+    match tables.texts.get(text) {
+        Some(bytes) => longer(line, bytes.len()),
+        None => Ok(None),
     }
 }
 
@@ -278,10 +369,13 @@ fn line_after(
             Some(one) => longer(line, shown_length(one.item)),
             None => Ok(None),
         },
-        DataInstruction::AppendLiteral { text } => match tables.texts.get(text.number as usize) {
-            Some(bytes) => longer(line, bytes.len()),
-            None => Ok(None),
-        },
+        DataInstruction::AppendLiteral { text }
+        | DataInstruction::Gather(Gather::TextUpToPlace { text }) => {
+            longer_by_text(tables, text.number as usize, line)
+        }
+        DataInstruction::Gather(Gather::Bytes | Gather::UpToPlace | Gather::UpToText { .. }) =>
+            longer_by_item(tables, newest, line),
+        DataInstruction::String { .. } => Ok(Some(0)),
         _ => Ok(Some(line)),
     }
 }

@@ -1,6 +1,7 @@
 //! The instructions on data.
 
 use crate::calculation::Calculation;
+use crate::gather::Gather;
 use crate::index::{ItemIndex, NumberIndex, SenderIndex, TextIndex};
 use crate::test::Test;
 use std::mem::size_of;
@@ -41,6 +42,17 @@ pub enum DataInstruction {
     Append,
     /// Adds a text to the line.
     AppendLiteral { text: TextIndex },
+    /// Takes a place, and puts bytes of a text there. The next text of the table marks them: where it has a 0 the byte there
+    /// stays.
+    Overlay { text: TextIndex },
+    /// Takes a place away.
+    DropPlace,
+    /// Adds part of a text to the line.
+    Gather(Gather),
+    /// Takes the pointer's place, if there is one, and the receiver's, and puts the line into the receiver as STRING does
+    /// (COBOL-85, Nucleus, "The STRING statement"). The truth is whether there was an overflow, and the line is empty then.
+    /// Fault 90 where the pointer holds no integer.
+    String { pointer: bool },
 }
 
 // Code is read in order, so an instruction has few bytes.

@@ -5,6 +5,7 @@
 mod calculation;
 mod effects;
 mod fault;
+mod gather;
 mod index;
 mod instruction;
 mod laws;
@@ -14,10 +15,12 @@ mod place;
 mod shape;
 mod tables;
 mod test;
+mod text_laws;
 
 pub use calculation::Calculation;
 pub use effects::{DATE, accepting, dating, effect, showing};
 pub use fault::ProgramFault;
+pub use gather::Gather;
 pub use index::{ItemIndex, NumberIndex, SenderIndex, TextIndex};
 pub use instruction::DataInstruction;
 pub use laws::{condition_law, expression_law, joining_law, safety_law, shape_law, statement_law};
@@ -25,3 +28,4 @@ pub use place::Place;
 pub use shape::{PlaceShape, PlaceShapes, Shape, Stacks};
 pub use tables::{DataItem, DataTables, LiteralSender};
 pub use test::Test;
+pub use text_laws::text_law;

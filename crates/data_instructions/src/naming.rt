@@ -1,8 +1,9 @@
 //! Entries that instructions name.
 
 ghost use Rattle.std.specs.Prelude.{◌↔◌, IsTrue};
-ghost use Rattle.data_instructions.specs.Naming.{NamesEntries, TestsEntries};
+ghost use Rattle.data_instructions.specs.Naming.{NamesEntries, TestsEntries, GathersEntries};
 
+use crate::gather::Gather;
 use crate::instruction::DataInstruction;
 use crate::tables::DataTables;
 use crate::test::Test;
@@ -24,6 +25,8 @@ impl DataInstruction {
                 (text.number as usize) < tables.texts.len()
             }
             DataInstruction::Test(test) => tests_entries(test, tables),
+            DataInstruction::Overlay { text } => text.number as usize + 1 < tables.texts.len(),
+            DataInstruction::Gather(one) => gathers_entries(one, tables),
             _ => true,
         }
     }
@@ -39,5 +42,17 @@ fn tests_entries(test: Test, tables: &DataTables) -> bool
         }
         Test::OrWithin { first } => first.number as usize + 1 < tables.senders.len(),
         _ => true,
+    }
+}
+
+/// Each text that is gathered, or up to which others are, is in its table.
+fn gathers_entries(one: Gather, tables: &DataTables) -> bool
+    ensures { IsTrue result ↔ GathersEntries tables.now one }
+{
+    match one {
+        Gather::UpToText { delimiter: text } | Gather::TextUpToPlace { text } => {
+            (text.number as usize) < tables.texts.len()
+        }
+        Gather::Bytes | Gather::UpToPlace => true,
     }
 }

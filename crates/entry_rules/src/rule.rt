@@ -48,8 +48,12 @@ pub enum Rule {
     Range,
     /// A procedure division without any paragraph or sentence.
     NoProcedure,
-    /// ALL with a literal in DISPLAY.
+    /// An operand of STRING that is of another kind.
+    StringOperand,
+    /// ALL with a literal in DISPLAY or STRING.
     AllLiteral,
+    /// SET of an item, in place of a condition name.
+    NoCondition,
     /// A limit of this compiler.
     Limit,
 }
@@ -79,7 +83,9 @@ impl Rule {
             Rule::Recursion => 54,
             Rule::Range => 55,
             Rule::NoProcedure => 56,
+            Rule::StringOperand => 65,
             Rule::AllLiteral => 67,
+            Rule::NoCondition => 68,
             Rule::Limit => 69,
         }
     }

@@ -5,16 +5,15 @@
 mod cursor;
 mod fault;
 mod names;
-mod pairs;
 mod part;
 mod passing;
 mod phrase;
 mod words;
 
+pub use answers::beside;
 pub use cursor::Tokens;
 pub use fault::{Halt, ReadFault};
 pub use names::{begins_name, name};
-pub use pairs::beside;
 pub use part::{Part, any, several};
 pub use passing::{Passing, past_any, past_several};
 pub use phrase::{Phrase, after_denied, after_opened, phrase_at, two_sided};

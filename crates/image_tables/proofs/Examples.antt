@@ -10,6 +10,7 @@ use Rattle.items.specs.declared.taken.Figurative.TheVariants as f
 use Rattle.data_instructions.specs.declared.tables.DataTables.{DataTables}
 use Rattle.data_instructions.specs.declared.calculation.Calculation.TheVariants as c
 use Rattle.data_instructions.specs.declared.test.Test.TheVariants as test
+use Rattle.data_instructions.specs.declared.gather.Gather.TheVariants as gather
 use Rattle.data_instructions.specs.declared.instruction.DataInstruction.TheVariants as i
 use Rattle.source_tree.specs.declared.condition.Relation.TheVariants as relation
 use Rattle.source_tree.specs.declared.condition.Class.TheVariants as class
@@ -82,6 +83,15 @@ compare_literal_spelt = refl
 class_spelt : data_instruction_bytes (i.Test (test.Class class.AlphabeticLower)) ≡ 43 ∷ 3 ∷ []
 class_spelt = refl
 
+-- up to the text 258
+up_to_text_spelt : data_instruction_bytes (i.Gather (gather.UpToText (record { number = 258 }))) ≡ 64 ∷ 0 ∷ 0 ∷ 1 ∷ 2 ∷ []
+unfolding short_bytes
+up_to_text_spelt = refl
+
+-- STRING with a pointer
+string_spelt : data_instruction_bytes (i.String true) ≡ 67 ∷ []
+string_spelt = refl
+
 -- ---- what is refused
 
 -- zero isn't negative
@@ -118,7 +128,7 @@ no_editing : editing_at (2 ∷ []) ≡ Err faults.Value
 unfolding editing_at byte_at
 no_editing = refl
 
--- 15 begins another instruction, and 27 and 47 none
+-- 15 begins another instruction, and 27, 59 and 68 none
 no_instruction : data_instruction_at (15 ∷ []) ≡ Err faults.Value
 unfolding data_instruction_at byte_at plain_instruction_of
 no_instruction = refl
@@ -127,7 +137,11 @@ between : data_instruction_at (27 ∷ []) ≡ Err faults.Value
 unfolding data_instruction_at byte_at plain_instruction_of
 between = refl
 
-behind_the_last : data_instruction_at (47 ∷ []) ≡ Err faults.Value
+before_overlay : data_instruction_at (59 ∷ []) ≡ Err faults.Value
+unfolding data_instruction_at byte_at plain_instruction_of
+before_overlay = refl
+
+behind_the_last : data_instruction_at (68 ∷ []) ≡ Err faults.Value
 unfolding data_instruction_at byte_at plain_instruction_of
 behind_the_last = refl
 
@@ -148,6 +162,11 @@ no_class = refl
 cut_compare : data_instruction_at (41 ∷ 0 ∷ 0 ∷ 0 ∷ 1 ∷ []) ≡ Err faults.Length
 unfolding data_instruction_at byte_at told_at short_at
 cut_compare = refl
+
+-- without its text
+cut_overlay : data_instruction_at (60 ∷ 0 ∷ 0 ∷ []) ≡ Err faults.Length
+unfolding data_instruction_at byte_at short_at
+cut_overlay = refl
 
 -- without its scale
 cut_truncate : data_instruction_at (37 ∷ []) ≡ Err faults.Length

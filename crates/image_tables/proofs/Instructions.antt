@@ -3,12 +3,14 @@ use Rattle.std.proofs.Common.{◌≡◌, ℕ, ◌<◌, ◌^◌, eqb, true, false
 use Rattle.std.specs.Prelude.{Some}
 use Rattle.data_instructions.specs.declared.calculation.Calculation.TheVariants as c
 use Rattle.data_instructions.specs.declared.test.Test.TheVariants as t
+use Rattle.data_instructions.specs.declared.gather.Gather.TheVariants as g
 use Rattle.data_instructions.specs.declared.instruction.DataInstruction.{DataInstruction}
 use Rattle.data_instructions.specs.declared.instruction.DataInstruction.TheVariants as i
 use Rattle.image_tables.specs.Spelling.{IsBytes, short_bytes}
 use Rattle.image_tables.specs.Reading.{◌>>=◌, byte_at, short_at}
-use Rattle.image_tables.specs.Instructions.{data_instruction_bytes, HasShorts, store, plain_instruction_of, naming_at, index_at, truncate, place, literal, take_literal, append_literal, duplicate, test_from, instruction_from, data_instruction_at}
+use Rattle.image_tables.specs.Instructions.{data_instruction_bytes, HasShorts, store, plain_instruction_of, naming_at, index_at, truncate, place, literal, take_literal, append_literal, duplicate, text_from, test_from, instruction_from, data_instruction_at}
 use Rattle.image_tables.specs.Tests.{compare, compare_numbers, or_equal, or_within}
+use Rattle.image_tables.specs.Gathers.{overlay, up_to_text, text_up_to_place}
 use Rattle.image_tables.proofs.Forms.{ok_is, chosen, takes_then, takes_kind, IsForm, part, part_again, Took, form_of, first_took, byte_is, behind_took, told_took, first_told, told_in}
 use Rattle.image_tables.proofs.Numbers.{byte_form, short_form}
 use Rattle.image_tables.proofs.Tests.{relation_form, class_form, compare_literal_took, compare_literal_again}
@@ -18,7 +20,8 @@ plain_instructions =
     (18, i.Push) ∷ (20, i.Take) ∷ (22, i.Move) ∷ (23, i.Append) ∷ (25, i.ClearTruth) ∷ (26, i.VoidIfTrue)
     ∷ (28, store false false) ∷ (29, store true false) ∷ (30, store false true) ∷ (31, store true true)
     ∷ (32, i.Calculate c.Add) ∷ (33, i.Calculate c.Subtract) ∷ (34, i.Calculate c.Multiply) ∷ (35, i.Calculate c.Divide) ∷ (36, i.Calculate c.Negate)
-    ∷ (39, i.Calculate c.Discard) ∷ (46, i.Test t.Invert) ∷ []
+    ∷ (39, i.Calculate c.Discard) ∷ (46, i.Test t.Invert)
+    ∷ (61, i.DropPlace) ∷ (62, i.Gather g.Bytes) ∷ (63, i.Gather g.UpToPlace) ∷ (66, i.String false) ∷ (67, i.String true) ∷ []
 
 instruction_told : (n : ℕ) → plain_instruction_of n ≡ first_told plain_instructions n
 unfolding plain_instruction_of
@@ -27,7 +30,7 @@ instruction_told n = refl
 plain_instruction_is : (n : ℕ) (one : DataInstruction) → plain_instruction_of n ≡ Some one → (data_instruction_bytes one ≡ n ∷ []) × HasShorts one
 plain_instruction_is n one e =
     told_in data_instruction_bytes HasShorts plain_instructions
-    ((refl, tt), ((refl, tt), ((refl, tt), ((refl, tt), ((refl, tt), ((refl, tt), ((refl, tt), ((refl, tt), ((refl, tt), ((refl, tt), ((refl, tt), ((refl, tt), ((refl, tt), ((refl, tt), ((refl, tt), ((refl, tt), ((refl, tt), tt)))))))))))))))))
+    ((refl, tt), ((refl, tt), ((refl, tt), ((refl, tt), ((refl, tt), ((refl, tt), ((refl, tt), ((refl, tt), ((refl, tt), ((refl, tt), ((refl, tt), ((refl, tt), ((refl, tt), ((refl, tt), ((refl, tt), ((refl, tt), ((refl, tt), ((refl, tt), ((refl, tt), ((refl, tt), ((refl, tt), ((refl, tt), tt))))))))))))))))))))))
     n one (sym (instruction_told n) ∙ e)
 
 -- so does an instruction with this first byte
@@ -41,6 +44,19 @@ index_took rest x is e =
     let both = takes_then rest (short_bytes a.value) a.rest (short_bytes b.value) b.rest a.takes b.takes in
     let t = takes_kind 17 rest (short_bytes a.value ++ short_bytes b.value) b.rest both in
     subst (Reads 17 rest) (ok_is (i.Index a.value b.value, b.rest) x b.goes) (t, (a.sound, b.sound))
+
+text_from_took : (n : ℕ) (rest : List ℕ) (x : DataInstruction × List ℕ) → IsBytes rest → text_from n rest ≡ Ok x → Reads n rest x
+text_from_took n rest x is e =
+    elim (chosen (eqb n 60) _ _ _ e) [
+      | inl p ↦ byte_is data_instruction_bytes HasShorts 60 n rest x p.0 (behind_took data_instruction_bytes HasShorts short_form 60 overlay (λ a. refl) (λ a h. h) rest x is p.1)
+      | inr q ↦ elim (chosen (eqb n 64) _ _ _ q.1) [
+        | inl p ↦ byte_is data_instruction_bytes HasShorts 64 n rest x p.0 (behind_took data_instruction_bytes HasShorts short_form 64 up_to_text (λ a. refl) (λ a h. h) rest x is p.1)
+        | inr r ↦ elim (chosen (eqb n 65) _ _ _ r.1) [
+          | inl p ↦ byte_is data_instruction_bytes HasShorts 65 n rest x p.0 (behind_took data_instruction_bytes HasShorts short_form 65 text_up_to_place (λ a. refl) (λ a h. h) rest x is p.1)
+          | inr s ↦ told_took data_instruction_bytes HasShorts plain_instruction_of plain_instruction_is n rest x is s.1
+        ]
+      ]
+    ]
 
 test_from_took : (n : ℕ) (rest : List ℕ) (x : DataInstruction × List ℕ) → IsBytes rest → test_from n rest ≡ Ok x → Reads n rest x
 test_from_took n rest x is e =
@@ -56,7 +72,7 @@ test_from_took n rest x is e =
               | inl p ↦ byte_is data_instruction_bytes HasShorts 44 n rest x p.0 (behind_took data_instruction_bytes HasShorts short_form 44 or_equal (λ a. refl) (λ a h. h) rest x is p.1)
               | inr v ↦ elim (chosen (eqb n 45) _ _ _ v.1) [
                 | inl p ↦ byte_is data_instruction_bytes HasShorts 45 n rest x p.0 (behind_took data_instruction_bytes HasShorts short_form 45 or_within (λ a. refl) (λ a h. h) rest x is p.1)
-                | inr w ↦ told_took data_instruction_bytes HasShorts plain_instruction_of plain_instruction_is n rest x is w.1
+                | inr w ↦ text_from_took n rest x is w.1
               ]
             ]
           ]
@@ -131,6 +147,14 @@ instruction_again (i.Test (t.Class one)) rest h = part_again class_form one rest
 instruction_again (i.Test (t.OrEqual literal)) rest h = naming_again or_equal literal.number rest h
 instruction_again (i.Test (t.OrWithin first)) rest h = naming_again or_within first.number rest h
 instruction_again (i.Test t.Invert) rest h = refl
+instruction_again (i.Overlay text) rest h = naming_again overlay text.number rest h
+instruction_again i.DropPlace rest h = refl
+instruction_again (i.Gather g.Bytes) rest h = refl
+instruction_again (i.Gather g.UpToPlace) rest h = refl
+instruction_again (i.Gather (g.UpToText delimiter)) rest h = naming_again up_to_text delimiter.number rest h
+instruction_again (i.Gather (g.TextUpToPlace text)) rest h = naming_again text_up_to_place text.number rest h
+instruction_again (i.String false) rest h = refl
+instruction_again (i.String true) rest h = refl
 
 pub data_instruction_form : IsForm data_instruction_at data_instruction_bytes HasShorts
 data_instruction_form = form_of data_instruction_at data_instruction_bytes HasShorts instruction_took instruction_again

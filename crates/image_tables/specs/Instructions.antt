@@ -3,11 +3,13 @@ use Rattle.std.specs.Prelude.{ℕ, ◌==◌, Bool, true, false, List, [], ◌∷
 use Rattle.data_instructions.specs.declared.calculation.Calculation.{Calculation}
 use Rattle.data_instructions.specs.declared.calculation.Calculation.TheVariants as c
 use Rattle.data_instructions.specs.declared.test.Test.TheVariants as t
+use Rattle.data_instructions.specs.declared.gather.Gather.TheVariants as g
 use Rattle.data_instructions.specs.declared.instruction.DataInstruction.{DataInstruction}
 use Rattle.data_instructions.specs.declared.instruction.DataInstruction.TheVariants as i
 use Rattle.image_tables.specs.Spelling.{short_bytes, IsByte, IsShort}
 use Rattle.image_tables.specs.Reading.{Read, ◌>>=◌, or_value, byte_at, short_at}
 use Rattle.image_tables.specs.Tests.{test_bytes, HasEntry, relating_at, class_at, compare_literal_at, compare, compare_numbers, or_equal, or_within}
+use Rattle.image_tables.specs.Gathers.{gather_bytes, string_byte, HasText, overlay, up_to_text, text_up_to_place}
 
 -- a store, by whether it rounds and whether it keeps the item after a size error
 abbrev pub store_byte : Bool → Bool → ℕ
@@ -41,6 +43,10 @@ data_instruction_bytes i.VoidIfTrue = 26 ∷ []
 data_instruction_bytes (i.Store rounded keep) = store_byte rounded keep ∷ []
 data_instruction_bytes (i.Calculate one) = calculation_bytes one
 data_instruction_bytes (i.Test one) = test_bytes one
+data_instruction_bytes (i.Overlay text) = 60 ∷ short_bytes text.number
+data_instruction_bytes i.DropPlace = 61 ∷ []
+data_instruction_bytes (i.Gather one) = gather_bytes one
+data_instruction_bytes (i.String pointer) = string_byte pointer ∷ []
 
 abbrev pub HasNumber : Calculation → Type 0
 HasNumber (c.Truncate scale) = IsByte scale
@@ -68,6 +74,10 @@ HasShorts i.VoidIfTrue = Unit {0}
 HasShorts (i.Store rounded keep) = Unit {0}
 HasShorts (i.Calculate one) = HasNumber one
 HasShorts (i.Test one) = HasEntry one
+HasShorts (i.Overlay text) = IsShort text.number
+HasShorts i.DropPlace = Unit {0}
+HasShorts (i.Gather one) = HasText one
+HasShorts (i.String pointer) = Unit {0}
 
 -- ---- reading
 
@@ -94,6 +104,11 @@ plain_instruction_of byte =
     else if byte == 36 then Some (i.Calculate c.Negate)
     else if byte == 39 then Some (i.Calculate c.Discard)
     else if byte == 46 then Some (i.Test t.Invert)
+    else if byte == 61 then Some i.DropPlace
+    else if byte == 62 then Some (i.Gather g.Bytes)
+    else if byte == 63 then Some (i.Gather g.UpToPlace)
+    else if byte == 66 then Some (i.String false)
+    else if byte == 67 then Some (i.String true)
     else None
 
 -- an instruction with one number
@@ -131,7 +146,15 @@ append_literal number = i.AppendLiteral (record { number = number })
 abbrev pub duplicate : ℕ → DataInstruction
 duplicate depth = i.Calculate (c.Duplicate depth)
 
--- the test whose first byte this is, or what a byte is alone
+-- the instruction with a text whose first byte this is, or what a byte is alone
+abbrev pub text_from : ℕ → List ℕ → Read DataInstruction
+text_from byte bytes =
+    if byte == 60 then naming_at overlay bytes
+    else if byte == 64 then naming_at up_to_text bytes
+    else if byte == 65 then naming_at text_up_to_place bytes
+    else (or_value (plain_instruction_of byte) >>= λ one. Ok (one, bytes))
+
+-- the test whose first byte this is, or another instruction
 abbrev pub test_from : ℕ → List ℕ → Read DataInstruction
 test_from byte bytes =
     if byte == 40 then relating_at compare bytes
@@ -140,7 +163,7 @@ test_from byte bytes =
     else if byte == 43 then class_at bytes
     else if byte == 44 then naming_at or_equal bytes
     else if byte == 45 then naming_at or_within bytes
-    else (or_value (plain_instruction_of byte) >>= λ one. Ok (one, bytes))
+    else text_from byte bytes
 
 -- the instruction whose first byte this is
 abbrev pub instruction_from : ℕ → List ℕ → Read DataInstruction

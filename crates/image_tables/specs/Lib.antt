@@ -7,5 +7,6 @@ pub mod Fractions
 pub mod Senders
 pub mod Tables
 pub mod Tests
+pub mod Gathers
 pub mod Instructions
 pub use Rattle.answers.specs.Answer

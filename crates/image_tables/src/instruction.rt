@@ -5,11 +5,15 @@ ghost use Rattle.answers.specs.Answer.{Gives};
 ghost use Rattle.image_tables.specs.Faults.{fault_of};
 ghost use Rattle.image_tables.specs.Spelling.{short_bytes, IsByte, IsShort};
 ghost use Rattle.image_tables.specs.Instructions as spec;
-ghost use Rattle.image_tables.specs.Instructions.{calculation_bytes, data_instruction_bytes, data_instruction_at, index_at, truncate_at, naming_at, duplicate, test_from, instruction_from, HasNumber, HasShorts};
+ghost use Rattle.image_tables.specs.Instructions.{calculation_bytes, data_instruction_bytes, data_instruction_at, index_at, truncate_at, naming_at, duplicate, text_from, test_from, instruction_from, HasNumber, HasShorts};
 ghost use Rattle.image_tables.specs.Tests.{compare_literal_at};
 
 use crate::byte::{found, put_byte, read_byte};
 use crate::fault::ImageError;
+use crate::gather::{
+    GATHER_BYTES, STRING, STRING_POINTER, TEXT_UP_TO_PLACE, UP_TO_PLACE, UP_TO_TEXT, put_gather,
+    string_byte,
+};
 use crate::number::{put_naming, put_short, read_short};
 use crate::table::TableEntry;
 use crate::test::{
@@ -17,7 +21,7 @@ use crate::test::{
     read_class, read_relation,
 };
 use data_instructions::{
-    Calculation, DataInstruction, ItemIndex, NumberIndex, SenderIndex, Test, TextIndex,
+    Calculation, DataInstruction, Gather, ItemIndex, NumberIndex, SenderIndex, Test, TextIndex,
 };
 use std::alloc::{AllocError, Global};
 
@@ -67,6 +71,10 @@ const TRUNCATE: u8 = 37;
 const DUPLICATE: u8 = 38;
 
 const DISCARD: u8 = 39;
+
+const OVERLAY: u8 = 60;
+
+const DROP_PLACE: u8 = 61;
 
 fn put_index(out: &mut Vec<u8>, stride: u32, count: u32) -> Result<(), AllocError>
     ensures bytes { OnOk result (out.new.items ≡ out.old.items ++ (17 ∷ (short_bytes stride ++ short_bytes count))) }
@@ -142,6 +150,11 @@ fn plain_instruction_of(byte: u8) -> Option<DataInstruction>
         NEGATE => Some(DataInstruction::Calculate(Calculation::Negate)),
         DISCARD => Some(DataInstruction::Calculate(Calculation::Discard)),
         INVERT => Some(DataInstruction::Test(Test::Invert)),
+        DROP_PLACE => Some(DataInstruction::DropPlace),
+        GATHER_BYTES => Some(DataInstruction::Gather(Gather::Bytes)),
+        UP_TO_PLACE => Some(DataInstruction::Gather(Gather::UpToPlace)),
+        STRING => Some(DataInstruction::String { pointer: false }),
+        STRING_POINTER => Some(DataInstruction::String { pointer: true }),
         _ => None,
     }
 }
@@ -180,7 +193,33 @@ fn read_compare_literal(bytes: &[u8]) -> Result<(DataInstruction, &[u8]), ImageE
     Ok((DataInstruction::Test(one), rest))
 }
 
-/// The test whose first byte this is, or what a byte is alone.
+/// The instruction with a text whose first byte this is, or what a byte is alone.
+fn read_text(byte: u8, bytes: &[u8]) -> Result<(DataInstruction, &[u8]), ImageError>
+    ensures { Gives (λ x. (x.0, x.1.now)) fault_of result (text_from byte bytes.now) }
+{
+    match byte {
+        OVERLAY => {
+            let (number, rest) = read_short(bytes)?;
+            let text = TextIndex { number };
+            Ok((DataInstruction::Overlay { text }, rest))
+        }
+        UP_TO_TEXT => {
+            let (number, rest) = read_short(bytes)?;
+            let delimiter = TextIndex { number };
+            let one = Gather::UpToText { delimiter };
+            Ok((DataInstruction::Gather(one), rest))
+        }
+        TEXT_UP_TO_PLACE => {
+            let (number, rest) = read_short(bytes)?;
+            let text = TextIndex { number };
+            let one = Gather::TextUpToPlace { text };
+            Ok((DataInstruction::Gather(one), rest))
+        }
+        _ => Ok((found(plain_instruction_of(byte))?, bytes)),
+    }
+}
+
+/// The test whose first byte this is, or another instruction.
 fn read_test(byte: u8, bytes: &[u8]) -> Result<(DataInstruction, &[u8]), ImageError>
     ensures { Gives (λ x. (x.0, x.1.now)) fault_of result (test_from byte bytes.now) }
 {
@@ -209,7 +248,7 @@ fn read_test(byte: u8, bytes: &[u8]) -> Result<(DataInstruction, &[u8]), ImageEr
             let first = SenderIndex { number };
             Ok((DataInstruction::Test(Test::OrWithin { first }), rest))
         }
-        _ => Ok((found(plain_instruction_of(byte))?, bytes)),
+        _ => read_text(byte, bytes),
     }
 }
 
@@ -270,6 +309,10 @@ impl TableEntry for DataInstruction {
             DataInstruction::Move => put_byte(out, MOVE),
             DataInstruction::Append => put_byte(out, APPEND),
             DataInstruction::AppendLiteral { text } => put_naming(out, APPEND_LITERAL, text.number),
+            DataInstruction::Overlay { text } => put_naming(out, OVERLAY, text.number),
+            DataInstruction::DropPlace => put_byte(out, DROP_PLACE),
+            DataInstruction::Gather(one) => put_gather(out, one),
+            DataInstruction::String { pointer } => put_byte(out, string_byte(pointer)),
         }
     }
 

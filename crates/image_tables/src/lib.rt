@@ -6,6 +6,7 @@ mod byte;
 mod editing;
 mod fault;
 mod fraction;
+mod gather;
 mod instruction;
 mod item;
 mod laws;

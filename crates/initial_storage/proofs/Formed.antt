@@ -7,7 +7,6 @@ use Rattle.std.proofs.lemmas.List.Elements.{All-from_recursion}
 use Rattle.picture.specs.declared.picture.Picture.{Picture}
 use Rattle.picture.specs.Pictures.{picture_of}
 use Rattle.items.specs.declared.item.Item.{Item}
-use Rattle.items.specs.Items.{IsItem}
 use Rattle.source_tree.specs.declared.entry.Around.{Around}
 use Rattle.source_tree.specs.declared.entry.PictureText.{PictureText}
 use Rattle.source_tree.specs.declared.entry.ItemEntry.{ItemEntry}
@@ -21,19 +20,11 @@ use Rattle.source_tree.specs.ClauseRules.{has_items, most_item_bytes, wrong_pict
 use Rattle.source_tree.specs.RedefinitionRules.{Redefinable, remembered}
 use Rattle.source_tree.specs.ValueRules.{condition_rules}
 use Rattle.source_tree.specs.EntryRules.{Position, outermost, is_outermost, own_rules, below, forest_rules, entry_rules}
-use Rattle.initial_storage.specs.Formed.{IsEditing, IsFormed}
+use Rattle.initial_storage.specs.Formed.{IsFormed, HasForm, AreFormed}
 use Rattle.initial_storage.proofs.Kept.{three_parts, KeepsOwn, keeps_own, rule_parts}
 use Rattle.initial_storage.proofs.Groups.{all_append}
 use Rattle.initial_storage.proofs.Records.{redefines_some}
 use Rattle.initial_storage.proofs.Pictures.{picture_read, elementary_formed, some_bytes}
-
-abbrev HasForm : Item → Option Picture → Type 0
-HasForm item editing = IsItem item × IsEditing item editing
-
-abbrev AreFormed : Around → Forest → Type 0
-AreFormed around End = Unit {0}
-AreFormed around (Tree one conditions inner next) =
-    HasForm (item_with around one inner) (editing_of around one) × AreFormed (inside around one) inner × AreFormed around next
 
 -- ---- one item
 
@@ -108,10 +99,12 @@ storage_formed areas (Tree one conditions inner next) h =
     all_append IsFormed (places (top area []) 0 0 (Tree one conditions inner End)) (storage_places (area + 1) next)
     (places_formed (top area []) 0 0 (Tree one conditions inner End) (h.0, h.1, tt)) (storage_formed (area + 1) next h.2)
 
+-- all entries, one in another
+pub forest_formed : (entries : List Entry) → entry_rules entries ≡ [] → AreFormed nothing_around (nested entries)
+forest_formed entries e = let parts = rule_parts entries e in formed (outermost false) None (nested entries) parts.1
+
 pub formed_by_recursion : (entries : List Entry) → entry_rules entries ≡ [] → AllByRecursion IsFormed (items_of entries)
-formed_by_recursion entries e =
-    let parts = rule_parts entries e in
-    storage_formed 0 (nested entries) (formed (outermost false) None (nested entries) parts.1)
+formed_by_recursion entries e = storage_formed 0 (nested entries) (forest_formed entries e)
 
 pub all_formed : (entries : List Entry) → entry_rules entries ≡ [] → All IsFormed (items_of entries)
 all_formed entries e = All-from_recursion IsFormed (items_of entries) (formed_by_recursion entries e)

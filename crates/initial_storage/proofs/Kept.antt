@@ -90,7 +90,7 @@ suits kind.AlphanumericEdited size value e = tt
 suits (kind.NumericEdited blank) size value e = tt
 suits (kind.Numeric numeric) size value e = number_suits numeric value e
 
-has_value : (forbidden : Bool) (item : Items.Item) (value : Option Literal) → value_rules forbidden item value ≡ [] → HasValue item.kind value
+pub has_value : (forbidden : Bool) (item : Items.Item) (value : Option Literal) → value_rules forbidden item value ≡ [] → HasValue item.kind value
 has_value forbidden item None e = tt
 has_value forbidden item (Some one) e =
     let right = second_false forbidden (wrong_value item.kind item.length one.value) (kept (forbidden || wrong_value item.kind item.length one.value) 47 one.place e) in (

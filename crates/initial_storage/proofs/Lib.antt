@@ -1,4 +1,6 @@
 pub mod Areas
+pub mod Counted
+pub mod Conditions
 pub mod Elementary
 mod Examples
 pub mod Formed

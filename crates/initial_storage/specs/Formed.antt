@@ -3,8 +3,12 @@ use Rattle.std.specs.Prelude.{Option, Some, None}
 use Rattle.picture.specs.declared.picture.Picture.{Picture}
 use Rattle.items.specs.declared.item.Item.{Item}
 use Rattle.items.specs.Items.{IsItem}
+use Rattle.source_tree.specs.declared.entry.Around.{Around}
 use Rattle.edited_move.specs.Moves.{IsPlainKind, IsEditedBy}
+use Rattle.source_tree.specs.Clauses.{inside, editing_of}
+use Rattle.source_tree.specs.Levels.{Forest, End, Tree}
 use Rattle.source_tree.specs.Places.{Placed}
+use Rattle.source_tree.specs.Rooms.{item_with}
 
 -- An edited item has the picture of its category and length, and no other has one.
 abbrev pub IsEditing : Item → Option Picture → Type 0
@@ -15,3 +19,12 @@ IsEditing item (Some picture) = IsEditedBy item picture
 pub record IsFormed (one : Placed) : Type 0 where
   pub form : IsItem one.item
   pub editing : IsEditing one.item one.editing
+
+abbrev pub HasForm : Item → Option Picture → Type 0
+HasForm item editing = IsItem item × IsEditing item editing
+
+-- The same of each entry, and of those in it.
+abbrev pub AreFormed : Around → Forest → Type 0
+AreFormed around End = Unit {0}
+AreFormed around (Tree one conditions inner next) =
+    HasForm (item_with around one inner) (editing_of around one) × AreFormed (inside around one) inner × AreFormed around next

@@ -1,4 +1,6 @@
+pub mod Conditions
 pub mod Fits
 pub mod Formed
 pub mod Occurrences
+pub mod Patterns
 pub mod Reach

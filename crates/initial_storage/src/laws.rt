@@ -6,11 +6,13 @@ ghost use Rattle.source_tree.specs.declared.entry.Entry.{Entry};
 ghost use Rattle.source_tree.specs.declared.reference.Reference.{Reference};
 ghost use Rattle.source_tree.specs.EntryRules.{entry_rules};
 ghost use Rattle.source_tree.specs.Levels.{nested};
+ghost use Rattle.source_tree.specs.LookUp.{all_conditions};
 ghost use Rattle.source_tree.specs.Places.{items_of};
 ghost use Rattle.source_tree.specs.References.{ItemPlace, place_of};
 ghost use Rattle.source_tree.specs.Rooms.{area_lengths};
 ghost use Rattle.source_tree.specs.Starts.{areas_at_start};
 ghost use Rattle.source_tree.specs.Storage.{Storage};
+ghost use Rattle.initial_storage.specs.Conditions.{CanBeSet};
 ghost use Rattle.initial_storage.specs.Formed.{IsFormed};
 ghost use Rattle.initial_storage.specs.Reach.{IsWithin, Lies};
 
@@ -31,4 +33,9 @@ pub fn items_lie_within_areas()
 /// 32 bits hold the length of each area.
 pub fn areas_are_small()
     ensures { (entries : List Entry) → entry_rules entries ≡ [] → (k : ℕ) (area : List ℕ) → slice_get (areas_at_start entries) k ≡ Some area → length area < 2 ^ 32 }
+{}
+
+/// The item of each condition name takes its first value, so `set_value` may be called with the two.
+pub fn condition_values_suit()
+    ensures { (entries : List Entry) → entry_rules entries ≡ [] → All CanBeSet (all_conditions (items_of entries)) }
 {}

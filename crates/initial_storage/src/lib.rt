@@ -1,11 +1,19 @@
-//! What working storage holds at the start of a run: the bytes of each area, with VALUE.
+//! What working storage holds at the start of a run, the bytes of each area, with VALUE; and what INITIALIZE puts into an item.
 #![tactic(auto)]
 
+mod initializing;
 mod laws;
 mod occurrences;
+mod outlines;
+mod patterns;
 mod repeat;
+mod setting;
 mod storage;
 mod value;
 
-pub use laws::{areas_are_small, items_have_their_form, items_lie_within_areas};
+pub use initializing::{NewBytes, initialized_item};
+pub use laws::{
+    areas_are_small, condition_values_suit, items_have_their_form, items_lie_within_areas,
+};
+pub use setting::set_value;
 pub use storage::InitialStorage;

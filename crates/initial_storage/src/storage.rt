@@ -18,7 +18,7 @@ use source_tree::{Around, Entry};
 use sqlite_items::Items;
 use std::alloc::{AllocError, Global};
 
-const NOTHING_AROUND: Around = Around {
+pub(crate) const NOTHING_AROUND: Around = Around {
     usage: None,
     sign: None,
 };

@@ -25,7 +25,7 @@ fn write_initial(item: Item, bytes: &mut [u8])
 }
 
 /// Writes a value: a number is moved in, others are written by their characters, without editing and without JUSTIFIED.
-fn write_sent(item: Item, sender: &Sender, bytes: &mut [u8])
+pub(crate) fn write_sent(item: Item, sender: &Sender, bytes: &mut [u8])
     requires kind { HasKind item }
     requires form { IsTaken sender.now.taken sender.now.bytes }
     requires suits { Suits item.kind sender.now.taken }

@@ -3,6 +3,7 @@
 #![tactic(auto)]
 
 mod accept;
+mod acting;
 mod counting;
 mod ended;
 mod loaded;

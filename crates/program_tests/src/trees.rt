@@ -16,7 +16,7 @@ const HEADER: &str =
     "       IDENTIFICATION DIVISION.\n       PROGRAM-ID. HELLO.\n       PROCEDURE DIVISION.\n";
 
 /// What comes after the three lines of `HEADER`, and its tree as `shape` writes it.
-const TREES: [(&str, &str); 40] = [
+const TREES: [(&str, &str); 41] = [
     // HELLO in its six lines, with END PROGRAM, and with another name there
     (
         "       MAIN-PARA.\n           DISPLAY \"HELLO\".\n           STOP RUN.\n",
@@ -168,6 +168,11 @@ const TREES: [(&str, &str); 40] = [
     (
         "           PERFORM N TIMES PERFORM A M OF G TIMES END-PERFORM\n           PERFORM A THRU A T (1) TIMES.\n       A.\n",
         "HELLO|.PN(PM[A]@4:28)@4:12PT[A-A]@5:12|A@6:8",
+    ),
+    // INITIALIZE, SET and STRING
+    (
+        "           INITIALIZE A B SET C OF D TO TRUE\n           STRING A 'X' DELIMITED BY SIZE INTO B POINTER C.\n",
+        "HELLO|.N2@4:12T1@4:27Z@5:12",
     ),
     // END PROGRAM after a section
     (
@@ -441,6 +446,16 @@ fn push_evaluate(
     to.push_str(")")
 }
 
+/// MOVE, INITIALIZE or SET with how many items it names behind its verb or TO.
+fn push_moving(to: &mut String, alloc: Global, one: &Moving) -> Result<(), AllocError> {
+    let (mark, count) = match one {
+        Moving::Move { receivers, .. } => ("M", receivers.len()),
+        Moving::Initialize { receivers } => ("N", receivers.len()),
+        Moving::Set { conditions } => ("T", conditions.len()),
+    };
+    to.push_str(format!(in alloc; "{mark}{count}")?.as_str())
+}
+
 #[cycle(pushed)]
 fn push_statement(to: &mut String, alloc: Global, statement: &Statement) -> Result<(), AllocError> {
     match &statement.verb {
@@ -453,9 +468,7 @@ fn push_statement(to: &mut String, alloc: Global, statement: &Statement) -> Resu
             let end = if *advancing { "+" } else { "-" };
             to.push_str(format!(in alloc; "D{}{end}", operands.len())?.as_str())?;
         }
-        Verb::Moving(Moving::Move { receivers, .. }) => {
-            to.push_str(format!(in alloc; "M{}", receivers.len())?.as_str())?;
-        }
+        Verb::Moving(one) => push_moving(to, alloc, one)?,
         Verb::Performing(Performing { performed, turns }) => {
             to.push_str("P")?;
             push_turns(to, turns)?;
@@ -471,8 +484,9 @@ fn push_statement(to: &mut String, alloc: Global, statement: &Statement) -> Resu
         Verb::Branching(Branching::Evaluate(one)) => push_evaluate(to, alloc, one)?,
         Verb::Text(Text::Accept { .. }) => to.push_str("A")?,
         Verb::Text(Text::AcceptDate { .. }) => to.push_str("AD")?,
-        // what stands in its phrases is shown by tests of `statements`
+        // what stands in their phrases is shown by tests of `statements`
         Verb::Arithmetic(_) => to.push_str("R")?,
+        Verb::Stringing(_) => to.push_str("Z")?,
         Verb::Ending(Ending::StopRun) => to.push_str("S")?,
         Verb::Ending(Ending::Continue) => to.push_str("C")?,
         Verb::Ending(Ending::Exit) => to.push_str("E")?,
@@ -489,7 +503,7 @@ fn push_name(to: &mut String, alloc: Global, mark: &str, name: &Name) -> Result<
 
 /// The program's name; where it has entries `^` and their number; for each section `#`, its name and place; for each paragraph
 /// `|`, its name and place; for each sentence `.` and its statements: `D`, the number of operands and `+`, or `-` for NO ADVANCING;
-/// `M` for MOVE and the number of receivers; `S` for STOP RUN, `C` for CONTINUE, `I` for IF and the number of its statements, `V` for EVALUATE, the number
+/// `M` for MOVE, `N` for INITIALIZE and `T` for SET with the number of items; `Z` for STRING; `S` for STOP RUN, `C` for CONTINUE, `I` for IF and the number of its statements, `V` for EVALUATE, the number
 /// of its subjects, and for each group the numbers of its WHENs and statements, and `O` and those of OTHER, `P`
 /// for PERFORM with its integer, or `U` and `V` for UNTIL with its test before and after, and the statements in it; each with its
 /// place.

@@ -1,6 +1,6 @@
 -- Areas as lists of bytes.
 use Rattle.std.proofs.Common.{◌≡◌, ℕ, zero, suc, ◌+◌, ◌<◌, length, List, [], ◌∷◌, ◌++◌, map, refl, sym, ◌∙◌, ap, arith, take}
-use Rattle.std.specs.Prelude.{slice_index_or, slice_set, Result, Ok, Err}
+use Rattle.std.specs.Prelude.{slice_index_or, slice_set, slice_range, Result, Ok, Err}
 use Rattle.std.specs.declared.vec.Vec.{Vec}
 use Rattle.std.proofs.lemmas.List.{map-set}
 use Rattle.std.proofs.Math.Seq.{take-append-add}
@@ -8,7 +8,7 @@ use Rattle.items.specs.declared.fault.DataFault.{DataFault}
 use Rattle.source_tree.specs.Storage.{Storage, with_bytes}
 use Rattle.source_tree.specs.Literals.{Sender}
 use Rattle.source_tree.specs.Evaluated.{◌>>=◌, needed}
-use Rattle.source_tree.specs.References.{storing}
+use Rattle.source_tree.specs.References.{part_of, storing}
 use Rattle.source_tree.specs.Moving.{moved_by, move_to}
 use Rattle.data_instructions.specs.declared.tables.DataItem.{DataItem}
 use Rattle.data_instructions.specs.Tables.{item_place}
@@ -66,6 +66,21 @@ area_lengths vs now area v w is within here same =
     ap (map length) (map-set (λ v. v.items) vs area w)
     ∙ set_lengths (storage_of vs) area w.items (same ∙ ap length (ap (λ x. x.items) here ∙ sym (area_read vs area v within)))
     ∙ ap (map length) is
+
+-- the bytes of an item in its area
+pub part_read : {A : Type 0} (vs : List (Vec ℕ A)) (now : Storage) (one : DataItem) (offset : ℕ) (v : Vec ℕ A) → storage_of vs ≡ now → one.area < length vs → v ≡ slice_index_or vs one.area v
+    → slice_range v.items offset (offset + one.item.length) ≡ part_of now (item_place one offset)
+part_read vs now one offset v is within here =
+    ap (λ (bytes : List ℕ). slice_range bytes offset (offset + one.item.length))
+    (ap (λ x. x.items) here ∙ sym (area_read vs one.area v within) ∙ ap (λ (s : Storage). slice_index_or s one.area []) is)
+
+-- what a change of them is to storage
+pub part_set : {A : Type 0} (vs : List (Vec ℕ A)) (now : Storage) (one : DataItem) (offset : ℕ) (v w : Vec ℕ A) (change : List ℕ → List ℕ) → storage_of vs ≡ now → one.area < length vs → v ≡ slice_index_or vs one.area v
+    → w.items ≡ with_part v.items offset one.item.length (change (slice_range v.items offset (offset + one.item.length)))
+    → storage_of (slice_set vs one.area w) ≡ storing (item_place one offset) (change (part_of now (item_place one offset))) now
+part_set vs now one offset v w change is within here new =
+    area_set vs now one.area offset one.item.length v w (change (slice_range v.items offset (offset + one.item.length))) is within here new
+    ∙ ap (λ (bytes : List ℕ). storing (item_place one offset) (change bytes) now) (part_read vs now one offset v is within here)
 
 -- what a move to a part of an area is to storage
 pub move_stores : {A : Type 0} (done : Result (Unit {0}) DataFault) (vs : List (Vec ℕ A)) (now : Storage) (one : DataItem) (offset : ℕ) (sender : Sender) (v w : Vec ℕ A) (new : List ℕ)

@@ -5,3 +5,8 @@ pub mod KeptNumbers
 pub mod Cutting
 pub mod Together
 pub mod ReadyTogether
+pub mod ReadyBehind
+pub mod KnownIntegers
+pub mod Overlays
+pub mod Gathers
+pub mod Strings

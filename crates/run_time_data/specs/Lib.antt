@@ -11,3 +11,5 @@ pub mod Lines
 pub mod KeptNumbers
 pub mod Fused
 pub mod FindsFirst
+pub mod Overlays
+pub mod Stringing

@@ -11,6 +11,11 @@ abbrev pub HasLineRoom : DataTables → List Place → ℕ → ℕ → Type 0
 HasLineRoom tables [] used room = ⊥
 HasLineRoom tables (p ∷ ps) used room = (one : DataItem) → slice_get tables.items p.item.number ≡ Some one → used + shown_length one.item.kind one.item.length ≤ room
 
+-- for all bytes of the item at the newest place
+abbrev pub HasPartRoom : DataTables → List Place → ℕ → ℕ → Type 0
+HasPartRoom tables [] used room = ⊥
+HasPartRoom tables (p ∷ ps) used room = (one : DataItem) → slice_get tables.items p.item.number ≡ Some one → used + one.item.length ≤ room
+
 -- for a text
 abbrev pub HasTextRoom : DataTables → TextIndex → ℕ → ℕ → Type 0
 HasTextRoom tables text used room = (bytes : List ℕ) → slice_get tables.texts text.number ≡ Some bytes → used + length bytes ≤ room

@@ -4,6 +4,9 @@ ghost use Rattle.std.specs.Prelude.{◌≡◌, length, map, IfOk};
 ghost use Rattle.items.specs.Items.{IsOf};
 ghost use Rattle.items.specs.Texts.{padded};
 ghost use Rattle.source_tree.specs.References.{part_of, storing};
+ghost use Rattle.source_tree.specs.Initializing.{overlaying};
+ghost use Rattle.text_ops.specs.Strings.{strung};
+ghost use Rattle.data_instructions.specs.Table.{pattern_of};
 ghost use Rattle.source_tree.specs.Moving.{move_to};
 ghost use Rattle.source_tree.specs.Arithmetic as arithmetic;
 ghost use Rattle.data_instructions.specs.Tables.{item_place};
@@ -12,7 +15,9 @@ ghost use Rattle.run_time_data.specs.Writing.{Stores};
 ghost use Rattle.run_time_data.specs.KeptNumbers.{StoresNumber};
 
 use crate::keeping::store_part;
+use crate::overlaying::overlay_part;
 use crate::receiving::{move_part, pad_part};
+use crate::stringing::string_part;
 use data_instructions::DataItem;
 use decimal18::Dec;
 use items::{DataFault, Taken, part};
@@ -104,5 +109,34 @@ impl Areas {
     {
         let area = &mut self.areas[one.area as usize];
         pad_part(one, area.as_mut_slice(), offset, text);
+    }
+
+    /// Lays bytes over those of an item that stands at an offset, where their marks aren't 0.
+    pub fn overlay(&mut self, one: &DataItem, offset: usize, bytes: &[u8], marks: &[u8])
+        requires { StandsAt one.now self.old offset }
+        ensures stores { self.new ≡ overlaying (pattern_of bytes.now marks.now) (item_place one.now offset) self.old }
+        ensures lengths { map length self.new ≡ map length self.old }
+    {
+        let area = &mut self.areas[one.area as usize];
+        overlay_part(one, area.as_mut_slice(), offset, bytes, marks);
+    }
+
+    /// Puts a text into an item that stands at an offset, from a position on, which counts from 1. Answers the position behind
+    /// it, and whether there was an overflow.
+    pub fn string_into(
+        &mut self,
+        one: &DataItem,
+        offset: usize,
+        text: &[u8],
+        at: usize,
+    ) -> (usize, bool)
+        requires { StandsAt one.now self.old offset }
+        ensures stores { self.new ≡ storing (item_place one.now offset) (strung at text.now (part_of self.old (item_place one.now offset))).receiver self.old }
+        ensures next { result.0 ≡ (strung at text.now (part_of self.old (item_place one.now offset))).pointer }
+        ensures overflow { result.1 ≡ (strung at text.now (part_of self.old (item_place one.now offset))).overflow }
+        ensures lengths { map length self.new ≡ map length self.old }
+    {
+        let area = &mut self.areas[one.area as usize];
+        string_part(one, area.as_mut_slice(), offset, text, at)
     }
 }

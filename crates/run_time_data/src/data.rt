@@ -127,6 +127,10 @@ impl Data {
             DataInstruction::Move => self.receive(tables),
             DataInstruction::Append => self.append(tables),
             DataInstruction::AppendLiteral { text } => self.append_literal(tables, text),
+            DataInstruction::Overlay { text } => self.overlay(tables, text),
+            DataInstruction::DropPlace => self.drop_place(tables),
+            DataInstruction::Gather(one) => self.gather(tables, one),
+            DataInstruction::String { pointer } => self.string(tables, pointer),
         }
     }
 }

@@ -103,6 +103,14 @@ pub const LABEL: TextIndex = TextIndex { number: 0 };
 
 pub const BAR: TextIndex = TextIndex { number: 1 };
 
+/// `"WXYZ"`, of which the first and the third character are marked by the text behind it.
+pub const MARKED: TextIndex = TextIndex { number: 2 };
+
+/// `"A"` and `"XAB  Y"`.
+pub const A: TextIndex = TextIndex { number: 4 };
+
+pub const SPREAD: TextIndex = TextIndex { number: 5 };
+
 pub fn number(digits: u8, scale: u8, sign: OperationalSign) -> Kind {
     Kind::Numeric(Numeric {
         digits,
@@ -238,6 +246,10 @@ pub fn tables(rt: &impl Abort, alloc: Global) -> DataTables {
     let mut texts = Items::new(alloc);
     add(rt, &mut texts, bytes(rt, alloc, b"E="));
     add(rt, &mut texts, bytes(rt, alloc, b"|"));
+    add(rt, &mut texts, bytes(rt, alloc, b"WXYZ"));
+    add(rt, &mut texts, bytes(rt, alloc, &[1, 0, 1, 0]));
+    add(rt, &mut texts, bytes(rt, alloc, b"A"));
+    add(rt, &mut texts, bytes(rt, alloc, b"XAB  Y"));
     DataTables {
         areas: areas(rt, alloc),
         items: data_items(rt, alloc),

@@ -2,7 +2,7 @@
 use crate::asserted::holds;
 use crate::samples::tables;
 use data_instructions::{
-    Calculation, DataInstruction, ItemIndex, LiteralSender, NumberIndex, SenderIndex, Test,
+    Calculation, DataInstruction, Gather, ItemIndex, LiteralSender, NumberIndex, SenderIndex, Test,
     TextIndex,
 };
 use items::Taken;
@@ -49,7 +49,11 @@ fn names(rt: &impl Abort, alloc: Global) {
         holds(rt, within.names_entries(&tables) == (number < 6));
         let text = TextIndex { number };
         let shown = DataInstruction::AppendLiteral { text };
-        holds(rt, shown.names_entries(&tables) == (number < 2));
+        holds(rt, shown.names_entries(&tables) == (number < 6));
+        let overlay = DataInstruction::Overlay { text };
+        holds(rt, overlay.names_entries(&tables) == (number < 5));
+        let up_to = DataInstruction::Gather(Gather::UpToText { delimiter: text });
+        holds(rt, up_to.names_entries(&tables) == (number < 6));
         let number = NumberIndex { number };
         let pushed = DataInstruction::Literal { number };
         holds(rt, pushed.names_entries(&tables) == (number.number < 12));

@@ -4,6 +4,8 @@ use Rattle.std.specs.Prelude.{Bool, true, false, Option, Some, None, Ok, Err}
 use Rattle.source_tree.specs.declared.performing.Performed.{Performed}
 use Rattle.source_tree.specs.declared.performing.Performed.TheVariants.{Procedures, Statements}
 use Rattle.source_tree.specs.declared.phrases.Phrases.{Phrases}
+use Rattle.source_tree.specs.declared.stringing.Stringing.{Stringing}
+use Rattle.source_tree.specs.Stringing.{Strings, string, stringing}
 use Rattle.source_tree.specs.declared.arithmetic.Arithmetic.{Arithmetic}
 use Rattle.source_tree.specs.State.{State, Outcome, Done, Over, then_do, in_turn, spend_from, spend, with_value}
 use Rattle.source_tree.specs.Places.{Placed}
@@ -74,3 +76,12 @@ module _ {S : Type 0} (n : ℕ) (run other : S → State → Outcome) (r : (one 
 
   pub calculating_agrees : (items : List Placed) (one : Arithmetic S) → Agrees n (calculating items run one) (calculating items other one)
   calculating_agrees items one = record { by = λ s le. value_same one.phrases (operation items (is_there one.phrases.arose) one.operation s.storage) s le }
+
+  strung_same : (phrases : Phrases S) (e : Evaluated Strings) (s : State) → s.budget ≤ n
+      → with_value e s (λ after. phrase_for run phrases after.overflow (record s { storage = after.storage }))
+      ≡ with_value e s (λ after. phrase_for other phrases after.overflow (record s { storage = after.storage }))
+  strung_same phrases (Ok after) s le = (phrase_agrees phrases after.overflow).by (record s { storage = after.storage }) le
+  strung_same phrases (Err fault) s le = refl
+
+  pub stringing_agrees : (items : List Placed) (one : Stringing S) → Agrees n (stringing items run one) (stringing items other one)
+  stringing_agrees items one = record { by = λ s le. strung_same one.phrases (string items one s.storage) s le }

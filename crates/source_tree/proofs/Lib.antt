@@ -12,6 +12,7 @@ pub mod Computing
 pub mod PlaceExamples
 pub mod EntryExamples
 pub mod MoveExamples
+pub mod StringExamples
 pub mod DataExamples
 pub mod UntilExamples
 pub mod Folded

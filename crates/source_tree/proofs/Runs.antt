@@ -19,7 +19,9 @@ use Rattle.source_tree.specs.Procedures.{Range, Procedure, range_of}
 use Rattle.source_tree.specs.Texts.{texts}
 use Rattle.source_tree.specs.Accepting.{next_line, later_lines, accept_line, accept_date}
 use Rattle.source_tree.specs.Arithmetic.{Stored, operation, is_there, in_phrase, phrase_for, calculating}
+use Rattle.source_tree.specs.Stringing.{Strings, string, stringing}
 use Rattle.source_tree.specs.declared.phrases.Phrases.{Phrases}
+use Rattle.source_tree.specs.declared.stringing.Stringing.{Stringing}
 use Rattle.source_tree.specs.declared.arithmetic.Arithmetic.{Arithmetic}
 use Rattle.source_tree.specs.declared.reference.Reference.{Reference}
 use Rattle.source_tree.specs.Performing.{turns, performed_range, body}
@@ -203,3 +205,9 @@ module _ {S : Type 0} (run : S → State → Outcome) (r : (one : S) → IsRun (
       value_runs (λ after s. phrase_for run one.phrases after.size_error (record s { storage = after.storage }))
       (λ (after : Stored). then_runs (λ s. Done (record s { storage = after.storage })) (phrase_for run one.phrases after.size_error) (storing_runs after.storage) (phrase_runs one.phrases after.size_error))
       (operation items (is_there one.phrases.arose) one.operation)
+
+  pub stringing_runs : (items : List Placed) (one : Stringing S) → IsRun (stringing items run one)
+  stringing_runs items one =
+      value_runs (λ after s. phrase_for run one.phrases after.overflow (record s { storage = after.storage }))
+      (λ (after : Strings). then_runs (λ s. Done (record s { storage = after.storage })) (phrase_for run one.phrases after.overflow) (storing_runs after.storage) (phrase_runs one.phrases after.overflow))
+      (string items one)

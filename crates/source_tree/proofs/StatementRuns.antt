@@ -11,10 +11,9 @@ use Rattle.source_tree.specs.Places.{Placed}
 use Rattle.source_tree.specs.State.{State, Outcome}
 use Rattle.source_tree.specs.Procedures.{Range, within_range}
 use Rattle.source_tree.specs.Setting.{Scope, Setting}
-use Rattle.source_tree.specs.Moving.{moving}
 use Rattle.source_tree.specs.Performing.{turns, turns_of, turns_in, repeat, body, performing}
-use Rattle.source_tree.specs.Meaning.{step, exec, sentence, paragraph, ranged, range}
-use Rattle.source_tree.proofs.Runs.{IsRun, itself, stop_runs, then_runs, spend_runs, in_turn_runs, value_runs, changing_runs, turns_runs, body_runs, calculating_runs, texts_runs, finish_runs}
+use Rattle.source_tree.specs.Meaning.{moving, step, exec, sentence, paragraph, ranged, range}
+use Rattle.source_tree.proofs.Runs.{IsRun, itself, stop_runs, then_runs, spend_runs, in_turn_runs, value_runs, changing_runs, turns_runs, body_runs, calculating_runs, stringing_runs, texts_runs, finish_runs}
 use Rattle.source_tree.proofs.Repeating.{until_runs, branching_runs}
 
 repeat_runs : (items : List Placed) (depth line : ℕ) (phrase : Turns) (go : State → Outcome) → IsRun go → IsRun (repeat items depth line phrase go)
@@ -35,6 +34,7 @@ module _ {S : Type 0} (run : S → State → Outcome) (range : Range → State �
   step_runs depth line (verb.Branching one) = branching_runs run r scope.items one
   step_runs depth line (verb.Performing one) = performing_runs depth line one
   step_runs depth line (verb.Text one) = texts_runs scope.items one
+  step_runs depth line (verb.Stringing one) = stringing_runs run r scope.items one
   step_runs depth line (verb.Ending one) = finish_runs one
 
 pub paragraph_runs : (run : Statement → State → Outcome) → ((one : Statement) → IsRun (run one)) → (one : Paragraph) → IsRun (paragraph run one)

@@ -17,6 +17,7 @@ pub mod Evaluated
 pub mod LookUp
 pub mod References
 pub mod Moving
+pub mod Initializing
 pub mod Computed
 pub mod Arithmetic
 pub mod Conditions
@@ -26,6 +27,7 @@ pub mod Until
 pub mod Showing
 pub mod Texts
 pub mod Accepting
+pub mod Stringing
 pub mod Broken
 pub mod ClauseRules
 pub mod RedefinitionRules
@@ -36,6 +38,8 @@ pub mod MoveRules
 pub mod TextRules
 pub mod ArithmeticRules
 pub mod ConditionRules
+pub mod SettingRules
+pub mod StringRules
 pub mod EvaluateRules
 pub mod PerformRules
 pub mod Recursion

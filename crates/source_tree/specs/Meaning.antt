@@ -4,6 +4,8 @@ use Rattle.std.specs.Prelude.{ℕ, zero, suc, List, [], ◌∷◌, length}
 use Rattle.station.specs.State.{Event}
 use Rattle.source_tree.specs.declared.ending.Ending.{Ending}
 use Rattle.source_tree.specs.declared.ending.Ending.TheVariants as ending
+use Rattle.source_tree.specs.declared.moving.Moving.{Moving}
+use Rattle.source_tree.specs.declared.moving.Moving.TheVariants.{Move, Initialize, Set}
 use Rattle.source_tree.specs.declared.statement.Verb.{Verb}
 use Rattle.source_tree.specs.declared.statement.Verb.TheVariants as verb
 use Rattle.source_tree.specs.declared.statement.Statement.{Statement, out-Statement}
@@ -11,15 +13,26 @@ use Rattle.source_tree.specs.declared.program.Sentence.{Sentence}
 use Rattle.source_tree.specs.declared.program.Paragraph.{Paragraph}
 use Rattle.source_tree.specs.declared.program.Program.{Program}
 use Rattle.source_tree.specs.Given.{Given}
+use Rattle.source_tree.specs.Places.{Placed}
+use Rattle.source_tree.specs.Storage.{Storage}
+use Rattle.source_tree.specs.Evaluated.{Evaluated}
 use Rattle.source_tree.specs.Starts.{areas_at_start}
 use Rattle.source_tree.specs.State.{State, End, Stopped, Budget, Outcome, Done, Over, then_do, in_turn, spend, changing}
 use Rattle.source_tree.specs.Procedures.{Range, within_range}
 use Rattle.source_tree.specs.Setting.{Scope, Setting, paragraphs, setting}
-use Rattle.source_tree.specs.Moving.{moving}
+use Rattle.source_tree.specs.Moving.{move}
+use Rattle.source_tree.specs.Initializing.{initialize, set}
 use Rattle.source_tree.specs.Arithmetic.{calculating}
 use Rattle.source_tree.specs.Branching.{branching}
 use Rattle.source_tree.specs.Performing.{performing}
 use Rattle.source_tree.specs.Texts.{texts}
+use Rattle.source_tree.specs.Stringing.{stringing}
+
+-- statements that put values into items
+abbrev pub moving : List Placed → Moving → Storage → Evaluated Storage
+moving items (Move sender receivers) storage = move items sender receivers storage
+moving items (Initialize receivers) storage = initialize items receivers storage
+moving items (Set conditions) storage = set items conditions storage
 
 abbrev pub finish : Ending → State → Outcome
 finish ending.StopRun s = Over Stopped s
@@ -34,6 +47,7 @@ step scope run range depth line (verb.Arithmetic one) s = calculating scope.item
 step scope run range depth line (verb.Branching one) s = branching scope.items run one s
 step scope run range depth line (verb.Performing one) s = performing run range scope depth line one s
 step scope run range depth line (verb.Text one) s = texts scope.items one s
+step scope run range depth line (verb.Stringing one) s = stringing scope.items run one s
 step scope run range depth line (verb.Ending one) s = finish one s
 
 abbrev pub sentence : (Statement → State → Outcome) → Sentence → State → Outcome

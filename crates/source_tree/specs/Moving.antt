@@ -3,8 +3,6 @@ use Rattle.std.specs.Prelude.{ℕ, List, [], ◌∷◌, Option, Some, None, Ok}
 use Rattle.picture.specs.declared.picture.Picture.{Picture}
 use Rattle.items.specs.declared.item.Item.{Item}
 use Rattle.edited_move.specs.Moves.{moved, moved_by_picture}
-use Rattle.source_tree.specs.declared.moving.Moving.{Moving}
-use Rattle.source_tree.specs.declared.moving.Moving.TheVariants.{Move}
 use Rattle.source_tree.specs.declared.reference.Reference.{Reference}
 use Rattle.source_tree.specs.declared.expression.Operand.{Operand}
 use Rattle.source_tree.specs.declared.expression.Operand.TheVariants as operand
@@ -36,7 +34,3 @@ move_to_each items sender (one ∷ more) storage =
 -- The sender is evaluated once, and taken whole before the first receiver.
 abbrev pub move : List Placed → Operand → List Reference → Storage → Evaluated Storage
 move items sender receivers storage = taken_of items sender storage >>= (λ taken. move_to_each items taken receivers storage)
-
--- statements that move
-abbrev pub moving : List Placed → Moving → Storage → Evaluated Storage
-moving items (Move sender receivers) storage = move items sender receivers storage

@@ -60,6 +60,7 @@ verb_performs procedures inside (verb.Arithmetic one) = phrase_performs inside o
 verb_performs procedures inside (verb.Branching one) = branching_performs inside one
 verb_performs procedures inside (verb.Performing one) = performed_performs procedures inside one.performed
 verb_performs procedures inside (verb.Text one) = []
+verb_performs procedures inside (verb.Stringing one) = phrase_performs inside one.phrases.arose ++ phrase_performs inside one.phrases.did_not
 verb_performs procedures inside (verb.Ending one) = []
 
 abbrev pub performs_layer : List Procedure → Statement-F (List Performance) → List Performance

@@ -4,7 +4,7 @@ use Rattle.std.specs.Prelude.{Bool, true, false, not, ◌&&◌, List, [], ◌∷
 use Rattle.lexical.specs.declared.place.Place.{Place}
 use Rattle.source_tree.specs.declared.name.Name.{Name}
 use Rattle.source_tree.specs.declared.moving.Moving.{Moving}
-use Rattle.source_tree.specs.declared.moving.Moving.TheVariants.{Move}
+use Rattle.source_tree.specs.declared.moving.Moving.TheVariants.{Move, Initialize, Set}
 use Rattle.source_tree.specs.declared.text.Text.{Text}
 use Rattle.source_tree.specs.declared.text.Text.TheVariants.{Display, Accept, AcceptDate}
 use Rattle.source_tree.specs.declared.phrases.Phrases.{Phrases}
@@ -14,6 +14,7 @@ use Rattle.source_tree.specs.declared.performing.Turns.TheVariants as often
 use Rattle.source_tree.specs.declared.performing.Performing.{Performing}
 use Rattle.source_tree.specs.declared.performing.Performed.{Performed}
 use Rattle.source_tree.specs.declared.performing.Performed.TheVariants.{Procedures, Statements}
+use Rattle.source_tree.specs.declared.stringing.Stringing.{Stringing}
 use Rattle.source_tree.specs.declared.statement.Verb.{Verb}
 use Rattle.source_tree.specs.declared.statement.Verb.TheVariants as verb
 use Rattle.source_tree.specs.declared.statement.Statement.{Statement}
@@ -34,6 +35,8 @@ use Rattle.source_tree.specs.MoveRules.{move_rules}
 use Rattle.source_tree.specs.TextRules.{display_rules, accept_line_rules, accept_date_rules}
 use Rattle.source_tree.specs.ArithmeticRules.{operation_rules}
 use Rattle.source_tree.specs.ConditionRules.{condition_rules, until_rules}
+use Rattle.source_tree.specs.SettingRules.{initialize_rules, set_rules}
+use Rattle.source_tree.specs.StringRules.{string_rules}
 use Rattle.source_tree.specs.EvaluateRules.{subject_rules, selected_rules}
 use Rattle.source_tree.specs.declared.branching.Branching.{Branching}
 use Rattle.source_tree.specs.declared.branching.Branching.TheVariants as branch
@@ -41,6 +44,8 @@ use Rattle.source_tree.specs.declared.evaluate.Evaluate.{Evaluate}
 
 abbrev pub moving_rules : List Placed → Moving → List Broken
 moving_rules items (Move sender receivers) = move_rules items sender receivers
+moving_rules items (Initialize receivers) = initialize_rules items receivers
+moving_rules items (Set conditions) = set_rules items conditions
 
 abbrev pub text_rules : List Placed → Text → List Broken
 text_rules items (Display operands advancing) = display_rules items operands
@@ -57,6 +62,9 @@ phrases_rules inside phrases = phrase_rules inside phrases.arose ++ phrase_rules
 
 abbrev pub arithmetic_rules : List Placed → {S : Type 0} → (S → List Broken) → Arithmetic S → List Broken
 arithmetic_rules items inside one = operation_rules items one.operation ++ phrases_rules inside one.phrases
+
+abbrev pub stringing_rules : List Placed → {S : Type 0} → (S → List Broken) → Stringing S → List Broken
+stringing_rules items inside one = string_rules items one ++ phrases_rules inside one.phrases
 
 -- What is performed; `permits` says which ranges may be, where the PERFORM stands, and `inside` has the rules of the statements in it.
 abbrev pub performed_rules : List Procedure → (Range → Bool) → {S : Type 0} → (S → List Broken) → Performed S → List Broken
@@ -93,6 +101,7 @@ verb_rules scope permits inside (verb.Arithmetic one) = arithmetic_rules scope.i
 verb_rules scope permits inside (verb.Branching one) = branching_rules scope.items inside one
 verb_rules scope permits inside (verb.Performing one) = performing_rules scope permits inside one
 verb_rules scope permits inside (verb.Text one) = text_rules scope.items one
+verb_rules scope permits inside (verb.Stringing one) = stringing_rules scope.items inside one
 verb_rules scope permits inside (verb.Ending one) = []
 
 module _ (scope : Scope) (permits : Range → Bool) where

@@ -1,4 +1,4 @@
-//! Statements that move: MOVE.
+//! Statements that put values into items: MOVE, INITIALIZE, SET.
 
 use crate::expression::Operand;
 use crate::reference::Reference;
@@ -10,5 +10,14 @@ pub enum Moving {
         sender: Operand,
         /// One or more.
         receivers: Items<Reference>,
+    },
+    Initialize {
+        /// One or more.
+        receivers: Items<Reference>,
+    },
+    /// SET of condition names TO TRUE.
+    Set {
+        /// One or more.
+        conditions: Items<Reference>,
     },
 }

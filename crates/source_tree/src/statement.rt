@@ -5,6 +5,7 @@ use crate::branching::Branching;
 use crate::ending::Ending;
 use crate::moving::Moving;
 use crate::performing::Performing;
+use crate::stringing::Stringing;
 use crate::text::Text;
 use lexical::Place;
 
@@ -16,6 +17,7 @@ pub enum Verb<S> {
     Branching(Branching<S>),
     Performing(Performing<S>),
     Text(Text),
+    Stringing(Stringing<S>),
     Ending(Ending),
 }
 

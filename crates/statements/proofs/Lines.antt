@@ -2,7 +2,7 @@
 use Rattle.std.proofs.Common.{◌≡◌, ℕ, true, false, List, length, Option, None, Some, sym, ap, ◌∙◌, subst, arith}
 use Rattle.std.specs.Prelude.{Ok, is_some}
 use Rattle.tokens.specs.declared.token.Token.{Token}
-use Rattle.source_tree.specs.declared.moving.Moving.TheVariants.{Move}
+use Rattle.source_tree.specs.declared.moving.Moving.TheVariants.{Move, Initialize, Set}
 use Rattle.source_tree.specs.declared.text.Text.TheVariants as text
 use Rattle.source_tree.specs.declared.branching.Branching.TheVariants.{If, Evaluate}
 use Rattle.source_tree.specs.declared.ending.Ending.TheVariants as ending
@@ -31,16 +31,21 @@ use Rattle.statements.proofs.Verbs.Continuing.{continuing_shrinks, continuing_st
 use Rattle.statements.proofs.Verbs.Display.{display_shrinks, display_stands, display_complete, display_sound}
 use Rattle.statements.proofs.Verbs.Evaluate.{evaluating_shrinks, evaluating_stands, evaluating_complete, evaluating_sound}
 use Rattle.statements.proofs.Verbs.Exiting.{exiting_shrinks, exiting_stands, exiting_complete, exiting_sound}
+use Rattle.statements.proofs.Verbs.Initializing.{initializing_shrinks, initializing_stands, initializing_complete, initializing_sound}
 use Rattle.statements.proofs.Verbs.Moving.{moving_shrinks, moving_stands, moving_complete, moving_sound}
 use Rattle.statements.proofs.StatementLists.{statements_shrink, statements_start, statements_complete}
 use Rattle.statements.proofs.Verbs.Performing.{performing_shrinks, performing_stands, performing_complete, performing_sound}
+use Rattle.statements.proofs.Verbs.Setting.{setting_shrinks, setting_stands, setting_complete, setting_sound}
 use Rattle.statements.proofs.Verbs.StopRun.{stop_run_shrinks, stop_run_stands, stop_run_complete, stop_run_sound}
+use Rattle.statements.proofs.Verbs.Stringing.{stringing_shrinks, stringing_stands, stringing_complete, stringing_sound}
 
 -- ---- each statement takes a token, and begins with its verb
 
 module _ (depth : ℕ) (p : Statement → Part) where
   verb_shrinks : Shrinks p → Shrinks (g.verb_line depth p)
   verb_shrinks fewer (verb.Moving (Move sender receivers)) i rest s = moving_shrinks sender receivers i rest s
+  verb_shrinks fewer (verb.Moving (Initialize receivers)) i rest s = initializing_shrinks receivers i rest s
+  verb_shrinks fewer (verb.Moving (Set conditions)) i rest s = setting_shrinks conditions i rest s
   verb_shrinks fewer (verb.Arithmetic one) i rest s = arithmetic_shrinks depth (g.statements p) (statements_shrink p fewer) one i rest s
   verb_shrinks fewer (verb.Branching (If asked done otherwise)) i rest s = branching_shrinks (g.statements p) depth (statements_shrink p fewer) asked done otherwise i rest s
   verb_shrinks fewer (verb.Branching (Evaluate one)) i rest s = evaluating_shrinks (g.statements p) depth (statements_shrink p fewer) one i rest s
@@ -48,6 +53,7 @@ module _ (depth : ℕ) (p : Statement → Part) where
   verb_shrinks fewer (verb.Text (text.Display operands advancing)) i rest s = display_shrinks operands advancing i rest s
   verb_shrinks fewer (verb.Text (text.Accept receiver)) i rest s = accepting_shrinks receiver true i rest s
   verb_shrinks fewer (verb.Text (text.AcceptDate receiver)) i rest s = accepting_shrinks receiver false i rest s
+  verb_shrinks fewer (verb.Stringing one) i rest s = stringing_shrinks (g.statements p) (statements_shrink p fewer) one i rest s
   verb_shrinks fewer (verb.Ending ending.StopRun) i rest s = stop_run_shrinks i rest s
   verb_shrinks fewer (verb.Ending ending.Continue) i rest s = continuing_shrinks i rest s
   verb_shrinks fewer (verb.Ending ending.Exit) i rest s = exiting_shrinks i rest s
@@ -58,6 +64,8 @@ module _ (depth : ℕ) (p : Statement → Part) where
   -- the verb that a line begins with
   abbrev word_of : Verb Statement → VerbWord
   word_of (verb.Moving (Move sender receivers)) = v.Move
+  word_of (verb.Moving (Initialize receivers)) = v.Initialize
+  word_of (verb.Moving (Set conditions)) = v.Set
   word_of (verb.Arithmetic one) = v.Arithmetic (verb_word one.operation)
   word_of (verb.Branching (If asked done otherwise)) = v.If
   word_of (verb.Branching (Evaluate one)) = v.Evaluate
@@ -65,12 +73,15 @@ module _ (depth : ℕ) (p : Statement → Part) where
   word_of (verb.Text (text.Display operands advancing)) = v.Display
   word_of (verb.Text (text.Accept receiver)) = v.Accept
   word_of (verb.Text (text.AcceptDate receiver)) = v.Accept
+  word_of (verb.Stringing one) = v.String
   word_of (verb.Ending ending.StopRun) = v.Stop
   word_of (verb.Ending ending.Continue) = v.Continue
   word_of (verb.Ending ending.Exit) = v.Exit
 
   verb_stands : (x : Verb Statement) (i rest : List Token) → g.verb_line depth p x i rest → verb_at i ≡ Some (word_of x)
   verb_stands (verb.Moving (Move sender receivers)) i rest s = moving_stands sender receivers i rest s
+  verb_stands (verb.Moving (Initialize receivers)) i rest s = initializing_stands receivers i rest s
+  verb_stands (verb.Moving (Set conditions)) i rest s = setting_stands conditions i rest s
   verb_stands (verb.Arithmetic one) i rest s = arithmetic_stands depth (g.statements p) one i rest s
   verb_stands (verb.Branching (If asked done otherwise)) i rest s = branching_stands (g.statements p) depth asked done otherwise i rest s
   verb_stands (verb.Branching (Evaluate one)) i rest s = evaluating_stands (g.statements p) depth one i rest s
@@ -78,6 +89,7 @@ module _ (depth : ℕ) (p : Statement → Part) where
   verb_stands (verb.Text (text.Display operands advancing)) i rest s = display_stands operands advancing i rest s
   verb_stands (verb.Text (text.Accept receiver)) i rest s = accepting_stands receiver true i rest s
   verb_stands (verb.Text (text.AcceptDate receiver)) i rest s = accepting_stands receiver false i rest s
+  verb_stands (verb.Stringing one) i rest s = stringing_stands (g.statements p) one i rest s
   verb_stands (verb.Ending ending.StopRun) i rest s = stop_run_stands i rest s
   verb_stands (verb.Ending ending.Continue) i rest s = continuing_stands i rest s
   verb_stands (verb.Ending ending.Exit) i rest s = exiting_stands i rest s
@@ -97,9 +109,12 @@ module _ (depth : ℕ) (p : Statement → Part) where
     by_verb_sound (Some v.Evaluate) x i rest e = evaluating_sound depth p nested each x i rest e
     by_verb_sound (Some v.Exit) x i rest e = exiting_sound depth p x i rest e
     by_verb_sound (Some v.If) x i rest e = branching_sound depth p nested each x i rest e
+    by_verb_sound (Some v.Initialize) x i rest e = initializing_sound depth p x i rest e
     by_verb_sound (Some v.Move) x i rest e = moving_sound depth p x i rest e
     by_verb_sound (Some v.Perform) x i rest e = performing_sound depth p nested each x i rest e
+    by_verb_sound (Some v.Set) x i rest e = setting_sound depth p x i rest e
     by_verb_sound (Some v.Stop) x i rest e = stop_run_sound depth p x i rest e
+    by_verb_sound (Some v.String) x i rest e = stringing_sound depth p nested each x i rest e
 
     verb_sound : Sound (g.verb_line depth p) (r.verb depth nested)
     unfolding r.verb
@@ -120,6 +135,8 @@ module _ (Allowed : Halt → Type 0) (depth depth' : ℕ) (computes : Complete A
     (p : Statement → Part) (nested : Parser Statement) (each : Complete Allowed p nested) (fewer : Shrinks p) (begins : Starts begins_statement p) where
   by_verb_complete : (x : Verb Statement) (i rest : List Token) → g.verb_line depth' p x i rest → Answers Allowed (r.by_verb depth nested (Some (word_of depth' p x)) i) x rest
   by_verb_complete (verb.Moving (Move sender receivers)) i rest s = moving_complete sender receivers i rest s
+  by_verb_complete (verb.Moving (Initialize receivers)) i rest s = initializing_complete receivers i rest s
+  by_verb_complete (verb.Moving (Set conditions)) i rest s = setting_complete conditions i rest s
   by_verb_complete (verb.Arithmetic one) i rest s =
       arithmetic_complete Allowed depth depth' computes (g.statements p) (r.statements nested) (statements_complete Allowed p nested each fewer begins) one.operation one.phrases i rest s
   by_verb_complete (verb.Branching (If asked done otherwise)) i rest s =
@@ -132,6 +149,8 @@ module _ (Allowed : Halt → Type 0) (depth depth' : ℕ) (computes : Complete A
   by_verb_complete (verb.Text (text.Display operands advancing)) i rest s = display_complete operands advancing i rest s
   by_verb_complete (verb.Text (text.Accept receiver)) i rest s = accepting_complete receiver true i rest s
   by_verb_complete (verb.Text (text.AcceptDate receiver)) i rest s = accepting_complete receiver false i rest s
+  by_verb_complete (verb.Stringing one) i rest s =
+      stringing_complete (g.statements p) (r.statements nested) Allowed (statements_complete Allowed p nested each fewer begins) one i rest s
   by_verb_complete (verb.Ending ending.StopRun) i rest s = stop_run_complete i rest s
   by_verb_complete (verb.Ending ending.Continue) i rest s = continuing_complete i rest s
   by_verb_complete (verb.Ending ending.Exit) i rest s = exiting_complete i rest s

@@ -11,7 +11,10 @@ pub mod Continuing
 pub mod Display
 pub mod Evaluate
 pub mod Exiting
+pub mod Initializing
 pub mod Moving
 pub mod Turning
 pub mod Performing
+pub mod Setting
 pub mod StopRun
+pub mod Stringing

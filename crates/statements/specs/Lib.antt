@@ -12,10 +12,13 @@ pub mod Branching
 pub mod Continuing
 pub mod Display
 pub mod Exiting
+pub mod Initializing
 pub mod Moving
 pub mod Turning
 pub mod Performing
+pub mod Setting
 pub mod StopRun
+pub mod Stringing
 pub mod Spelling
 pub mod Reading
 pub mod Nests

@@ -15,9 +15,12 @@ use Rattle.statements.specs.Continuing.{continuing_reader}
 use Rattle.statements.specs.Display.{display_reader}
 use Rattle.statements.specs.Evaluate.{evaluating_reader}
 use Rattle.statements.specs.Exiting.{exiting_reader}
+use Rattle.statements.specs.Initializing.{initializing_reader}
 use Rattle.statements.specs.Moving.{moving_reader}
 use Rattle.statements.specs.Performing.{performing_reader}
+use Rattle.statements.specs.Setting.{setting_reader}
 use Rattle.statements.specs.StopRun.{stop_run_reader}
+use Rattle.statements.specs.Stringing.{stringing_reader}
 
 unfoldable pub statements : Parser Statement → Parser (List Statement)
 statements statement = several statement begins_statement
@@ -33,9 +36,12 @@ module _ (depth : ℕ) (statement : Parser Statement) where
   by_verb (Some v.Evaluate) = evaluating_reader depth (statements statement)
   by_verb (Some v.Exit) = exiting_reader
   by_verb (Some v.If) = branching_reader depth (statements statement)
+  by_verb (Some v.Initialize) = initializing_reader
   by_verb (Some v.Move) = moving_reader
   by_verb (Some v.Perform) = performing_reader depth (statements statement)
+  by_verb (Some v.Set) = setting_reader
   by_verb (Some v.Stop) = stop_run_reader
+  by_verb (Some v.String) = stringing_reader (statements statement)
 
   -- the verb decides
   unfoldable pub verb : Parser (Verb Statement)

@@ -1,7 +1,7 @@
 -- Which tokens spell which statement: one line for each verb, whose rule stands in a file of its own.
 use Rattle.std.specs.Prelude.{ℕ, zero, suc, true, false, List}
 use Rattle.source_tree.specs.declared.moving.Moving.{Moving}
-use Rattle.source_tree.specs.declared.moving.Moving.TheVariants.{Move}
+use Rattle.source_tree.specs.declared.moving.Moving.TheVariants.{Move, Initialize, Set}
 use Rattle.source_tree.specs.declared.text.Text.{Text}
 use Rattle.source_tree.specs.declared.text.Text.TheVariants as text
 use Rattle.source_tree.specs.declared.ending.Ending.{Ending}
@@ -18,9 +18,12 @@ use Rattle.statements.specs.Branching.{branching}
 use Rattle.statements.specs.Continuing.{continuing}
 use Rattle.statements.specs.Display.{display}
 use Rattle.statements.specs.Exiting.{exiting}
+use Rattle.statements.specs.Initializing.{initializing}
 use Rattle.statements.specs.Moving.{moving}
 use Rattle.statements.specs.Performing.{performing}
+use Rattle.statements.specs.Setting.{setting}
 use Rattle.statements.specs.StopRun.{stop_run}
+use Rattle.statements.specs.Stringing.{stringing}
 
 -- how many statements may stand in one another, the outermost among them (own choice)
 abbrev pub max_nesting : ℕ
@@ -28,6 +31,8 @@ max_nesting = 64
 
 abbrev pub moving_line : Moving → Part
 moving_line (Move sender receivers) = moving sender receivers
+moving_line (Initialize receivers) = initializing receivers
+moving_line (Set conditions) = setting conditions
 
 abbrev pub text_line : Text → Part
 text_line (text.Display operands advancing) = display operands advancing
@@ -52,6 +57,7 @@ module _ (depth : ℕ) (statement : Statement → Part) where
   verb_line (verb.Branching one) = branching depth (statements statement) one
   verb_line (verb.Performing one) = performing depth (statements statement) one
   verb_line (verb.Text one) = text_line one
+  verb_line (verb.Stringing one) = stringing (statements statement) one
   verb_line (verb.Ending one) = ending_line one
 
   -- A statement stands where its verb does (own choice).

@@ -20,10 +20,13 @@ verb_of w.Divide = Some (v.Arithmetic a.Divide)
 verb_of w.Evaluate = Some v.Evaluate
 verb_of w.Exit = Some v.Exit
 verb_of w.If = Some v.If
+verb_of w.Initialize = Some v.Initialize
 verb_of w.Move = Some v.Move
 verb_of w.Multiply = Some (v.Arithmetic a.Multiply)
 verb_of w.Perform = Some v.Perform
+verb_of w.Set = Some v.Set
 verb_of w.Stop = Some v.Stop
+verb_of w.String = Some v.String
 verb_of w.Subtract = Some (v.Arithmetic a.Subtract)
 verb_of _ = None
 

@@ -10,7 +10,9 @@ use crate::accepting::accepting;
 use crate::continuing::continuing;
 use crate::display::display;
 use crate::exiting::exiting;
+use crate::initializing::initializing;
 use crate::moving::moving;
+use crate::setting::setting;
 use crate::stop_run::stop_run;
 use crate::verb::{VerbWord, begins_statement, verb_at};
 use grammar::{Halt, Part, ReadFault, Tokens, several};
@@ -72,9 +74,12 @@ impl<F: Fn(Global, &mut Tokens<'_>, usize) -> Result<Statement, ReadFault>> Nest
             Some(VerbWord::Evaluate) => self.evaluating(tokens),
             Some(VerbWord::Exit) => exiting(tokens),
             Some(VerbWord::If) => self.branching(tokens),
+            Some(VerbWord::Initialize) => initializing(self.alloc, tokens),
             Some(VerbWord::Move) => moving(self.alloc, tokens),
             Some(VerbWord::Perform) => self.performing(tokens),
+            Some(VerbWord::Set) => setting(self.alloc, tokens),
             Some(VerbWord::Stop) => stop_run(tokens),
+            Some(VerbWord::String) => self.stringing(tokens),
             None => Err(tokens.refuse()),
         }
     }

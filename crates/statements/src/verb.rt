@@ -26,9 +26,12 @@ pub enum VerbWord {
     Evaluate,
     Exit,
     If,
+    Initialize,
     Move,
     Perform,
+    Set,
     Stop,
+    String,
 }
 
 /// The verb that a word is.
@@ -45,10 +48,13 @@ pub fn verb_of(word: Reserved) -> Option<VerbWord>
         Reserved::Evaluate => Some(VerbWord::Evaluate),
         Reserved::Exit => Some(VerbWord::Exit),
         Reserved::If => Some(VerbWord::If),
+        Reserved::Initialize => Some(VerbWord::Initialize),
         Reserved::Move => Some(VerbWord::Move),
         Reserved::Multiply => Some(VerbWord::Arithmetic(ArithmeticVerb::Multiply)),
         Reserved::Perform => Some(VerbWord::Perform),
+        Reserved::Set => Some(VerbWord::Set),
         Reserved::Stop => Some(VerbWord::Stop),
+        Reserved::String => Some(VerbWord::String),
         Reserved::Subtract => Some(VerbWord::Arithmetic(ArithmeticVerb::Subtract)),
         _ => None,
     }

@@ -12,6 +12,8 @@ mod control_rows;
 #[cfg(test)]
 mod evaluate_rows;
 #[cfg(test)]
+mod moved;
+#[cfg(test)]
 mod operands;
 #[cfg(test)]
 mod operations;
@@ -19,5 +21,7 @@ mod operations;
 mod read;
 #[cfg(test)]
 mod selected;
+#[cfg(test)]
+mod stringing_rows;
 #[cfg(test)]
 mod written;

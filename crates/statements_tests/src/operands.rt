@@ -43,7 +43,23 @@ fn sign(sign: Sign) -> &'static str {
     }
 }
 
-/// A number as written, ZERO, or an alphanumeric literal in quotation marks.
+fn figurative(figurative: Figurative) -> &'static str {
+    match figurative {
+        Figurative::Zero => "ZERO",
+        Figurative::Space => "SPACE",
+        Figurative::HighValue => "HIGH-VALUE",
+        Figurative::LowValue => "LOW-VALUE",
+        Figurative::Quote => "QUOTE",
+    }
+}
+
+fn push_quoted(to: &mut String, bytes: &[u8]) -> Result<(), AllocError> {
+    to.push_str("\"")?;
+    push_bytes(to, bytes)?;
+    to.push_str("\"")
+}
+
+/// A number as written, a figurative constant, or an alphanumeric literal in quotation marks, behind `all` where it is ALL's.
 pub fn push_value(to: &mut String, value: &LiteralValue) -> Result<(), AllocError> {
     match value {
         LiteralValue::Numeric(number) => {
@@ -55,13 +71,12 @@ pub fn push_value(to: &mut String, value: &LiteralValue) -> Result<(), AllocErro
             to.push_str(".")?;
             push_bytes(to, number.decimals.as_slice())
         }
-        LiteralValue::Nonnumeric(bytes) => {
-            to.push_str("\"")?;
-            push_bytes(to, bytes.as_slice())?;
-            to.push_str("\"")
+        LiteralValue::Nonnumeric(bytes) => push_quoted(to, bytes.as_slice()),
+        LiteralValue::Figurative(one) => to.push_str(figurative(*one)),
+        LiteralValue::All(bytes) => {
+            to.push_str("all ")?;
+            push_quoted(to, bytes.as_slice())
         }
-        LiteralValue::Figurative(Figurative::Zero) => to.push_str("ZERO"),
-        _ => to.push_str("?"),
     }
 }
 

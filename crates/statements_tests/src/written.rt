@@ -1,12 +1,13 @@
 //! Statements, written out again.
 
 use crate::asked::push_condition;
+use crate::moved::{push_moving, push_string};
 use crate::operands::{DEEPEST, push_bytes, push_operand, push_reference};
 use crate::operations::{push_operation, push_text};
 use crate::selected::{push_subjects, push_whens};
 use source_tree::{
-    Branching, Condition, Ending, Evaluate, Name, Performed, Selected, Statement, TestTime, Turns,
-    Until, Verb,
+    Branching, Condition, Ending, Evaluate, Name, Performed, Phrases, Selected, Statement,
+    TestTime, Turns, Until, Verb,
 };
 use sqlite_items::Items;
 use std::alloc::AllocError;
@@ -107,22 +108,31 @@ fn push_evaluate(to: &mut String, one: &Evaluate<Statement>) -> Result<(), Alloc
     Ok(())
 }
 
-/// The statements of a phrase stand behind `error` those of SIZE ERROR and behind `fits` those of its opposite; those of ELSE
-/// behind `else`.
+/// The statements of a phrase stand behind `arose`, and those of its opposite behind `fits`.
+#[cycle(written)]
+fn push_phrases(
+    to: &mut String,
+    arose: &'static str,
+    phrases: &Phrases<Statement>,
+) -> Result<(), AllocError> {
+    if let Some(statements) = &phrases.arose {
+        to.push_str(arose)?;
+        push_inner(to, statements)?;
+    }
+    if let Some(statements) = &phrases.did_not {
+        to.push_str(" fits")?;
+        push_inner(to, statements)?;
+    }
+    Ok(())
+}
+
+/// The statements of SIZE ERROR stand behind `error`, those of OVERFLOW behind `over`, and those of ELSE behind `else`.
 #[cycle(written)]
 fn push_statement(to: &mut String, statement: &Statement) -> Result<(), AllocError> {
     match &statement.verb {
         Verb::Arithmetic(one) => {
             push_operation(to, &one.operation)?;
-            if let Some(statements) = &one.phrases.arose {
-                to.push_str(" error")?;
-                push_inner(to, statements)?;
-            }
-            if let Some(statements) = &one.phrases.did_not {
-                to.push_str(" fits")?;
-                push_inner(to, statements)?;
-            }
-            Ok(())
+            push_phrases(to, " error", &one.phrases)
         }
         Verb::Branching(
             Branching::If {
@@ -147,9 +157,13 @@ fn push_statement(to: &mut String, statement: &Statement) -> Result<(), AllocErr
                 Performed::Statements(statements) => push_inner(to, statements),
             }
         }
+        Verb::Moving(one) => push_moving(to, one),
+        Verb::Stringing(one) => {
+            push_string(to, one)?;
+            push_phrases(to, " over", &one.phrases)
+        }
         Verb::Text(text) => push_text(to, text),
         Verb::Ending(one) => to.push_str(ending(*one)),
-        Verb::Moving(_) => to.push_str("?"),
     }
 }
 

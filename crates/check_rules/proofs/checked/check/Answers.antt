@@ -1,16 +1,18 @@
-use Rattle.std.proofs.Common.{◌≡◌, [], List, ◌++◌, Some, subst, sym, ap, ◌∙◌}
+use Rattle.std.proofs.Common.{◌≡◌, [], List, ◌++◌, Ok, Err, subst, sym, ap, ◌∙◌}
+use Rattle.std.specs.Prelude.{Result}
 use Rattle.std.proofs.lemmas.Result.{err_from_is_err_and}
+use Rattle.std.specs.Result.{OnOk, result_map_both}
 use Rattle.source_tree.specs.declared.entry.Entry.{Entry}
 use Rattle.source_tree.specs.declared.program.Section.{Section}
 use Rattle.source_tree.specs.EntryRules.{entry_rules}
-use Rattle.source_tree.specs.LookUp.{first}
 use Rattle.source_tree.specs.PerformRules.{procedure_name_rules}
 use Rattle.source_tree.specs.Rules.{sections_rules, procedure_rules, all_permitted}
-use Rattle.source_tree.specs.Setting.{Scope, scope}
-use Rattle.entry_rules.specs.Checks.{IsFirst, broken_of, fault_of}
-use Rattle.check_rules.specs.Named.{scope_in}
-use Rattle.check_rules.proofs.Firsts.{is_first_front, is_first_behind, fails_is_first, told_first, told_back, both_none, all_none, program_none, scope_same}
+use Rattle.source_tree.specs.Setting.{scope}
+use Rattle.entry_rules.specs.Checks.{IsFirst, fault_of}
+use Rattle.check_rules.specs.Kept.{KeepsRules}
+use Rattle.check_rules.proofs.Firsts.{is_first_front, is_first_behind, fails_is_first, told_first}
 use Rattle.check_rules.proofs.checked.check.Goals as goal
+use Rattle.check_rules.proofs.checked.check.Goals.{In_ok-declarations-2}
 
 pub returns-in_err-check_entries-clause-exact : goal.returns-in_err-check_entries-clause-exact
 returns-in_err-check_entries-clause-exact c =
@@ -41,56 +43,31 @@ returns-in_err-declarations-clause-exact c =
     (is_first_behind fault entries names kept_entries
     (subst (λ (l : List Section). IsFirst fault (procedure_name_rules l)) c.as_slice-sections.ensures c.in_err-declarations.ensures.names)))))
 
-pub returns-in_err-sections_rules-clause-exact : goal.returns-in_err-sections_rules-clause-exact
-returns-in_err-sections_rules-clause-exact c =
-    let error = err_from_is_err_and c.from_residual-in_err-sections_rules.result c.from_residual-in_err-sections_rules.ensures.1 in
-    let program = c.args.program.now in
-    let entries = entry_rules program.storage in
-    let names = procedure_name_rules program.sections in
-    let statements = sections_rules (scope program) all_permitted program.sections in
-    let broken = broken_of c.in_err-sections_rules.field-0.0 in
-    let kept_entries : entries ≡ [] = ap entry_rules (sym c.as_slice-storage.ensures) ∙ c.in_ok-check_entries.ensures.kept in
-    let kept_names : names ≡ [] = ap procedure_name_rules (sym c.as_slice-sections.ensures) ∙ c.in_ok-declarations.ensures.names in
-    let declared = c.in_ok-declarations.declarations in
-    let around = scope_same program declared (c.in_ok-declarations.ensures.entries ∙ c.as_slice-storage.ensures) (c.in_ok-declarations.ensures.sections ∙ c.as_slice-sections.ensures) in
-    let found : first statements ≡ Some broken = ap (λ (s : Scope). first (sections_rules s all_permitted program.sections)) around
-    ∙ ap (λ (l : List Section). first (sections_rules (scope_in declared) all_permitted l)) (sym c.as_slice-sections.ensures) ∙ c.in_err-sections_rules.ensures in
-    rw (error.1, error.2)
-    (told_first program (Some broken) (is_first_front (Some broken) (entries ++ names ++ statements) (procedure_rules program)
-    (is_first_behind (Some broken) (entries ++ names) statements (both_none entries names kept_entries kept_names) found)))
+-- What was made is held where nothing failed behind it.
+nothing_failed : {A E : Type 0} (first : A) (behind : Result (Unit {0}) E) (held : A) (end : Unit {0}) → result_map_both {U = A × Unit {0}} (λ b. (first, b)) (λ e. e) behind ≡ Ok (held, end)
+    → (held ≡ first) × (behind ≡ Ok end)
+nothing_failed {A} first (Ok end) held other h =
+    let same : ◌≡◌ {A = A × Unit {0}} (held, other) (first, end) = cc in
+    (ap (λ (pair : A × Unit {0}). pair.0) same, ap (λ (pair : A × Unit {0}). Ok pair.1) (sym same))
+nothing_failed first (Err e) held other h = absurd cc
 
-pub returns-in_err-procedure_rules-clause-exact : goal.returns-in_err-procedure_rules-clause-exact
-returns-in_err-procedure_rules-clause-exact c =
-    let error = err_from_is_err_and c.from_residual-in_err-procedure_rules.result c.from_residual-in_err-procedure_rules.ensures.1 in
-    let program = c.args.program.now in
-    let entries = entry_rules program.storage in
-    let names = procedure_name_rules program.sections in
-    let statements = sections_rules (scope program) all_permitted program.sections in
-    let broken = broken_of c.in_err-procedure_rules.field-0.0 in
-    let kept_entries : entries ≡ [] = ap entry_rules (sym c.as_slice-storage.ensures) ∙ c.in_ok-check_entries.ensures.kept in
-    let kept_names : names ≡ [] = ap procedure_name_rules (sym c.as_slice-sections.ensures) ∙ c.in_ok-declarations.ensures.names in
-    let declared = c.in_ok-declarations.declarations in
-    let around = scope_same program declared (c.in_ok-declarations.ensures.entries ∙ c.as_slice-storage.ensures) (c.in_ok-declarations.ensures.sections ∙ c.as_slice-sections.ensures) in
-    let kept_statements : statements ≡ [] = ap (λ (s : Scope). sections_rules s all_permitted program.sections) around
-    ∙ ap (sections_rules (scope_in declared) all_permitted) (sym c.as_slice-sections.ensures) ∙ c.in_ok-sections_rules.ensures in
-    rw (error.1, error.2)
-    (told_first program (Some broken)
-    (is_first_behind (Some broken) (entries ++ names ++ statements) (procedure_rules program) (all_none entries names statements kept_entries kept_names kept_statements)
-    c.in_err-procedure_rules.ensures))
+at_ok : {A E : Type 0} {P : Type 0} (r : Result A E) (x : A) → OnOk r P → r ≡ Ok x → P
+at_ok {P} r x h e = subst (λ r. OnOk r P) e h
 
-pub returns-in_err-recursion_rules-clause-exact : goal.returns-in_err-recursion_rules-clause-exact
-returns-in_err-recursion_rules-clause-exact c =
-    let error = err_from_is_err_and c.from_residual-in_err-recursion_rules.result c.from_residual-in_err-recursion_rules.ensures.1 in
+ruled : (c : In_ok-declarations-2) → (c.in_ok-declarations-2.declarations ≡ c.in_ok-declarations.declarations) × (c.procedure_division_rules-ruled.result ≡ Ok tt)
+ruled c = nothing_failed c.in_ok-declarations.declarations c.procedure_division_rules-ruled.result c.in_ok-declarations-2.declarations tt (sym c.beside.ensures ∙ c.in_ok-declarations-2.was)
+
+pub returns-clause-order : goal.returns-clause-order
+returns-clause-order c = at_ok c.procedure_division_rules-ruled.result tt c.procedure_division_rules-ruled.ensures.order (ruled c).1
+
+pub invariant_of-result : goal.invariant_of-result
+invariant_of-result c =
     let program = c.args.program.now in
-    let entries = entry_rules program.storage in
-    let names = procedure_name_rules program.sections in
-    let statements = sections_rules (scope program) all_permitted program.sections in
-    let kept_entries : entries ≡ [] = ap entry_rules (sym c.as_slice-storage.ensures) ∙ c.in_ok-check_entries.ensures.kept in
-    let kept_names : names ≡ [] = ap procedure_name_rules (sym c.as_slice-sections.ensures) ∙ c.in_ok-declarations.ensures.names in
-    let declared = c.in_ok-declarations.declarations in
-    let around = scope_same program declared (c.in_ok-declarations.ensures.entries ∙ c.as_slice-storage.ensures) (c.in_ok-declarations.ensures.sections ∙ c.as_slice-sections.ensures) in
-    let kept_statements : statements ≡ [] = ap (λ (s : Scope). sections_rules s all_permitted program.sections) around
-    ∙ ap (sections_rules (scope_in declared) all_permitted) (sym c.as_slice-sections.ensures) ∙ c.in_ok-sections_rules.ensures in
-    rw (error.1, error.2)
-    (told_back program (fault_of c.in_err-recursion_rules.field-0.0)
-    (program_none program kept_entries kept_names kept_statements c.in_ok-procedure_rules.ensures) c.in_err-recursion_rules.ensures.back)
+    let h = ruled c in
+    subst (KeepsRules program) (sym h.0) (record {
+      rules = at_ok c.procedure_division_rules-ruled.result tt c.procedure_division_rules-ruled.ensures.kept h.1;
+      order = at_ok c.procedure_division_rules-ruled.result tt c.procedure_division_rules-ruled.ensures.order h.1;
+      declared = c.in_ok-declarations.ensures.declared;
+      entries = c.in_ok-declarations.ensures.entries ∙ c.as_slice-storage.ensures;
+      sections = c.in_ok-declarations.ensures.sections ∙ c.as_slice-sections.ensures;
+    })

@@ -1,4 +1,5 @@
-use Rattle.data_instructions.proofs.Safety.{safe, safe_accept, safe_date, safe_showing}
+use Rattle.data_instructions.proofs.EachSafety.{safe}
+use Rattle.data_instructions.proofs.Safety.{safe_accept, safe_date, safe_showing}
 use Rattle.data_instructions.proofs.laws.safety_law.Goals as goal
 
 pub returns-clause-work : goal.returns-clause-work

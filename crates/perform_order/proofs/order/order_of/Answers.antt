@@ -6,6 +6,7 @@ use Rattle.perform_order.specs.declared.visit.Visit.{Visit}
 use Rattle.perform_order.specs.Order.{AreHeights, IsRange, PerformOneAnother, marks}
 use Rattle.perform_order.specs.Walk.{IsRing, IsWalked, height_of}
 use Rattle.perform_order.proofs.Ends.{are_heights, perform_one_another, ring_within}
+use Rattle.std.proofs.lemmas.Grind.{common_steps}
 use Rattle.perform_order.proofs.order.order_of.Goals as goal
 use Rattle.perform_order.proofs.order.order_of.Goals.{In-Some}
 
@@ -51,3 +52,39 @@ returns c =
     subst (AreHeights c.args.count c.args.performed.now) (sym is)
     (subst (λ p. AreHeights c.args.count p (map height_of states)) same
     (are_heights c.args.count performed states c.loop-paragraph.walk.placed c.loop-paragraph.invariant.stands c.loop-paragraph.invariant.same seen ranges))
+
+pub loop-paragraph-init : goal.loop-paragraph-init
+loop-paragraph-init c = grind (arith, common_steps)
+
+pub loop-paragraph-preserved : goal.loop-paragraph-preserved
+loop-paragraph-preserved c = grind (arith, common_steps)
+
+pub loop-paragraph-preserved-then-is_seen : goal.loop-paragraph-preserved-then-is_seen
+loop-paragraph-preserved-then-is_seen c = grind (arith, common_steps)
+
+pub loop-paragraph-smaller : goal.loop-paragraph-smaller
+loop-paragraph-smaller c = grind (arith, common_steps)
+
+pub loop-paragraph-smaller-then-is_seen : goal.loop-paragraph-smaller-then-is_seen
+loop-paragraph-smaller-then-is_seen c = grind (arith, common_steps)
+
+pub ring_from-requires-clause-ranges : goal.ring_from-requires-clause-ranges
+ring_from-requires-clause-ranges c = grind (arith, common_steps)
+
+pub ring_from-requires-clause-grouped : goal.ring_from-requires-clause-grouped
+ring_from-requires-clause-grouped c = grind (arith, common_steps)
+
+pub ring_from-requires-clause-stands : goal.ring_from-requires-clause-stands
+ring_from-requires-clause-stands c = grind (arith, common_steps)
+
+pub ring_from-requires-clause-unseen : goal.ring_from-requires-clause-unseen
+ring_from-requires-clause-unseen c = grind (arith, common_steps)
+
+pub slice_bounds-marks_of-start : goal.slice_bounds-marks_of-start
+slice_bounds-marks_of-start c = grind (arith, common_steps)
+
+pub slice_bounds-marks_of-end : goal.slice_bounds-marks_of-end
+slice_bounds-marks_of-end c = grind (arith, common_steps)
+
+pub slice_bounds-marks_of-count : goal.slice_bounds-marks_of-count
+slice_bounds-marks_of-count c = grind (arith, common_steps)

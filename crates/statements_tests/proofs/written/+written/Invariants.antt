@@ -14,5 +14,8 @@ decreases-push_group l = 8 * goal.size-push_group l + 2
 abbrev pub decreases-push_groups : goal.decreases-push_groups
 decreases-push_groups l = 8 * goal.size-push_groups l + 3
 
+abbrev pub decreases-push_phrases : goal.decreases-push_phrases
+decreases-push_phrases l = 8 * goal.size-push_phrases l + 2
+
 abbrev pub decreases-push_evaluate : goal.decreases-push_evaluate
 decreases-push_evaluate l = 8 * goal.size-push_evaluate l + 4

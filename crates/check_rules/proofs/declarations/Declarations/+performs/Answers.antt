@@ -61,3 +61,8 @@ pub phrase_performs-returns-in-Some : goal.phrase_performs-returns-in-Some
 phrase_performs-returns-in-Some t c =
     let e : c.args.phrase.now ≡ Some c.as_slice.result.now = c.in-Some.is ∙ ap (λ (l : List Statement). Some l) (sym c.as_slice.ensures) in
     phrase_some (procedures_in c.args.self.now) c.args.number c.args.all.now c.statements_performs.new.all c.statements_performs.result c.args.phrase.now c.as_slice.result.now e c.statements_performs.ensures
+
+pub statement_performs-returns-in_ok-phrase_performs-in-Stringing : goal.statement_performs-returns-in_ok-phrase_performs-in-Stringing
+statement_performs-returns-in_ok-phrase_performs-in-Stringing t c =
+    adds_phrases c.args.all.now c.phrase_performs-in-Stringing.new.all c.phrase_performs-in-Stringing-2.new.all (procedures_in c.args.self.now) c.args.number c.args.one.now c.phrase_performs-in-Stringing-2.result _ _
+    c.in_ok-phrase_performs-in-Stringing.ensures c.phrase_performs-in-Stringing-2.ensures (grind (arith, statement_is))

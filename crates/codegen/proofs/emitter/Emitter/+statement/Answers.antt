@@ -14,8 +14,10 @@ use Rattle.source_tree.specs.Evaluate.{asked_each, whens_asked, selected_asked}
 use Rattle.source_tree.specs.EvaluateRules.{when_rules, selected_rules}
 use Rattle.source_tree.specs.NameRules.{item_rules}
 use Rattle.source_tree.specs.ConditionRules.{varying_rules, condition_rules, until_rules}
-use Rattle.source_tree.specs.Rules.{all_permitted, integer_item, verb_rules, arithmetic_rules, branching_rules, performing_rules, phrases_rules, phrase_rules, performed_rules, turns_rules, evaluate_rules, statement_rules}
+use Rattle.source_tree.specs.Rules.{all_permitted, integer_item, verb_rules, arithmetic_rules, stringing_rules, branching_rules, performing_rules, phrases_rules, phrase_rules, performed_rules, turns_rules, evaluate_rules, statement_rules}
 use Rattle.source_tree.specs.ArithmeticRules.{operation_rules}
+use Rattle.source_tree.specs.LookUp.{items_named}
+use Rattle.source_tree.specs.StringRules.{sending_rules, receiver_item, only_length, string_rules}
 use Rattle.check_rules.specs.Named.{scope_in}
 use Rattle.check_rules.proofs.RuleLayers as layers
 use Rattle.data_instructions.specs.declared.instruction.DataInstruction.TheVariants as i
@@ -32,6 +34,7 @@ use Rattle.codegen.specs.Phrases.{met, IsWay, met_all}
 use Rattle.codegen.proofs.EvaluateKept.{groups_of, other_of}
 use Rattle.codegen.proofs.Opening.{opened_way, opened_longer, with_last, still_ways, groups_go_on, groups_done}
 use Rattle.codegen.proofs.Questions.{whens_rules}
+use Rattle.codegen.proofs.StringCodes.{keeps_string, pointer_kept}
 use Rattle.codegen.proofs.Pieces.{joined_nothing}
 use Rattle.codegen.proofs.Sequences.{then_piece, is_so, ends_so, on_ok}
 use Rattle.codegen.proofs.Meeting.{meeting, phrases_stand}
@@ -52,6 +55,17 @@ emit_statement-emit_calculating-requires t c =
     let second = phrase_rules (statement_rules scope all_permitted) one.phrases.did_not in
     let front = front_kept (operation_rules scope.items one.operation) (phrases_rules (statement_rules scope all_permitted) one.phrases) r in
     let phrases = back_kept (operation_rules scope.items one.operation) (phrases_rules (statement_rules scope all_permitted) one.phrases) r in
+    (search (rules, the_lemmas), (c.requires.declared, (c.requires.entries, (front, (front_kept first second phrases, back_kept first second phrases)))))
+
+pub emit_statement-emit_stringing-requires : goal.emit_statement-emit_stringing-requires
+emit_statement-emit_stringing-requires t c =
+    let scope = scope_in c.args.self.now.declarations.now in
+    let one = c.in-Stringing.stringing in
+    let r : stringing_rules scope.items (statement_rules scope all_permitted) one ≡ [] = sym (ap (verb_rules scope all_permitted (statement_rules scope all_permitted)) c.in-Stringing.is) ∙ sym (layers.statement_is scope all_permitted c.args.one.now) ∙ c.requires.rules in
+    let first = phrase_rules (statement_rules scope all_permitted) one.phrases.arose in
+    let second = phrase_rules (statement_rules scope all_permitted) one.phrases.did_not in
+    let front = front_kept (string_rules scope.items one) (phrases_rules (statement_rules scope all_permitted) one.phrases) r in
+    let phrases = back_kept (string_rules scope.items one) (phrases_rules (statement_rules scope all_permitted) one.phrases) r in
     (search (rules, the_lemmas), (c.requires.declared, (c.requires.entries, (front, (front_kept first second phrases, back_kept first second phrases)))))
 
 pub emit_statement-emit_branching-requires : goal.emit_statement-emit_branching-requires
@@ -459,3 +473,18 @@ emit_until_after-returns t c =
     (then_piece test way c.emit_turn.new.code c.emit_condition.new.code c.emit_onward.new.code c.in_ok-emit_condition.ensures c.in_ok-emit_onward.ensures))
     c.emit_way_back.ensures)
     (ap (λ n. joined old (both (both turn behind) (λ b. branch_code n) old)) c.len-begin.ensures)
+
+pub emit_stringing-emit_string-requires-clause-sendings : goal.emit_stringing-emit_string-requires-clause-sendings
+emit_stringing-emit_string-requires-clause-sendings t c =
+    let items = (scope_in c.args.self.now.declarations.now).items in
+    ap (each (sending_rules items)) c.as_slice.ensures ∙ (keeps_string items c.args.one.now c.requires.string).sendings
+
+pub emit_stringing-emit_string-requires-clause-receiver : goal.emit_stringing-emit_string-requires-clause-receiver
+emit_stringing-emit_string-requires-clause-receiver t c =
+    let items = (scope_in c.args.self.now.declarations.now).items in
+    item_kept items receiver_item c.args.one.now.receiver (keeps_string items c.args.one.now c.requires.string).receiver
+
+pub emit_stringing-emit_string-requires-clause-pointer : goal.emit_stringing-emit_string-requires-clause-pointer
+emit_stringing-emit_string-requires-clause-pointer t c =
+    let items = (scope_in c.args.self.now.declarations.now).items in
+    pointer_kept items (only_length (items_named items c.args.one.now.receiver.item)) c.args.one.now.pointer (keeps_string items c.args.one.now c.requires.string).pointer

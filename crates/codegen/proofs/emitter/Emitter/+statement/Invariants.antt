@@ -73,3 +73,6 @@ decreases-emit_groups l = 8 * goal.size-emit_groups l + 3
 
 abbrev pub decreases-emit_selected : goal.decreases-emit_selected
 decreases-emit_selected l = 8 * goal.size-emit_selected l + 2
+
+abbrev pub decreases-emit_stringing : goal.decreases-emit_stringing
+decreases-emit_stringing l = 8 * goal.size-emit_stringing l + 4

@@ -3,6 +3,7 @@ use Rattle.perform_order.specs.declared.progress.Progress.TheVariants.{Open}
 use Rattle.perform_order.specs.Walk.{Stands, is_seen, state}
 use Rattle.perform_order.proofs.States.{seen_here}
 use Rattle.perform_order.proofs.Going.{entered_on}
+use Rattle.std.proofs.lemmas.Grind.{common_steps}
 use Rattle.perform_order.proofs.walk.Walk.ring_from.Goals as goal
 
 pub steps-init : goal.steps-init
@@ -28,3 +29,12 @@ steps-init c =
       root_seen = ap (λ p. is_seen (state c.enter.new.self.states.items p)) (sym same) ∙ seen;
       seen = on.on.seen;
     }
+
+pub steps-preserved : goal.steps-preserved
+steps-preserved c = grind (arith, common_steps)
+
+pub returns-in-Some-2 : goal.returns-in-Some-2
+returns-in-Some-2 c = grind (arith, common_steps)
+
+pub go_on-requires-clause-grouped : goal.go_on-requires-clause-grouped
+go_on-requires-clause-grouped c = grind (arith, common_steps)

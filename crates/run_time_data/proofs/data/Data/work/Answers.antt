@@ -1,7 +1,7 @@
 use Rattle.std.proofs.Common.{subst}
 use Rattle.data_instructions.specs.declared.instruction.DataInstruction.{DataInstruction}
 use Rattle.run_time_data.specs.Ready.{IsReady}
-use Rattle.run_time_data.proofs.Readies.{ready_place, ready_index, ready_push, ready_literal, ready_calculate, ready_store, ready_void, ready_take, ready_take_literal, ready_move, ready_append, ready_append_literal}
+use Rattle.run_time_data.proofs.Readies.{ready_place, ready_index, ready_push, ready_literal, ready_calculate, ready_store, ready_void, ready_take, ready_take_literal, ready_move, ready_append, ready_append_literal, ready_overlay, ready_drop_place}
 use Rattle.run_time_data.proofs.data.Data.work.Goals as goal
 
 pub place-requires-clause-item : goal.place-requires-clause-item
@@ -75,3 +75,12 @@ append_literal-requires-clause-room c = (ready_append_literal c.args.tables.now 
 
 pub take_literal-requires-clause-form : goal.take_literal-requires-clause-form
 take_literal-requires-clause-form c = λ one here. c.requires.at.in_order.senders c.in-TakeLiteral.literal.number one here
+
+pub overlay-requires-clause-operand : goal.overlay-requires-clause-operand
+overlay-requires-clause-operand c = (ready_overlay c.args.tables.now c.args.self.now c.in-Overlay.text (subst (λ (one : DataInstruction). IsReady c.args.tables.now c.args.self.now one) c.in-Overlay.is c.requires)).0
+
+pub overlay-requires-clause-texts : goal.overlay-requires-clause-texts
+overlay-requires-clause-texts c = (ready_overlay c.args.tables.now c.args.self.now c.in-Overlay.text (subst (λ (one : DataInstruction). IsReady c.args.tables.now c.args.self.now one) c.in-Overlay.is c.requires)).1
+
+pub drop_place-requires : goal.drop_place-requires
+drop_place-requires c = ready_drop_place c.args.tables.now c.args.self.now (subst (λ (one : DataInstruction). IsReady c.args.tables.now c.args.self.now one) c.in-DropPlace.is c.requires)

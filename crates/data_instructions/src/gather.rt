@@ -1,0 +1,16 @@
+//! Instructions that gather texts, as STRING does.
+
+use crate::index::TextIndex;
+
+/// What is added to the line.
+#[derive(Clone, Copy, Debug, PartialEq, Eq)]
+pub enum Gather {
+    /// Takes a place: its bytes.
+    Bytes,
+    /// Takes a place: its bytes up to the first occurrence of those at the next place, which stays.
+    UpToPlace,
+    /// Takes a place: its bytes up to the first occurrence of a text.
+    UpToText { delimiter: TextIndex },
+    /// A text up to the first occurrence of the bytes at the newest place, which stays.
+    TextUpToPlace { text: TextIndex },
+}

@@ -1,0 +1,102 @@
+-- Items in the order of their entries, counted, and those that the definitions place.
+use Rattle.std.proofs.Common.{◌≡◌, ℕ, suc, ◌+◌, ◌-◌, ◌*◌, Bool, true, false, nat_lt, if◌then◌else◌, List, [], ◌∷◌, ◌++◌, length, drop, ◌≤◌, None, Some, refl, ap, sym, ◌∙◌, length-append, arith}
+use Rattle.std.specs.Prelude.{Option, map, slice_get}
+use Rattle.std.specs.Option.{option_map}
+use Rattle.std.proofs.lemmas.List.{map-append, append-nil, drop_all}
+use Rattle.std.proofs.lemmas.Option.{slice_get-map}
+use Rattle.source_tree.specs.declared.entry.Around.{Around}
+use Rattle.source_tree.specs.declared.entry.ItemEntry.{ItemEntry}
+use Rattle.source_tree.specs.declared.entry.ConditionEntry.{ConditionEntry}
+use Rattle.source_tree.specs.declared.entry.Entry.{Entry}
+use Rattle.source_tree.specs.declared.entry.Entry.TheVariants.{Item, Condition}
+use Rattle.source_tree.specs.Levels.{Forest, End, Tree, level_of, deeper, beyond, nested}
+use Rattle.source_tree.specs.Clauses.{nothing_around, inside, occurrences}
+use Rattle.source_tree.specs.Rooms.{redefines, item_with}
+use Rattle.source_tree.specs.Places.{Placed, Surroundings, within, places, top, storage_places, items_of}
+use Rattle.source_tree.specs.Initializing.{Pattern}
+use Rattle.initial_storage.specs.Patterns.{Outline, outline, outline_of, outlines, outline_pattern, pattern_at}
+
+abbrev pub entry_count : List Entry → ℕ
+entry_count [] = 0
+entry_count (Item one ∷ more) = suc (entry_count more)
+entry_count (Condition one ∷ more) = entry_count more
+
+abbrev item_count : Forest → ℕ
+item_count End = 0
+item_count (Tree one conditions inner next) = suc (item_count inner + item_count next)
+
+outlines_count : (around : Around) (F : Forest) → length (outlines around F) ≡ item_count F
+outlines_count around End = refl
+outlines_count around (Tree one conditions inner next) =
+    omega (arith, length-append (outlines (inside around one) inner) (outlines around next), outlines_count (inside around one) inner, outlines_count around next)
+
+parted : (b : Bool) (one : ItemEntry) (conditions : List ConditionEntry) (inner next first rest : Forest) → item_count first + item_count rest ≡ item_count next
+    → item_count (if b then Tree one conditions inner first else End) + item_count (if b then rest else Tree one conditions inner next) ≡ suc (item_count inner + item_count next)
+parted true one conditions inner next first rest e = omega (arith, e)
+parted false one conditions inner next first rest e = omega arith
+
+split_count : (level : ℕ) (F : Forest) → item_count (deeper level F) + item_count (beyond level F) ≡ item_count F
+split_count level End = refl
+split_count level (Tree one conditions inner next) =
+    parted (nat_lt level (level_of one)) one conditions inner next (deeper level next) (beyond level next) (split_count level next)
+
+nested_count : (entries : List Entry) → item_count (nested entries) ≡ entry_count entries
+nested_count [] = refl
+nested_count (Item one ∷ more) = ap suc (split_count (level_of one) (nested more) ∙ nested_count more)
+nested_count (Condition one ∷ more) = nested_count more
+
+pub all_counted : (around : Around) (entries : List Entry) → length (outlines around (nested entries)) ≡ entry_count entries
+all_counted around entries = outlines_count around (nested entries) ∙ nested_count entries
+
+-- and as many have been counted at the end
+pub counted_all : (around : Around) (entries : List Entry) (n count : ℕ) → count + entry_count (drop n entries) ≡ entry_count entries → length entries ≤ n
+    → count ≡ length (outlines around (nested entries))
+counted_all around entries n count so_far past =
+    let none : entry_count (drop n entries) ≡ 0 = ap entry_count (drop_all n entries past) in
+    omega (arith, none, so_far, all_counted around entries)
+
+-- ---- where they stand
+
+places_outlined : (around : Surroundings) (last here : ℕ) (F : Forest) → map outline_of (places around last here F) ≡ outlines around.around F
+places_outlined around last here End = refl
+places_outlined around last here (Tree one conditions inner next) =
+    let item = item_with around.around one inner in
+    let at : ℕ = if redefines one then last else here in
+    let after : ℕ = here + (if redefines one then 0 else occurrences one * item.length) in
+    let first = places (within around one item) at at inner in
+    let own : Outline = outline around.around one inner in
+    ap (λ l. own ∷ l) (map-append outline_of first (places around at after next))
+    ∙ ap (λ l. own ∷ (l ++ map outline_of (places around at after next))) (places_outlined (within around one item) at at inner)
+    ∙ ap (λ l. own ∷ (outlines (inside around.around one) inner ++ l)) (places_outlined around at after next)
+
+storage_outlined : (areas : ℕ) (F : Forest) → map outline_of (storage_places areas F) ≡ outlines nothing_around F
+storage_outlined areas End = refl
+storage_outlined areas (Tree one conditions inner next) =
+    let area : ℕ = if redefines one then areas - 1 else areas in
+    let own : Outline = outline nothing_around one inner in
+    let deep : List Outline = outlines (inside nothing_around one) inner in
+    map-append outline_of (places (top area []) 0 0 (Tree one conditions inner End)) (storage_places (area + 1) next)
+    ∙ ap (λ l. l ++ map outline_of (storage_places (area + 1) next)) (places_outlined (top area []) 0 0 (Tree one conditions inner End))
+    ∙ ap (λ l. (own ∷ l) ++ map outline_of (storage_places (area + 1) next)) (append-nil deep)
+    ∙ ap (λ l. (own ∷ deep) ++ l) (storage_outlined (area + 1) next)
+
+pub items_outlined : (entries : List Entry) → map outline_of (items_of entries) ≡ outlines nothing_around (nested entries)
+items_outlined entries = storage_outlined 0 (nested entries)
+
+-- ---- what INITIALIZE puts into the item of a number
+
+abbrev pub pattern_in : Option Outline → Pattern
+pattern_in None = []
+pattern_in (Some one) = outline_pattern one
+
+same_pattern : (one : Option Placed) → pattern_at one ≡ pattern_in (option_map outline_of one)
+same_pattern None = refl
+same_pattern (Some one) = refl
+
+pub pattern_outlined : (entries : List Entry) (n : ℕ) (found : Option Outline) → slice_get (outlines nothing_around (nested entries)) n ≡ found
+    → pattern_at (slice_get (items_of entries) n) ≡ pattern_in found
+pattern_outlined entries n found is =
+    same_pattern (slice_get (items_of entries) n)
+    ∙ ap pattern_in (sym (slice_get-map outline_of (items_of entries) n))
+    ∙ ap (λ (l : List Outline). pattern_in (slice_get l n)) (items_outlined entries)
+    ∙ ap pattern_in is

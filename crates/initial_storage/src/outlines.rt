@@ -1,0 +1,59 @@
+//! Items by their numbers in the order of the entries.
+
+ghost use Rattle.std.specs.Prelude.{◌≡◌, length};
+ghost use Rattle.source_tree.specs.declared.entry.Around as surrounding;
+ghost use Rattle.source_tree.specs.Levels.{nested};
+ghost use Rattle.source_tree.specs.Clauses.{nothing_around};
+ghost use Rattle.initial_storage.specs.Fits.{Fits};
+ghost use Rattle.initial_storage.specs.Formed.{AreFormed};
+ghost use Rattle.initial_storage.specs.Patterns.{IsFoundAt, outlines};
+
+use crate::storage::NOTHING_AROUND;
+use entries::{Sibling, inside, next_item};
+use source_tree::{Around, Entry};
+
+/// An item, and what the groups around it say of it.
+#[derive(Clone, Copy)]
+pub struct Found<'a> {
+    pub around: Around,
+    pub one: Sibling<'a>,
+}
+
+/// How many of the entries are items.
+fn count_items(entries: &[Entry]) -> usize
+    ensures { (around : surrounding.Around) → result ≡ length (outlines around (nested entries.now)) }
+{
+    let mut count = 0;
+    for entry in entries {
+        if matches!(entry, Entry::Item(_)) {
+            count += 1;
+        }
+    }
+    count
+}
+
+/// The item of that number, which counts from 0, with what stands around it. Each entry is looked at once for each group around it.
+pub fn item_at(entries: &[Entry], number: usize) -> Option<Found<'_>>
+    requires fits { Fits nothing_around (nested entries.now) }
+    requires formed { AreFormed nothing_around (nested entries.now) }
+    ensures { IsFoundAt (outlines nothing_around (nested entries.now)) number result }
+{
+    let mut around = NOTHING_AROUND;
+    let mut rest = entries;
+    let mut left = number;
+    'items: while let Some(one) = next_item(rest) {
+        if left == 0 {
+            return Some(Found { around, one });
+        }
+        left -= 1;
+        let within = count_items(one.inner);
+        if left < within {
+            around = inside(around, one.entry);
+            rest = one.inner;
+        } else {
+            left -= within;
+            rest = one.next;
+        }
+    }
+    None
+}

@@ -1,0 +1,35 @@
+use Rattle.std.proofs.Common.{◌≡◌, [], ◌∷◌, ◌∙◌}
+use Rattle.data_instructions.specs.declared.instruction.DataInstruction.TheVariants as i
+use Rattle.data_instructions.specs.declared.tables.DataTables.{DataTables}
+use Rattle.data_instructions.specs.declared.index.ItemIndex.{ItemIndex}
+use Rattle.data_instructions.specs.Scratch.{Went}
+use Rattle.data_instructions.specs.Table.{taken}
+use Rattle.run_time_data.specs.declared.data.Data.{Data}
+use Rattle.run_time_data.specs.declared.fused.Fused.TheVariants as f
+use Rattle.run_time_data.specs.Data.{scratch_of}
+use Rattle.run_time_data.specs.Comes.{Keeps}
+use Rattle.run_time_data.specs.Fused.{at_item}
+use Rattle.run_time_data.specs.Ready.{IsReadyAlong}
+use Rattle.run_time_data.proofs.Together.{fused_is}
+use Rattle.run_time_data.proofs.ReadyTogether.{item_stands, move_found}
+use Rattle.run_time_data.proofs.ReadyBehind.{ready_behind}
+use Rattle.run_time_data.proofs.data.Data.move_item.Goals as goal
+
+-- behind `place` and `take`
+behind_take : (tables : DataTables) (old new : Data) (from to : ItemIndex) → IsReadyAlong tables old (i.Place from ∷ i.Take ∷ i.Place to ∷ i.Move ∷ [])
+    → at_item tables from taken (scratch_of old) ≡ Went (scratch_of new) → Keeps old new → IsReadyAlong tables new (i.Place to ∷ i.Move ∷ [])
+behind_take tables old new from to r is keeps =
+    ready_behind tables old new (i.Place from ∷ i.Take ∷ []) (i.Place to ∷ i.Move ∷ []) r (fused_is tables (f.Take from) (scratch_of old) ∙ is) keeps
+
+pub take_item-requires-clause-item : goal.take_item-requires-clause-item
+take_item-requires-clause-item c = item_stands c.args.tables.now c.args.self.now c.args.from (i.Take ∷ i.Place c.args.to ∷ i.Move ∷ []) c.requires
+
+pub receive_item-requires-clause-item : goal.receive_item-requires-clause-item
+receive_item-requires-clause-item c =
+    item_stands c.args.tables.now c.take_item.new.self c.args.to (i.Move ∷ [])
+    (behind_take c.args.tables.now c.args.self.now c.take_item.new.self c.args.from c.args.to c.requires c.in_ok-take_item.ensures.does c.in_ok-take_item.ensures.keeps)
+
+pub receive_item-requires-clause-sender : goal.receive_item-requires-clause-sender
+receive_item-requires-clause-sender c =
+    move_found c.args.tables.now c.take_item.new.self c.args.to
+    (behind_take c.args.tables.now c.args.self.now c.take_item.new.self c.args.from c.args.to c.requires c.in_ok-take_item.ensures.does c.in_ok-take_item.ensures.keeps)

@@ -1,0 +1,22 @@
+-- What STRING finds out.
+use Rattle.std.specs.Prelude.{◌≡◌, ℕ, ◌≤◌, ◌<◌, ◌⊎◌, Bool, List, Option, Some, None, Result, Ok, Err}
+use Rattle.source_tree.specs.Storage.{Storage}
+use Rattle.source_tree.specs.Evaluated.{Evaluated, ◌>>=◌}
+use Rattle.source_tree.specs.References.{ItemPlace}
+use Rattle.source_tree.specs.Stringing.{Strings, held_position, put_text}
+use Rattle.data_instructions.specs.declared.fault.ProgramFault.{ProgramFault}
+use Rattle.data_instructions.specs.Faults.{fault_of}
+
+-- a text put into a receiver from the position on that a pointer holds
+abbrev pub put_from : ItemPlace → ItemPlace → List ℕ → Storage → Evaluated Strings
+put_from receiver pointer text storage = held_position storage pointer >>= (λ at. put_text receiver (Some pointer) at text storage)
+
+-- a position, where it is within so many bytes, which count from 1
+abbrev pub IsWithin : Option ℕ → ℕ → ℕ → Type 0
+IsWithin (Some at) size position = (at ≡ position) × (1 ≤ at) × (at ≤ size)
+IsWithin None size position = (position < 1) ⊎ (size < position)
+
+-- the storage, and whether there was an overflow, or a fault
+abbrev pub PutsText : Result Bool ProgramFault → Storage → Evaluated Strings → Type 0
+PutsText (Ok overflow) new answer = answer ≡ Ok (record { storage = new; overflow = overflow })
+PutsText (Err fault) new answer = answer ≡ Err (fault_of fault)

@@ -1,0 +1,113 @@
+//! Instructions that add texts to the line, as STRING does with its senders.
+
+ghost use Rattle.std.specs.Prelude.{◌≡◌, ◌<◌, ◌≤◌, length};
+ghost use Rattle.text_ops.specs.Strings.{delimited};
+ghost use Rattle.data_instructions.specs.Table as spec;
+ghost use Rattle.data_instructions.specs.declared.gather.Gather.TheVariants as gathers;
+ghost use Rattle.data_instructions.specs.declared.instruction.DataInstruction.TheVariants as instructions;
+ghost use Rattle.run_time_data.specs.Data.{scratch_of};
+ghost use Rattle.run_time_data.specs.Comes.{Comes, Keeps};
+ghost use Rattle.run_time_data.specs.Finds.{FindsItem, FindsNext};
+ghost use Rattle.run_time_data.specs.Lines.{HasPartRoom, HasTextRoom};
+ghost use Rattle.run_time_data.specs.Ready.{IsReady};
+
+use crate::data::Data;
+use data_instructions::{DataTables, Gather, ProgramFault, TextIndex};
+use text_ops::delimited;
+
+/// A text up to its delimiter, all of it where that isn't there.
+#[tactic(auto, using(crate::proofs::Gathers::delimited_long))]
+fn up_to<'a>(delimiter: &[u8], text: &'a [u8]) -> &'a [u8]
+    ensures value { result.now ≡ delimited delimiter.now text.now }
+    ensures long { length result.now ≤ length text.now }
+{
+    delimited(delimiter, text)
+}
+
+impl Data {
+    /// `gather bytes`: those at the newest place.
+    pub fn gather_bytes(&mut self, tables: &DataTables) -> Result<(), ProgramFault>
+        requires operand { FindsItem tables.now self.old.areas self.old.places.newest_first }
+        requires room { HasPartRoom tables.now self.old.places.newest_first (length self.old.line.bytes) self.old.line.room }
+        ensures does { Comes result (scratch_of self.new) (spec.gathered tables.now gathers.Bytes (scratch_of self.old)) }
+        ensures keeps { Keeps self.old self.new }
+    {
+        let place = self.places.pop();
+        let one = &tables.items.as_slice()[place.item.number as usize];
+        self.line.append(self.areas.bytes(one, place.offset));
+        Ok(())
+    }
+
+    /// `gather up to place`: the bytes at the newest place, up to those at the next one, which stays.
+    pub fn gather_up_to_place(&mut self, tables: &DataTables) -> Result<(), ProgramFault>
+        requires operand { FindsItem tables.now self.old.areas self.old.places.newest_first }
+        requires delimiter { FindsNext tables.now self.old.areas self.old.places.newest_first }
+        requires places { length self.old.places.newest_first ≤ self.old.places.room }
+        requires room { HasPartRoom tables.now self.old.places.newest_first (length self.old.line.bytes) self.old.line.room }
+        ensures does { Comes result (scratch_of self.new) (spec.gathered tables.now gathers.UpToPlace (scratch_of self.old)) }
+        ensures keeps { Keeps self.old self.new }
+    {
+        let place = self.places.pop();
+        let next = self.places.pop();
+        let items = tables.items.as_slice();
+        let one = &items[place.item.number as usize];
+        let other = &items[next.item.number as usize];
+        let delimiter = self.areas.bytes(other, next.offset);
+        let bytes = self.areas.bytes(one, place.offset);
+        self.line.append(up_to(delimiter, bytes));
+        self.places.push(next);
+        Ok(())
+    }
+
+    /// `gather up to text`: the bytes at the newest place, up to a text of the table.
+    pub fn gather_up_to_text(
+        &mut self,
+        tables: &DataTables,
+        delimiter: TextIndex,
+    ) -> Result<(), ProgramFault>
+        requires operand { FindsItem tables.now self.old.areas self.old.places.newest_first }
+        requires delimiter { delimiter.number < length tables.now.texts }
+        requires room { HasPartRoom tables.now self.old.places.newest_first (length self.old.line.bytes) self.old.line.room }
+        ensures does { Comes result (scratch_of self.new) (spec.gathered tables.now (gathers.UpToText delimiter) (scratch_of self.old)) }
+        ensures keeps { Keeps self.old self.new }
+    {
+        let delimiter = tables.texts.as_slice()[delimiter.number as usize].as_slice();
+        let place = self.places.pop();
+        let one = &tables.items.as_slice()[place.item.number as usize];
+        let bytes = self.areas.bytes(one, place.offset);
+        self.line.append(up_to(delimiter, bytes));
+        Ok(())
+    }
+
+    /// `gather text up to place`: a text of the table, up to the bytes at the newest place, which stays.
+    pub fn gather_text(&mut self, tables: &DataTables, text: TextIndex) -> Result<(), ProgramFault>
+        requires delimiter { FindsItem tables.now self.old.areas self.old.places.newest_first }
+        requires text { text.number < length tables.now.texts }
+        requires places { length self.old.places.newest_first ≤ self.old.places.room }
+        requires room { HasTextRoom tables.now text (length self.old.line.bytes) self.old.line.room }
+        ensures does { Comes result (scratch_of self.new) (spec.gathered tables.now (gathers.TextUpToPlace text) (scratch_of self.old)) }
+        ensures keeps { Keeps self.old self.new }
+    {
+        let bytes = tables.texts.as_slice()[text.number as usize].as_slice();
+        let next = self.places.pop();
+        let other = &tables.items.as_slice()[next.item.number as usize];
+        let delimiter = self.areas.bytes(other, next.offset);
+        self.line.append(up_to(delimiter, bytes));
+        self.places.push(next);
+        Ok(())
+    }
+
+    /// What is added to the line. It takes no memory.
+    pub fn gather(&mut self, tables: &DataTables, one: Gather) -> Result<(), ProgramFault>
+        requires { IsReady tables.now self.old (instructions.Gather one) }
+        ensures does { Comes result (scratch_of self.new) (spec.gathered tables.now one (scratch_of self.old)) }
+        ensures keeps { Keeps self.old self.new }
+    {
+        match one {
+            Gather::Bytes => self.gather_bytes(tables),
+            Gather::UpToPlace => self.gather_up_to_place(tables),
+            Gather::UpToText { delimiter } => self.gather_up_to_text(tables, delimiter),
+            Gather::TextUpToPlace { text } => self.gather_text(tables, text),
+        }
+    }
+}
