@@ -1,0 +1,22 @@
+use Rattle.check_rules.specs.Named.{items_in}
+use Rattle.std.proofs.Common.{ap, ◌∙◌}
+use Rattle.source_tree.specs.InspectRules.{inspected_item, tallying_rules, replacing_rules}
+use Rattle.source_tree.specs.Broken.{each}
+use Rattle.codegen.proofs.InspectKept.{keeps_inspect}
+use Rattle.codegen.proofs.Kept.{item_kept}
+use Rattle.codegen.proofs.emitter.Emitter.emit_inspect.Goals as goal
+
+pub emit_reference-requires-clause-rules : goal.emit_reference-requires-clause-rules
+emit_reference-requires-clause-rules c =
+    let items = items_in c.args.self.now.declarations.now in
+    item_kept items inspected_item c.args.one.now.subject (keeps_inspect items c.args.one.now c.requires.rules).subject
+
+pub emit_counters-requires-clause-rules : goal.emit_counters-requires-clause-rules
+emit_counters-requires-clause-rules c =
+    let items = items_in c.args.self.now.declarations.now in
+    ap (each (tallying_rules items)) c.as_slice.ensures ∙ (keeps_inspect items c.args.one.now c.requires.rules).tallying
+
+pub emit_all_replaced-requires-clause-rules : goal.emit_all_replaced-requires-clause-rules
+emit_all_replaced-requires-clause-rules c =
+    let items = items_in c.args.self.now.declarations.now in
+    ap (each (replacing_rules items)) c.as_slice-2.ensures ∙ (keeps_inspect items c.args.one.now c.requires.rules).replacing
