@@ -6,6 +6,7 @@ pub mod One
 pub mod Found
 pub mod Descents
 pub mod Searches
+pub mod Answering
 pub mod Firsts
 pub mod TreeNodes
 pub mod Frames
