@@ -1,0 +1,7 @@
+mod Roots
+mod SpecBytes
+mod Pigeons
+mod Wholes
+mod FlatRows
+mod Listing
+mod Rows

@@ -1,0 +1,11 @@
+//! What the trees of a volume say of its files, read back from their bytes.
+//!
+//! Promise: files are answered exactly where the bytes say them.
+#![tactic(auto)]
+
+mod head;
+mod listing;
+mod rows;
+
+pub use listing::{Listed, read_listing};
+pub use rows::read_rows;
