@@ -8,6 +8,7 @@ use Rattle.source_tree.specs.LookUp.{first}
 use Rattle.source_tree.specs.MoveRules.{only_item, receives}
 use Rattle.source_tree.specs.NameRules.{named}
 use Rattle.source_tree.specs.Places.{Placed}
+use Rattle.source_tree.specs.InspectRules.{only_size}
 use Rattle.source_tree.specs.StringRules.{only_length}
 use Rattle.check_rules.specs.Asking.{asks, asked_by}
 
@@ -27,3 +28,9 @@ pub no_length : (place : Place) (found : List Placed) (broken : Broken) → ((ru
 no_length place [] broken h = refl
 no_length place (one ∷ []) broken h = let no : ◌≡◌ {A = Option Broken} None (Some broken) = h (λ found. []) in cc
 no_length place (one ∷ other ∷ more) broken h = refl
+
+-- What doesn't name one item has no size.
+pub no_size : (place : Place) (found : List Placed) (broken : Broken) → ((rules : Placed → List Broken) → first (named place rules found) ≡ Some broken) → only_size found ≡ None
+no_size place [] broken h = refl
+no_size place (one ∷ []) broken h = let no : ◌≡◌ {A = Option Broken} None (Some broken) = h (λ found. []) in cc
+no_size place (one ∷ other ∷ more) broken h = refl

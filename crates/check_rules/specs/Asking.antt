@@ -8,6 +8,7 @@ use Rattle.source_tree.specs.Places.{Placed}
 use Rattle.source_tree.specs.Broken.{Broken, where_so}
 use Rattle.source_tree.specs.NameRules.{is_integer_kind}
 use Rattle.source_tree.specs.ArithmeticRules.{is_numeric_kind}
+use Rattle.source_tree.specs.InspectRules.{is_counter, may_be_inspected}
 use Rattle.source_tree.specs.StringRules.{has_characters, is_string_receiver, can_hold}
 use Rattle.check_rules.specs.declared.asked.Asked.{Asked}
 use Rattle.check_rules.specs.declared.asked.Asked.TheVariants as asked
@@ -19,6 +20,8 @@ asks_kind (asked.Receives sent) kind place = where_so (not (may_go sent kind)) 4
 asks_kind asked.Numeric kind place = where_so (not (is_numeric_kind kind)) 51 place
 asks_kind asked.StoresNumber kind place = where_so (not (wants_number kind)) 51 place
 asks_kind asked.Integer kind place = where_so (not (is_integer_kind kind)) 51 place
+asks_kind asked.Counts kind place = where_so (not (is_counter kind)) 64 place
+asks_kind asked.Inspected kind place = where_so (not (may_be_inspected kind)) 64 place
 asks_kind asked.SendsText kind place = where_so (not (has_characters kind)) 65 place
 asks_kind asked.ReceivesText kind place = where_so (not (is_string_receiver kind)) 65 place
 asks_kind (asked.Points size) kind place = where_so (not (can_hold (size + 1) kind)) 65 place

@@ -1,9 +1,10 @@
-//! What is asked of the item that a reference names: 49 of a receiver of a MOVE, 51 where a number or an integer is wanted, and 65 of
-//! the operands of STRING.
+//! What is asked of the item that a reference names: 49 of a receiver of a MOVE, 51 where a number or an integer is wanted, 64 of the
+//! operands of INSPECT, and 65 of those of STRING.
 
 ghost use Rattle.std.specs.Prelude.{◌≡◌, ◌+◌, ◌^◌, nat_lt};
 ghost use Rattle.entry_rules.specs.Checks.{Finds};
 ghost use Rattle.source_tree.specs.NameRules.{is_integer_kind};
+ghost use Rattle.source_tree.specs.InspectRules.{is_counter, may_be_inspected};
 ghost use Rattle.source_tree.specs.StringRules.{is_plain_integer, has_characters, is_string_receiver, can_hold};
 ghost use Rattle.check_rules.specs.Asking as spec;
 
@@ -25,6 +26,10 @@ pub enum Asked {
     StoresNumber,
     /// It holds an integer: it is numeric, and has no decimals.
     Integer,
+    /// INSPECT counts in it: it is numeric.
+    Counts,
+    /// INSPECT looks at its bytes: it is no number in another usage than DISPLAY, or with S.
+    Inspected,
     /// Its bytes are characters, as STRING sends them.
     SendsText,
     /// It takes the characters of STRING: it is a group, or alphabetic or alphanumeric without JUSTIFIED.
@@ -63,6 +68,23 @@ fn is_integer(kind: Kind) -> bool
     match kind {
         Kind::Numeric(numeric) => numeric.scale == 0,
         _ => false,
+    }
+}
+
+fn counts(kind: Kind) -> bool
+    ensures { result ≡ is_counter kind }
+{
+    matches!(kind, Kind::Numeric(_))
+}
+
+fn is_inspected(kind: Kind) -> bool
+    ensures { result ≡ may_be_inspected kind }
+{
+    match kind {
+        Kind::Numeric(numeric) => {
+            matches!(numeric.usage, Usage::Display(_)) && !numeric.is_signed()
+        }
+        _ => true,
     }
 }
 
@@ -114,6 +136,8 @@ impl Asked {
                 Rule::Number.broken_if(!stores, place)
             }
             Asked::Integer => Rule::Number.broken_if(!is_integer(kind), place),
+            Asked::Counts => Rule::InspectOperand.broken_if(!counts(kind), place),
+            Asked::Inspected => Rule::InspectOperand.broken_if(!is_inspected(kind), place),
             Asked::SendsText => Rule::StringOperand.broken_if(!sends_text(kind), place),
             Asked::ReceivesText => Rule::StringOperand.broken_if(!receives_text(kind), place),
             Asked::Points(size) => Rule::StringOperand.broken_if(!points(size, kind), place),

@@ -11,6 +11,7 @@ mod evaluate;
 mod expression;
 mod forms;
 mod initializing;
+mod inspecting;
 mod looked;
 mod moving;
 mod performs;

@@ -39,7 +39,7 @@ fn is_literal_alone(one: &Side) -> bool
     }
 }
 
-fn operand_place(one: &Operand) -> Place
+pub(crate) fn operand_place(one: &Operand) -> Place
     ensures { result ≡ spec.operand_place one.now }
 {
     match one {

@@ -36,6 +36,7 @@ impl<'a> Declarations<'a> {
             Text::Display { operands, .. } => self.display_rules(operands.as_slice()),
             Text::Accept { receiver } => self.accept_line_rules(receiver),
             Text::AcceptDate { receiver } => self.accept_date_rules(receiver),
+            Text::Inspect(one) => self.inspect_rules(one),
         }
     }
 

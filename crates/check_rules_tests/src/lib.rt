@@ -17,6 +17,10 @@ mod evaluate_rows;
 #[cfg(test)]
 mod evaluate_texts;
 #[cfg(test)]
+mod inspect_rows;
+#[cfg(test)]
+mod inspect_texts;
+#[cfg(test)]
 mod name_rows;
 #[cfg(test)]
 mod procedure_rows;

@@ -3,11 +3,13 @@
 //! an arithmetic statement stand, each behind a `|`, the statement of ON SIZE ERROR and that of NOT ON SIZE ERROR; nothing there
 //! is no phrase. IF stands as `IF SMALL THEN MOVE M N ELSE CONTINUE`, and UNTIL in front of `>`, as `UNTIL SMALL>CONTINUE`. PERFORM of
 //! procedures stands as `PERFORM A` or `PERFORM A THRU B`, and EVALUATE as `EVALUATE M WHEN =1 WHEN =2 THEN MOVE M N OTHER CONTINUE`.
+//! INSPECT stands as `inspect_texts` has it.
 //! Behind STRING, as `string_texts` has it, stand the statements of its OVERFLOW phrases as those of SIZE ERROR do.
 //! The item before TIMES stands in front of `>`, as `T,2 TIMES>CONTINUE`, and behind procedures, as `PERFORM A THRU B M TIMES`.
 use crate::arithmetic_texts::{cut, operation};
 use crate::condition_texts::{condition, until};
 use crate::evaluate_texts::{subjects, when};
+use crate::inspect_texts::inspecting;
 use crate::reference_texts::{OPERAND, operand, push, reference};
 use crate::string_texts::stringing;
 use crate::texts::{entries, name};
@@ -126,6 +128,7 @@ fn plain(rt: &impl Abort, alloc: Global, line: u32, text: &str) -> Statement {
         "SET" => Verb::Moving(set(rt, alloc, line, words)),
         "DISPLAY" => Verb::Text(display(rt, alloc, line, words)),
         "ACCEPT" => Verb::Text(accept(rt, alloc, line, words)),
+        "INSPECT" => Verb::Text(Text::Inspect(inspecting(rt, alloc, line, words))),
         "CONTINUE" => Verb::Ending(Ending::Continue),
         "PERFORM" => Verb::Performing(perform(rt, alloc, line, words)),
         _ => panic!(rt; "a statement: {text}"),

@@ -46,7 +46,7 @@ hello = codes "HELLO" ++ 10 ∷ []
 
 -- no data but these texts
 abbrev with_texts : List (List ℕ) → DataTables
-with_texts texts = record { areas = []; items = []; numbers = []; senders = []; texts = texts }
+with_texts texts = record { areas = []; items = []; numbers = []; senders = []; texts = texts; inspections = [] }
 
 abbrev append : ℕ → Instruction
 append text = Data (i.AppendLiteral (record { number = text }))
@@ -135,6 +135,7 @@ table_of_three = record {
   numbers = record { coefficient = pos 4; scale = 0 } ∷ [];
   senders = [];
   texts = codes "A" ∷ [];
+  inspections = [];
 }
 
 -- DISPLAY "A" NO ADVANCING in line 7, and DISPLAY N (4) NO ADVANCING in line 8
@@ -167,6 +168,7 @@ dividing_by divisor = record {
     numbers = record { coefficient = pos 1; scale = 0 } ∷ record { coefficient = pos divisor; scale = 0 } ∷ [];
     senders = [];
     texts = codes "A" ∷ codes "B" ∷ codes "C" ∷ [];
+    inspections = [];
   };
   starts = 0 ∷ [];
   instructions =
@@ -230,7 +232,7 @@ starts_first (suc more) within = absurd (omega arith)
 -- a branch back to a `tick` is verified
 verified_back : IsVerified (until_true 1)
 verified_back = record {
-  tables = record { areas = λ k one here. absurd cc; items = λ k one here. absurd cc; senders = λ k one here. absurd cc };
+  tables = record { areas = λ k one here. absurd cc; items = λ k one here. absurd cc; senders = λ k one here. absurd cc; inspections = λ k one here. absurd cc };
   within = record {
     entries = all_of (NamesData (with_texts [])) (until_true 1).instructions (tt, (tt, (tt, (tt, (tt, tt)))));
     counters = all_of (NamesCounter 5) (until_true 1).instructions (tt, (tt, (tt, (tt, (tt, tt)))));
@@ -260,7 +262,7 @@ no_way_back verified = elim (verified.shape.leads 3 (omega arith)) [ inl on ↦ 
 -- address of its `count number`
 abbrev counting : ℤ → ℕ → Code
 counting coefficient scale = record {
-  tables = record { areas = []; items = []; numbers = record { coefficient = coefficient; scale = scale } ∷ []; senders = []; texts = codes "A" ∷ [] };
+  tables = record { areas = []; items = []; numbers = record { coefficient = coefficient; scale = scale } ∷ []; senders = []; texts = codes "A" ∷ []; inspections = [] };
   starts = 0 ∷ [];
   instructions =
       Tick 1 ∷ number 0 ∷ CountNumber (counter 2) ∷ Branch 10
@@ -375,7 +377,7 @@ paragraphs_order =
 -- it is verified
 verified_paragraphs : IsVerified (performing 2 11)
 verified_paragraphs = record {
-  tables = record { areas = λ k one here. absurd cc; items = λ k one here. absurd cc; senders = λ k one here. absurd cc };
+  tables = record { areas = λ k one here. absurd cc; items = λ k one here. absurd cc; senders = λ k one here. absurd cc; inspections = λ k one here. absurd cc };
   within = record {
     entries = all_of (NamesData (performing 2 11).tables) (performing 2 11).instructions
         (tt, (tt, (omega arith, (tt, (tt, (tt, (tt, (omega arith, (tt, (tt, (tt, (tt, (tt, (omega arith, (tt, (tt, (tt, tt)))))))))))))))));
@@ -429,6 +431,7 @@ three_characters = record {
   numbers = [];
   senders = [];
   texts = [];
+  inspections = [];
 }
 
 -- ACCEPT A

@@ -212,8 +212,10 @@ begins_data (i.Gather g.Bytes) rest = refl
 begins_data (i.Gather g.UpToPlace) rest = refl
 begins_data (i.Gather (g.UpToText delimiter)) rest = refl
 begins_data (i.Gather (g.TextUpToPlace text)) rest = refl
+begins_data (i.Gather g.Sized) rest = refl
 begins_data (i.String false) rest = refl
 begins_data (i.String true) rest = refl
+begins_data (i.Inspect inspection) rest = refl
 
 data_again : (one : DataInstruction) (rest : List ℕ) → HasShorts one → instruction_at (data_instruction_bytes one ++ rest) ≡ Ok (Data one, rest)
 data_again one rest h = begins_data one rest ∙ part_again data_instruction_form one rest (λ one. Ok (Data one.0, one.1)) h

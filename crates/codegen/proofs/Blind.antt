@@ -13,15 +13,20 @@ use Rattle.source_tree.specs.declared.expression.Operand.TheVariants as operand
 use Rattle.source_tree.specs.declared.table.Dimension.{Dimension}
 use Rattle.source_tree.specs.declared.moving.Moving.{Moving}
 use Rattle.source_tree.specs.declared.moving.Moving.TheVariants.{Move, Initialize, Set}
+use Rattle.source_tree.specs.declared.inspecting.Inspecting.{Inspecting}
 use Rattle.source_tree.specs.declared.text.Text.{Text}
-use Rattle.source_tree.specs.declared.text.Text.TheVariants.{Display, Accept, AcceptDate}
+use Rattle.source_tree.specs.declared.text.Text.TheVariants.{Display, Accept, AcceptDate, Inspect}
 use Rattle.source_tree.specs.Display.{shown_literal, line_end}
 use Rattle.source_tree.specs.Initializing.{Pattern}
+use Rattle.source_tree.specs.Inspecting as meaning
+use Rattle.source_tree.specs.Inspecting.{Taking, takings}
 use Rattle.source_tree.specs.Integers.{number_of}
 use Rattle.source_tree.specs.Literals.{literal_sender}
 use Rattle.source_tree.specs.LookUp.{all_conditions}
 use Rattle.source_tree.specs.Places.{Placed}
 use Rattle.data_instructions.specs.declared.calculation.Calculation.TheVariants as c
+use Rattle.data_instructions.specs.declared.gather.Gather.TheVariants as g
+use Rattle.data_instructions.specs.declared.tables.Inspection.{Inspection}
 use Rattle.data_instructions.specs.declared.tables.DataTables.{DataTables}
 use Rattle.data_instructions.specs.declared.instruction.DataInstruction.{DataInstruction}
 use Rattle.data_instructions.specs.declared.instruction.DataInstruction.TheVariants as i
@@ -33,6 +38,7 @@ use Rattle.codegen.specs.Pieces.{Piece, no_tables, nothing, joined_tables, joine
 use Rattle.codegen.specs.DataCode.{item_number, item_index, dimensions_of, work_piece, works_piece, number_piece, integer_piece, adjustment_piece, text_piece, literal_entry, literal_piece, line_end_piece, show_piece, subscript_piece, subscripts_piece, reference_piece, taking_piece, sender_piece, receivers_piece, operand_piece, operands_piece}
 use Rattle.codegen.specs.ConditionCode.{condition_number, condition_item}
 use Rattle.codegen.specs.PatternCode.{overlay_piece, pattern_piece, pattern_of, set_of, initialize_piece, set_piece}
+use Rattle.codegen.specs.InspectCode.{inspection_piece, inspection_entry, taken_piece, takings_piece, inspect_piece}
 use Rattle.codegen.specs.Layout.{moving_piece, texts_piece}
 
 -- Two codes that no piece tells apart: the same tables, and as many instructions.
@@ -112,6 +118,13 @@ overlay_blind bytes marks = tables_blind (λ (t : DataTables). record {
 pattern_blind : (pattern : Pattern) → Blind (pattern_piece pattern)
 pattern_blind pattern = overlay_blind (map new_byte pattern) (map new_mark pattern)
 
+inspection_blind : (one : Inspection) → Blind (inspection_piece one)
+inspection_blind one = tables_blind (λ (t : DataTables). record {
+  tables = record no_tables { inspections = one ∷ [] };
+  starts = [];
+  instructions = instruction.Data (i.Inspect (record { number = length t.inspections })) ∷ [];
+})
+
 literal_blind : (value : LiteralValue) → Blind (literal_piece value)
 literal_blind value = tables_blind (λ (t : DataTables). record {
   tables = record no_tables { senders = literal_entry (literal_sender value) ∷ [] };
@@ -184,6 +197,19 @@ module _ (items : List Placed) where
   moving_blind (Initialize receivers) = in_order_blind (initialize_piece items) (λ one. initialize_blind one) receivers
   moving_blind (Set conditions) = in_order_blind (set_piece items) (λ one. set_blind one) conditions
 
+  taken_blind : (one : Taking) → Blind (taken_piece items one)
+  taken_blind (meaning.Counter one) = reference_blind one
+  taken_blind (meaning.Text (meaning.Bytes one)) = taking_blind (i.Gather g.Sized) one
+  taken_blind (meaning.Text (meaning.Characters text)) = text_blind text
+
+  inspect_blind : (one : Inspecting) → Blind (inspect_piece items one)
+  inspect_blind one =
+      let subject = reference_piece items one.subject in
+      let parts = takings_piece items (takings items one) in
+      let last = inspection_piece (inspection_entry items one) in
+      both_blind subject (both parts last) (reference_blind one.subject)
+      (both_blind parts last (in_order_blind (taken_piece items) (λ one. taken_blind one) (takings items one)) (inspection_blind (inspection_entry items one)))
+
   pub texts_blind : (one : Text) → Blind (texts_piece items one)
   texts_blind (Display operands advancing) =
       both_blind (both (operands_piece items operands) (line_end_piece advancing)) show_piece
@@ -193,3 +219,4 @@ module _ (items : List Placed) where
       both_blind (reference_piece items receiver) (λ before. plain (instruction.Accept ∷ [])) (reference_blind receiver) (constant_blind (plain (instruction.Accept ∷ [])))
   texts_blind (AcceptDate receiver) =
       both_blind (reference_piece items receiver) (λ before. plain (instruction.Date ∷ [])) (reference_blind receiver) (constant_blind (plain (instruction.Date ∷ [])))
+  texts_blind (Inspect one) = inspect_blind one

@@ -62,9 +62,11 @@ use Rattle.codegen.proofs.ConditionBlind.{nothing_blind, condition_blind}
 use Rattle.codegen.proofs.UntilBlind.{turn_before_blind, onward_blind, vary_on_blind}
 use Rattle.codegen.proofs.EvaluateKept.{statements_of, selected_kept, first_group, other_groups, groups_of, other_of}
 use Rattle.codegen.proofs.BlindStatements.{counted_turn_blind, turn_blind, phrase_blind, selecting_blind, statement_blind}
-use Rattle.codegen.proofs.Straight.{AlwaysStraight, work_straight, taking_straight, moving_straight, texts_straight}
+use Rattle.codegen.proofs.Straight.{AlwaysStraight, work_straight, taking_straight, moving_straight}
 use Rattle.codegen.proofs.ArithmeticStraight.{arithmetic_straight}
 use Rattle.codegen.proofs.StringStraight.{string_straight}
+use Rattle.codegen.proofs.Inspections.{AreSized}
+use Rattle.codegen.proofs.TextStraight.{texts_straight}
 use Rattle.codegen.proofs.Leading.{none_end, stays_within, plain_names, Meets, both_meet, nothing_meets, straight_meets, branch_meets, either_meets}
 use Rattle.codegen.proofs.Ranges.{IsWithin, EndsWithin, FoundWithin, range_within}
 use Rattle.codegen.proofs.ConditionValues.{AreFormed}
@@ -313,7 +315,7 @@ module _ (Q : Range → Type 0) where
 -- ---- statements
 
 -- `permits` and `asked` are what is asked of a range that is performed; procedures lie in so many paragraphs.
-module _ (scope : Scope) (permits : Range → Bool) (formed : AreFormed scope.items) (count : ℕ)
+module _ (scope : Scope) (permits : Range → Bool) (formed : AreFormed scope.items) (sized : AreSized scope.items) (count : ℕ)
     (within : AllByRecursion (EndsWithin count) scope.procedures) (asked : Range → Type 0) where
   abbrev items : List Placed
   items = scope.items
@@ -451,7 +453,7 @@ module _ (scope : Scope) (permits : Range → Bool) (formed : AreFormed scope.it
         let performed = right_none (turns_rules items one.turns) (performed_rules scope.procedures permits rules one.performed) e in
         turns_meet Q items formed line one.turns turn (turn_blind scope inside blind line one.performed) often
         (turn_begins scope inside line one.performed) (turn_meets line one.performed performed q)
-    verb_meets line (verb.Text one) e q = ticked line (texts_piece items one) (texts_straight items one)
+    verb_meets line (verb.Text one) e q = ticked line (texts_piece items one) (texts_straight items sized one e)
     verb_meets line (verb.Stringing one) e q =
         let part = string_piece items one.sendings one.receiver one.pointer in
         let phrases = phrases_piece scope inside one.phrases in

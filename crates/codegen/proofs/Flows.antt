@@ -5,7 +5,7 @@ use Rattle.items.specs.declared.taken.Taken.{Taken}
 use Rattle.source_tree.specs.declared.moving.Moving.{Moving}
 use Rattle.source_tree.specs.declared.moving.Moving.TheVariants.{Move, Initialize, Set}
 use Rattle.source_tree.specs.declared.text.Text.{Text}
-use Rattle.source_tree.specs.declared.text.Text.TheVariants.{Display, Accept, AcceptDate}
+use Rattle.source_tree.specs.declared.text.Text.TheVariants.{Display, Accept, AcceptDate, Inspect}
 use Rattle.source_tree.specs.declared.reference.Reference.{Reference}
 use Rattle.source_tree.specs.declared.expression.Operand.TheVariants as operand
 use Rattle.source_tree.specs.declared.arithmetic.Operation.{Operation}
@@ -57,6 +57,7 @@ use Rattle.data_instructions.proofs.Chains.{move_known, display_known, accept_kn
 use Rattle.data_instructions.proofs.Expressions.{value_known}
 use Rattle.data_instructions.proofs.ArithmeticChains.{arithmetic_known}
 use Rattle.data_instructions.proofs.TextChains.{initialize_known, set_known, string_known}
+use Rattle.data_instructions.proofs.InspectChains.{inspect_leaves}
 use Rattle.code_image.specs.declared.code.Code.{Code}
 use Rattle.code_image.specs.declared.instruction.Instruction.{Instruction}
 use Rattle.code_image.specs.declared.instruction.Instruction.TheVariants as instruction
@@ -74,6 +75,7 @@ use Rattle.codegen.proofs.Codes.{left_none, right_none, taking_coded, move_coded
 use Rattle.codegen.proofs.ArithmeticCodes.{arithmetic_coded}
 use Rattle.codegen.proofs.PatternCodes.{initializes_codes, sets_codes, lie_each, lie_conditions}
 use Rattle.codegen.proofs.StringCodes.{string_codes, lies_string}
+use Rattle.codegen.proofs.InspectCodes.{inspect_codes, lies_inspect}
 use Rattle.codegen.proofs.Lying.{lies_all, shows_all, sends, receives_one, receive_each, lies_operation}
 use Rattle.codegen.proofs.Layers.{verb_map, rolled_is}
 use Rattle.codegen.proofs.Standing.{Stands, front, back}
@@ -182,6 +184,13 @@ module _ (items : List Placed) (whole : Code)
       let known = date_known items whole.tables receiver coded.code coded.holds
       (receives_one items whole entries lie (date_sender []).taken receiver e) in
       placed_flows instruction.Date (reference_piece items receiver before) coded.code coded.is (λ sender. known (rest sender))
+  texts_flow (Inspect one) before e st =
+      let coded = (inspect_codes items whole entries one e).by before st in
+      let known = inspect_leaves items whole.tables one coded.code coded.holds (lies_inspect items whole entries lie one e) in
+      record {
+        by = λ sender.
+            (sender, ap (λ l. known_along whole.tables l (rest sender)) coded.is ∙ along_data whole.tables coded.code (rest sender) ∙ known (rest sender) refl);
+      }
 
   arithmetic_flows : (keep : Bool) (one : Operation) (before : Code) → operation_rules items one ≡ []
       → Stands whole before (arithmetic_piece items keep one before)

@@ -12,6 +12,7 @@ use Rattle.codegen.specs.Meeting.{branch_code, jump_code, join_code, either_piec
 use Rattle.codegen.proofs.Standing.{at_seam}
 use Rattle.codegen.proofs.Blind.{Blind}
 use Rattle.codegen.proofs.Either.{either_laid}
+use Rattle.data_instructions.specs.Tables.{IsInspection}
 use Rattle.codegen.proofs.Straight.{all_both, IsSent, IsStraight, Straight}
 
 pub all_weaker : {A : Type 0} (P Q : A → Type 0) → ((x : A) → P x → Q x) → (xs : List A) → AllByRecursion P xs → AllByRecursion Q xs
@@ -172,12 +173,14 @@ all_lead whole h =
 
 -- ---- parts
 
--- A part names counters that stand before it or in it. It adds no area and no item, and senders that have their bytes.
+-- A part names counters that stand before it or in it. It adds no area and no item, senders that have their
+-- bytes, and inspections that have their texts.
 pub record Names (before part : Code) : Type 0 where
   pub counters : AllByRecursion (NamesCounter (length before.instructions + length part.instructions)) part.instructions
   pub areas : part.tables.areas ≡ []
   pub items : part.tables.items ≡ []
   pub senders : AllByRecursion IsSent part.tables.senders
+  pub inspections : AllByRecursion IsInspection part.tables.inspections
 
 pub both_name : (before a b : Code) → Names before a → Names (joined before a) b → Names before (joined a b)
 both_name before a b f s =
@@ -194,12 +197,13 @@ both_name before a b f s =
       areas = ap (λ l. l ++ b.tables.areas) f.areas ∙ s.areas;
       items = ap (λ l. l ++ b.tables.items) f.items ∙ s.items;
       senders = all_both IsSent a.tables.senders b.tables.senders f.senders s.senders;
+      inspections = all_both IsInspection a.tables.inspections b.tables.inspections f.inspections s.inspections;
     }
 
 -- instructions that name nothing new
 pub plain_names : (before : Code) (all : List Instruction) → AllByRecursion (NamesCounter (length before.instructions + length all)) all
     → Names before (plain all)
-plain_names before all counters = record { counters = counters; areas = refl; items = refl; senders = tt }
+plain_names before all counters = record { counters = counters; areas = refl; items = refl; senders = tt; inspections = tt }
 
 -- What is performed is so.
 abbrev pub PerformsOnly : (Range → Type 0) → Instruction → Type 0
@@ -337,6 +341,7 @@ module _ (Q : Range → Type 0) where
       areas = s.areas;
       items = s.items;
       senders = s.senders;
+      inspections = s.inspections;
     };
     leads = straight_leads (before.instructions ++ part.instructions) (length before.instructions) part.instructions s.instructions;
     starts = s.starts;

@@ -40,6 +40,10 @@ pub mod ArithmeticCodes
 pub mod ConditionCodes
 pub mod PatternCodes
 pub mod StringCodes
+pub mod InspectLists
+pub mod InspectMaking
+pub mod InspectKept
+pub mod InspectCodes
 pub mod Running
 -- The machine does what the tree means
 pub mod Doing
@@ -60,6 +64,8 @@ pub mod Straight
 pub mod ArithmeticStraight
 pub mod ConditionStraight
 pub mod StringStraight
+pub mod Inspections
+pub mod TextStraight
 pub mod Flowing
 pub mod ConditionFlows
 pub mod Flows

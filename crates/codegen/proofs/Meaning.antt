@@ -37,7 +37,7 @@ use Rattle.codegen.proofs.ProgramDoes.{range_ends}
 use Rattle.codegen.proofs.Ranges.{EndsWithin, FoundWithin, range_within, procedures_end}
 use Rattle.codegen.proofs.Running.{at}
 use Rattle.codegen.proofs.Standing.{Stands}
-use Rattle.codegen.proofs.Verified.{paragraphs_keep, entries_kept, sections_kept, areas_are, item_entries, order, lies}
+use Rattle.codegen.proofs.Verified.{paragraphs_keep, entries_kept, sections_kept, areas_are, item_entries, items_sized, order, lies}
 
 -- ---- rules that ask which ranges may be performed
 
@@ -159,7 +159,7 @@ module _ (program : Program) (keep : program_rules program ≡ []) (ordered : Ha
   bare = record {
     by = λ n one here code.
         (paragraph_meets found all_permitted
-        (conditions_formed program.storage (entries_kept program keep)) count within (λ (range : Range). Unit {0}) one.sentences
+        (conditions_formed program.storage (entries_kept program keep)) (items_sized program keep) count within (λ (range : Range). Unit {0}) one.sentences
         (kept_at (paragraph_rules found all_permitted) all n one all_keep here)
         (nothing_asked (paragraph_performs found.procedures one)) code).starts;
   }

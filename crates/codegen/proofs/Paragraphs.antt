@@ -20,6 +20,7 @@ use Rattle.codegen.specs.Pieces.{nothing, joined, in_order}
 use Rattle.codegen.specs.Layout.{sentence_piece, start_piece, back_piece, paragraph_piece}
 use Rattle.codegen.proofs.Codes.{left_none, right_none}
 use Rattle.codegen.proofs.ConditionValues.{AreFormed}
+use Rattle.codegen.proofs.Inspections.{AreSized}
 use Rattle.codegen.proofs.Demands.{Asked, IsPerformed, paragraph_meets}
 use Rattle.codegen.proofs.Leading.{ends_append, taken_behind, paragraph_stays, paragraph_within, LeadsFrom, found_stays, both_ways, Names, both_name, plain_names, PerformsOnly, Meets}
 use Rattle.codegen.proofs.Ranges.{EndsWithin}
@@ -251,7 +252,7 @@ module _ (count : ℕ) (P : PerformedRange → Type 0) where
       let asked : AllByRecursion P (performed_from number body.instructions) =
       all_performed number Q P (λ range h. h.asked) body.instructions none given in
       record {
-        names = both_name before start (joined body last) (record { counters = tt; areas = refl; items = refl; senders = tt })
+        names = both_name before start (joined body last) (record { counters = tt; areas = refl; items = refl; senders = tt; inspections = tt })
             (both_name front body last met.names (plain_names middle last.instructions (tt, tt)));
         leads = both_ways before start (joined body last) tt (both_ways front body last met.leads back_leads);
         many_are = ap length starts_is;
@@ -285,7 +286,7 @@ module _ (count : ℕ) (P : PerformedRange → Type 0) where
   first_asked number [] more h = (tt, h)
   first_asked number (one ∷ all) more h = let rest = first_asked number all more h.1 in ((h.0, rest.0), rest.1)
 
-  module _ (scope : Scope) (permits : Range → Bool) (formed : AreFormed scope.items)
+  module _ (scope : Scope) (permits : Range → Bool) (formed : AreFormed scope.items) (sized : AreSized scope.items)
       (within : AllByRecursion (EndsWithin count) scope.procedures) where
     pub paragraphs_lie : (all : List Paragraph) (before : Code) → IsReady before → length before.starts + length all ≤ count
         → each (paragraph_rules scope permits) all ≡ []
@@ -299,7 +300,7 @@ module _ (count : ℕ) (P : PerformedRange → Type 0) where
         let part = paragraph_piece scope one before in
         let next = joined before part in
         let split = first_asked number (paragraph_performs scope.procedures one) (performs_from scope.procedures (number + 1) more) q in
-        let met = paragraph_meets scope permits formed count within (asked_of number) one.sentences
+        let met = paragraph_meets scope permits formed sized count within (asked_of number) one.sentences
         (left_none (paragraph_rules scope permits one) (each (paragraph_rules scope permits) more) e) split.0 (joined before start) in
         let first = one_paragraph before body is (omega (arith, le)) met in
         let in_all = length-append before.starts part.starts in

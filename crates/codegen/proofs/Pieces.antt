@@ -7,15 +7,16 @@ use Rattle.source_tree.specs.Procedures.{paragraphs_or_one, paragraphs_in}
 use Rattle.source_tree.specs.Setting.{Scope}
 use Rattle.data_instructions.specs.declared.tables.DataItem.{DataItem}
 use Rattle.data_instructions.specs.declared.tables.LiteralSender.{LiteralSender}
+use Rattle.data_instructions.specs.declared.tables.Inspection.{Inspection}
 use Rattle.data_instructions.specs.declared.tables.DataTables.{DataTables}
 use Rattle.code_image.specs.declared.code.Code.{Code}
 use Rattle.code_image.specs.declared.instruction.Instruction.{Instruction}
 use Rattle.codegen.specs.Pieces.{Piece, no_tables, nothing, joined_tables, joined, both, in_order}
 use Rattle.codegen.specs.Layout.{paragraph_piece, section_piece}
 
-made_tables : (a b : List (List ℕ)) (c d : List DataItem) (e f : List Fraction) (g h : List LiteralSender) (i j : List (List ℕ)) → a ≡ b → c ≡ d → e ≡ f → g ≡ h → i ≡ j
-    → (let x : DataTables = record { areas = a; items = c; numbers = e; senders = g; texts = i } in let y : DataTables = record { areas = b; items = d; numbers = f; senders = h; texts = j } in x ≡ y)
-made_tables a b c d e f g h i j p q r s t = cc
+made_tables : (a b : List (List ℕ)) (c d : List DataItem) (e f : List Fraction) (g h : List LiteralSender) (i j : List (List ℕ)) (k l : List Inspection) → a ≡ b → c ≡ d → e ≡ f → g ≡ h → i ≡ j → k ≡ l
+    → (let x : DataTables = record { areas = a; items = c; numbers = e; senders = g; texts = i; inspections = k } in let y : DataTables = record { areas = b; items = d; numbers = f; senders = h; texts = j; inspections = l } in x ≡ y)
+made_tables a b c d e f g h i j k l p q r s t u = cc
 
 made_code : (a b : DataTables) (s t : List ℕ) (i j : List Instruction) → a ≡ b → s ≡ t → i ≡ j
     → (let x : Code = record { tables = a; starts = s; instructions = i } in let y : Code = record { tables = b; starts = t; instructions = j } in x ≡ y)
@@ -23,11 +24,11 @@ made_code a b s t i j p q r = cc
 
 pub tables_assoc : (a b c : DataTables) → joined_tables (joined_tables a b) c ≡ joined_tables a (joined_tables b c)
 tables_assoc a b c =
-    made_tables _ _ _ _ _ _ _ _ _ _ (append_assoc a.areas b.areas c.areas) (append_assoc a.items b.items c.items) (append_assoc a.numbers b.numbers c.numbers)
-    (append_assoc a.senders b.senders c.senders) (append_assoc a.texts b.texts c.texts)
+    made_tables _ _ _ _ _ _ _ _ _ _ _ _ (append_assoc a.areas b.areas c.areas) (append_assoc a.items b.items c.items) (append_assoc a.numbers b.numbers c.numbers)
+    (append_assoc a.senders b.senders c.senders) (append_assoc a.texts b.texts c.texts) (append_assoc a.inspections b.inspections c.inspections)
 
 pub tables_nothing : (a : DataTables) → joined_tables a no_tables ≡ a
-tables_nothing a = made_tables _ _ _ _ _ _ _ _ _ _ (append-nil a.areas) (append-nil a.items) (append-nil a.numbers) (append-nil a.senders) (append-nil a.texts)
+tables_nothing a = made_tables _ _ _ _ _ _ _ _ _ _ _ _ (append-nil a.areas) (append-nil a.items) (append-nil a.numbers) (append-nil a.senders) (append-nil a.texts) (append-nil a.inspections)
 
 pub joined_assoc : (a b c : Code) → joined (joined a b) c ≡ joined a (joined b c)
 joined_assoc a b c = made_code _ _ _ _ _ _ (tables_assoc a.tables b.tables c.tables) (append_assoc a.starts b.starts c.starts) (append_assoc a.instructions b.instructions c.instructions)

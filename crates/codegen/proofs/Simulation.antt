@@ -48,6 +48,7 @@ use Rattle.source_tree.specs.Rules.{moving_rules, text_rules, phrase_rules, phra
 use Rattle.source_tree.specs.State.{State, Outcome, Done, showing, in_turn, spend, with_value, changing}
 use Rattle.source_tree.specs.Setting.{Scope}
 use Rattle.source_tree.specs.Texts.{texts}
+use Rattle.source_tree.specs.Inspecting.{inspect}
 use Rattle.source_tree.specs.Performing.{turns_of, turns_in, turns, performed_range, repeat, body}
 use Rattle.source_tree.specs.Until as meant
 use Rattle.source_tree.specs.Until.{vary_operation, vary_begin, vary_on, until_from}
@@ -64,6 +65,7 @@ use Rattle.data_instructions.specs.Codes.{data_item, go_on, works, IsReferenceCo
 use Rattle.data_instructions.proofs.Codes.{move_works, display_works, accept_works, date_works}
 use Rattle.data_instructions.proofs.ArithmeticCodes.{arithmetic_works}
 use Rattle.data_instructions.proofs.TextCodes.{initialize_works, set_works, string_works}
+use Rattle.data_instructions.proofs.InspectCodes.{inspect_does}
 use Rattle.code_image.specs.declared.code.Code.{Code}
 use Rattle.code_image.specs.declared.instruction.Instruction.{Instruction}
 use Rattle.code_image.specs.declared.instruction.Instruction.TheVariants.{Show, Accept, Date}
@@ -73,6 +75,7 @@ use Rattle.codegen.specs.Pieces.{Piece, nothing, joined, both, in_order, plain}
 use Rattle.codegen.specs.DataCode.{reference_piece, taking_piece, move_piece, operands_piece, line_end_piece, show_piece}
 use Rattle.codegen.specs.ArithmeticCode.{arithmetic_piece}
 use Rattle.codegen.specs.PatternCode.{initializes_piece, sets_piece}
+use Rattle.codegen.specs.InspectCode.{inspect_piece}
 use Rattle.codegen.specs.StringCode.{string_piece}
 use Rattle.codegen.specs.Meeting.{either_piece}
 use Rattle.codegen.specs.ConditionCode.{condition_piece}
@@ -89,6 +92,7 @@ use Rattle.codegen.proofs.Running.{at, one_step, WorksFrom, works_from}
 use Rattle.codegen.proofs.Codes.{left_none, right_none, Coded, move_coded, display_coded, accept_coded, date_coded}
 use Rattle.codegen.proofs.ArithmeticCodes.{arithmetic_coded}
 use Rattle.codegen.proofs.PatternCodes.{initializes_codes, sets_codes}
+use Rattle.codegen.proofs.InspectCodes.{inspect_codes}
 use Rattle.codegen.proofs.StringCodes.{string_codes}
 use Rattle.codegen.proofs.Doing.{end_of, Does, PartDoes, Sits, back_sits, IsRoom, still_room, moved, stays, behind, parts_do, tick_part, ticks_alone, ending_does, nothing_does, Follows, in_order_does, Repeats, fewer_does}
 use Rattle.codegen.proofs.Turning.{times_does}
@@ -215,6 +219,16 @@ module _ (whole : Code) (kept : ℕ → Type 0) (scope : Scope)
       (date_coded scope.items whole entries receiver before keep st)
       (λ code is. date_works scope.items whole.tables order s.day receiver code is (scratch_of s cs))
       (λ next here t k. one_step whole next (own_with t cs) (state_with t s) Date here k) (λ t fault e. refl) st
+  texts_do (text.Inspect one) before cs s keep room st =
+      let part = inspect_piece scope.items one before in
+      let coded = (inspect_codes scope.items whole entries one keep).by before st in
+      let works_as = inspect_does scope.items whole.tables order one coded.code coded.holds (scratch_of s cs) room.line in
+      let from = end_of before in
+      let to = end_of (joined before part) in
+      changed_does whole kept from to from to cs s (length coded.code) (behind_code whole before part coded.code coded.is)
+      (inspect scope.items one s.storage)
+      (subst (WorksFrom whole from cs s (length coded.code)) works_as
+      (works_from whole coded.code from cs s (code_stands whole before part coded.code coded.is st)))
 
   -- ---- turns up to where a condition is true
 

@@ -5,6 +5,7 @@ use Rattle.std.proofs.Math.Seq.{get_or-append_seam}
 use Rattle.std.proofs.lemmas.Option.{slice_get-get_or}
 use Rattle.decimal18.specs.Fraction.{Fraction}
 use Rattle.data_instructions.specs.declared.tables.LiteralSender.{LiteralSender}
+use Rattle.data_instructions.specs.declared.tables.Inspection.{Inspection}
 use Rattle.data_instructions.specs.declared.instruction.DataInstruction.{DataInstruction}
 use Rattle.code_image.specs.declared.code.Code.{Code}
 use Rattle.code_image.specs.declared.instruction.Instruction.{Instruction}
@@ -57,6 +58,9 @@ sender_stands whole before part x more is st = in_part whole.tables.senders befo
 
 pub text_stands : (whole before part : Code) (x : List ℕ) (more : List (List ℕ)) → part.tables.texts ≡ x ∷ more → Stands whole before part → slice_get whole.tables.texts (length before.tables.texts) ≡ Some x
 text_stands whole before part x more is st = in_part whole.tables.texts before.tables.texts part.tables.texts st.rest.tables.texts more x (ap (λ (c : Code). c.tables.texts) st.is) is
+
+pub inspection_stands : (whole before part : Code) (x : Inspection) (more : List Inspection) → part.tables.inspections ≡ x ∷ more → Stands whole before part → slice_get whole.tables.inspections (length before.tables.inspections) ≡ Some x
+inspection_stands whole before part x more is st = in_part whole.tables.inspections before.tables.inspections part.tables.inspections st.rest.tables.inspections more x (ap (λ (c : Code). c.tables.inspections) st.is) is
 
 pub start_stands : (whole before part : Code) (x : ℕ) (more : List ℕ) → part.starts ≡ x ∷ more → Stands whole before part → slice_get whole.starts (length before.starts) ≡ Some x
 start_stands whole before part x more is st = in_part whole.starts before.starts part.starts st.rest.starts more x (ap (λ (c : Code). c.starts) st.is) is

@@ -28,6 +28,7 @@ use Rattle.source_tree.specs.Rules.{moving_rules}
 use Rattle.source_tree.specs.ValueRules.{has_form}
 use Rattle.literals.proofs.Forms.{sender_formed}
 use Rattle.data_instructions.specs.declared.tables.LiteralSender.{LiteralSender}
+use Rattle.data_instructions.specs.Tables.{IsInspection}
 use Rattle.data_instructions.specs.declared.calculation.Calculation.TheVariants as c
 use Rattle.data_instructions.specs.declared.instruction.DataInstruction.{DataInstruction}
 use Rattle.data_instructions.specs.declared.instruction.DataInstruction.TheVariants as i
@@ -68,13 +69,14 @@ IsStraight instruction.Join = ⊥
 IsStraight (instruction.Perform line first last) = ⊥
 IsStraight (instruction.Back paragraph) = ⊥
 
--- A part of such instructions, without areas, items and starts of its own. Its senders have their bytes.
+-- A part of such instructions, without areas, items and starts of its own. Its senders have their bytes, and its inspections their texts.
 pub record Straight (part : Code) : Type 0 where
   pub instructions : AllByRecursion IsStraight part.instructions
   pub starts : part.starts ≡ []
   pub areas : part.tables.areas ≡ []
   pub items : part.tables.items ≡ []
   pub senders : AllByRecursion IsSent part.tables.senders
+  pub inspections : AllByRecursion IsInspection part.tables.inspections
 
 -- a piece, behind whatever code
 abbrev pub AlwaysStraight : Piece → Type 0
@@ -87,13 +89,14 @@ joined_straight a b f s = record {
   areas = ap (λ l. l ++ b.tables.areas) f.areas ∙ s.areas;
   items = ap (λ l. l ++ b.tables.items) f.items ∙ s.items;
   senders = all_both IsSent a.tables.senders b.tables.senders f.senders s.senders;
+  inspections = all_both IsInspection a.tables.inspections b.tables.inspections f.inspections s.inspections;
 }
 
 pub both_straight : (first second : Piece) → AlwaysStraight first → AlwaysStraight second → AlwaysStraight (both first second)
 both_straight first second f s before = joined_straight (first before) (second (joined before (first before))) (f before) (s (joined before (first before)))
 
 pub nothing_straight : Straight nothing
-nothing_straight = record { instructions = tt; starts = refl; areas = refl; items = refl; senders = tt }
+nothing_straight = record { instructions = tt; starts = refl; areas = refl; items = refl; senders = tt; inspections = tt }
 
 pub in_order_straight : {A : Type 0} (piece : A → Piece) → ((one : A) → AlwaysStraight (piece one)) → (all : List A) → AlwaysStraight (in_order piece all)
 in_order_straight piece straight [] before = nothing_straight
@@ -105,13 +108,13 @@ data_straight [] = tt
 data_straight (one ∷ more) = (tt, data_straight more)
 
 pub works_straight : (all : List DataInstruction) → AlwaysStraight (works_piece all)
-works_straight all before = record { instructions = data_straight all; starts = refl; areas = refl; items = refl; senders = tt }
+works_straight all before = record { instructions = data_straight all; starts = refl; areas = refl; items = refl; senders = tt; inspections = tt }
 
 pub work_straight : (one : DataInstruction) → AlwaysStraight (work_piece one)
 work_straight one = works_straight (one ∷ [])
 
 pub number_straight : (x : Fraction) → AlwaysStraight (number_piece x)
-number_straight x before = record { instructions = (tt, tt); starts = refl; areas = refl; items = refl; senders = tt }
+number_straight x before = record { instructions = (tt, tt); starts = refl; areas = refl; items = refl; senders = tt; inspections = tt }
 
 adjustment_straight : (one : Adjustment) → AlwaysStraight (adjustment_piece one)
 adjustment_straight adjustment.Nothing before = nothing_straight
@@ -119,18 +122,18 @@ adjustment_straight (adjustment.Plus n) before = both_straight (integer_piece (n
 adjustment_straight (adjustment.Minus n) before = both_straight (integer_piece (number_of n)) (work_piece (i.Calculate c.Subtract)) (number_straight (integer (pos (number_of n)))) (work_straight (i.Calculate c.Subtract)) before
 
 pub text_straight : (bytes : List ℕ) → AlwaysStraight (text_piece bytes)
-text_straight bytes before = record { instructions = (tt, tt); starts = refl; areas = refl; items = refl; senders = tt }
+text_straight bytes before = record { instructions = (tt, tt); starts = refl; areas = refl; items = refl; senders = tt; inspections = tt }
 
 pattern_straight : (pattern : Pattern) → AlwaysStraight (pattern_piece pattern)
-pattern_straight pattern before = record { instructions = (tt, tt); starts = refl; areas = refl; items = refl; senders = tt }
+pattern_straight pattern before = record { instructions = (tt, tt); starts = refl; areas = refl; items = refl; senders = tt; inspections = tt }
 
-line_end_straight : (advancing : Bool) → AlwaysStraight (line_end_piece advancing)
+pub line_end_straight : (advancing : Bool) → AlwaysStraight (line_end_piece advancing)
 line_end_straight true before = text_straight (line_end true) before
 line_end_straight false before = nothing_straight
 
 -- one instruction
-one_straight : (one : Instruction) → IsStraight one → AlwaysStraight (λ before. plain (one ∷ []))
-one_straight one h before = record { instructions = (h, tt); starts = refl; areas = refl; items = refl; senders = tt }
+pub one_straight : (one : Instruction) → IsStraight one → AlwaysStraight (λ before. plain (one ∷ []))
+one_straight one h before = record { instructions = (h, tt); starts = refl; areas = refl; items = refl; senders = tt; inspections = tt }
 
 module _ (items : List Placed) where
   subscript_straight : (one : written.Subscript) → AlwaysStraight (subscript_piece items one)
@@ -164,9 +167,10 @@ module _ (items : List Placed) where
     areas = refl;
     items = refl;
     senders = (sender_formed one.value (not_false (has_form one.value) (kept (not (has_form one.value)) (form_rule one.value) one.place e)), tt);
+    inspections = tt;
   }
 
-  operand_straight : (one : Operand) → AlwaysStraight (operand_piece items one)
+  pub operand_straight : (one : Operand) → AlwaysStraight (operand_piece items one)
   operand_straight (operand.Item one) = taking_straight i.Append one
   operand_straight (operand.Literal one) = text_straight (shown_literal one.value)
 
@@ -190,10 +194,3 @@ module _ (items : List Placed) where
       (sender_straight sender (left_none (operand_rules items sender) (each (item_rules items (receives (sent_by items sender))) receivers) e)) (in_order_straight (taking_piece items i.Move) (taking_straight i.Move) receivers)
   moving_straight (Initialize receivers) e = in_order_straight (initialize_piece items) initialize_straight receivers
   moving_straight (Set conditions) e = in_order_straight (set_piece items) set_straight conditions
-
-  pub texts_straight : (one : Text) → AlwaysStraight (texts_piece items one)
-  texts_straight (Display operands advancing) =
-      both_straight (both (operands_piece items operands) (line_end_piece advancing)) show_piece
-      (both_straight (operands_piece items operands) (line_end_piece advancing) (in_order_straight (operand_piece items) operand_straight operands) (line_end_straight advancing)) (one_straight instruction.Show tt)
-  texts_straight (Accept receiver) = both_straight (reference_piece items receiver) (λ before. plain (instruction.Accept ∷ [])) (reference_straight receiver) (one_straight instruction.Accept tt)
-  texts_straight (AcceptDate receiver) = both_straight (reference_piece items receiver) (λ before. plain (instruction.Date ∷ [])) (reference_straight receiver) (one_straight instruction.Date tt)

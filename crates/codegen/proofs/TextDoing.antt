@@ -1,4 +1,4 @@
--- What the code of INITIALIZE, SET and STRING does.
+-- What the code of INITIALIZE, SET, STRING and INSPECT does.
 use Rattle.std.proofs.Common.{◌≡◌, ℕ, ◌+◌, Bool, List, Ok, Err, refl, ap, ◌∙◌, arith}
 use Rattle.source_tree.specs.Evaluated.{Evaluated}
 use Rattle.source_tree.specs.Storage.{Storage}

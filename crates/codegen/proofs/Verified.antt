@@ -27,13 +27,14 @@ use Rattle.initial_storage.specs.Reach.{last_offset}
 use Rattle.initial_storage.specs.Reach as reach
 use Rattle.initial_storage.proofs.Areas.{small_areas, items_lie}
 use Rattle.initial_storage.proofs.Formed.{all_formed}
+use Rattle.initial_storage.proofs.Pictures.{some_bytes}
 use Rattle.data_instructions.specs.declared.tables.DataTables.{DataTables}
 use Rattle.data_instructions.specs.declared.shape.Shape.{Shape}
 use Rattle.data_instructions.specs.declared.gather.Gather.TheVariants as g
 use Rattle.data_instructions.specs.declared.instruction.DataInstruction.{DataInstruction}
 use Rattle.data_instructions.specs.declared.test.Test.TheVariants as t
 use Rattle.data_instructions.specs.declared.instruction.DataInstruction.TheVariants as i
-use Rattle.data_instructions.specs.Tables.{IsEditing, IsDataItem, IsTables}
+use Rattle.data_instructions.specs.Tables.{IsEditing, IsDataItem, IsInspection, IsTables}
 use Rattle.data_instructions.specs.Codes.{data_item}
 use Rattle.data_instructions.specs.Chains.{greatest, LiesWhole}
 use Rattle.data_instructions.specs.Naming.{NamesEntries}
@@ -49,6 +50,7 @@ use Rattle.codegen.specs.Layout.{paragraph_piece, section_piece, end_piece, stor
 use Rattle.codegen.proofs.Standing.{Stands, at_seam}
 use Rattle.codegen.proofs.Flowing.{along_append}
 use Rattle.codegen.proofs.ConditionValues.{conditions_formed}
+use Rattle.codegen.proofs.Inspections.{AreSized}
 use Rattle.codegen.proofs.Codes.{left_none, right_none}
 use Rattle.codegen.proofs.NewBytes.{all_at}
 use Rattle.codegen.proofs.Pieces.{flat}
@@ -128,7 +130,11 @@ named_by tables (i.Gather (g.UpToText delimiter)) s after e =
 named_by tables (i.Gather (g.TextUpToPlace text)) s after e =
     let found = and_then_some (slice_get tables.texts text.number) _ after.stacks (parts tables (i.Gather (g.TextUpToPlace text)) s after e).0 in
     slice_get_within tables.texts text.number found.0 found.1
+named_by tables (i.Gather g.Sized) s after e = tt
 named_by tables (i.String pointer) s after e = tt
+named_by tables (i.Inspect inspection) s after e =
+    let found = and_then_some (slice_get tables.inspections inspection.number) _ after.stacks (parts tables (i.Inspect inspection) s after e).0 in
+    slice_get_within tables.inspections inspection.number found.0 found.1
 
 named_after : (tables : DataTables) (one : Instruction) (s after : Shape) → known_after tables one s ≡ Some after → NamesData tables one
 named_after tables (Data one) s after e = named_by tables one s after e
@@ -251,13 +257,16 @@ module _ (program : Program) (keep : program_rules program ≡ []) where
   pub within : AllByRecursion (EndsWithin count) found.procedures
   within = procedures_end count 0 program.sections (omega arith)
 
+  pub items_sized : AreSized items
+  items_sized n one here = some_bytes one.item (all_at formed.IsFormed items (all_formed program.storage entries_keep) n one here).form
+
   pub is_flat : body ≡ paragraphs_code
   is_flat = flat found program.sections storage
 
   met : (P : PerformedRange → Type 0) → AllByRecursion P (performed program) → AreParagraphs count P count storage body
   met P q =
       subst (AreParagraphs count P count storage) (sym is_flat)
-      (paragraphs_lie count P found all_permitted (conditions_formed program.storage entries_keep) within (paragraphs program) storage
+      (paragraphs_lie count P found all_permitted (conditions_formed program.storage entries_keep) items_sized within (paragraphs program) storage
       (record { ends = refl; front = inl refl }) (omega arith) all_keep q)
 
   -- the names of its parts
@@ -276,6 +285,9 @@ module _ (program : Program) (keep : program_rules program ≡ []) where
   senders_are : code.tables.senders ≡ body.tables.senders
   senders_are = append-nil body.tables.senders
 
+  inspections_are : code.tables.inspections ≡ body.tables.inspections
+  inspections_are = append-nil body.tables.inspections
+
   pub item_entries : (n : ℕ) (one : Placed) → slice_get items n ≡ Some one → slice_get code.tables.items n ≡ Some (data_item one)
   item_entries n one here = ap (λ l. slice_get l n) items_are ∙ map_at data_item items n one here
 
@@ -293,6 +305,8 @@ module _ (program : Program) (keep : program_rules program ≡ []) where
         (is_data_item code.tables.areas from.0 (all_at formed.IsFormed items (all_formed program.storage entries_keep) k from.0 from.1)
         (item_lies k from.0 from.1));
     senders = λ k one here. each_at IsSent body.tables.senders names.senders k one (sym (ap (λ l. slice_get l k) senders_are) ∙ here);
+    inspections = λ k one here.
+        each_at IsInspection body.tables.inspections names.inspections k one (sym (ap (λ l. slice_get l k) inspections_are) ∙ here);
   }
 
   pub lies : (n : ℕ) (one : Placed) → slice_get items n ≡ Some one → LiesWhole code.tables one

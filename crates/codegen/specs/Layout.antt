@@ -4,7 +4,7 @@ use Rattle.source_tree.specs.declared.entry.Entry.{Entry}
 use Rattle.source_tree.specs.declared.moving.Moving.{Moving}
 use Rattle.source_tree.specs.declared.moving.Moving.TheVariants.{Move, Initialize, Set}
 use Rattle.source_tree.specs.declared.text.Text.{Text}
-use Rattle.source_tree.specs.declared.text.Text.TheVariants.{Display, Accept, AcceptDate}
+use Rattle.source_tree.specs.declared.text.Text.TheVariants.{Display, Accept, AcceptDate, Inspect}
 use Rattle.source_tree.specs.declared.phrases.Phrases.{Phrases}
 use Rattle.source_tree.specs.declared.arithmetic.Arithmetic.{Arithmetic}
 use Rattle.source_tree.specs.declared.branching.Branching.{Branching}
@@ -47,6 +47,7 @@ use Rattle.codegen.specs.ArithmeticCode.{arithmetic_piece}
 use Rattle.codegen.specs.ConditionCode.{condition_piece}
 use Rattle.codegen.specs.PatternCode.{initializes_piece, sets_piece}
 use Rattle.codegen.specs.StringCode.{string_piece}
+use Rattle.codegen.specs.InspectCode.{inspect_piece}
 use Rattle.codegen.specs.UntilCode.{tick_piece, until_piece}
 
 abbrev pub stop_run_piece : ℕ → Piece
@@ -104,6 +105,7 @@ abbrev pub texts_piece : List Placed → Text → Piece
 texts_piece items (Display operands advancing) = display_piece items operands advancing
 texts_piece items (Accept receiver) = accept_piece items receiver
 texts_piece items (AcceptDate receiver) = date_piece items receiver
+texts_piece items (Inspect one) = inspect_piece items one
 
 -- Statements that hold statements; `inside` is the code of those.
 module _ (scope : Scope) {S : Type 0} (inside : S → Piece) where

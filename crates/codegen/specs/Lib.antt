@@ -5,6 +5,7 @@ pub mod ArithmeticCode
 pub mod ConditionCode
 pub mod PatternCode
 pub mod StringCode
+pub mod InspectCode
 pub mod UntilCode
 pub mod Operations
 pub mod Layout

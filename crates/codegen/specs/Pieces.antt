@@ -9,7 +9,7 @@ abbrev pub Piece : Type 0
 Piece = Code → Code
 
 abbrev pub no_tables : DataTables
-no_tables = record { areas = []; items = []; numbers = []; senders = []; texts = [] }
+no_tables = record { areas = []; items = []; numbers = []; senders = []; texts = []; inspections = [] }
 
 abbrev pub nothing : Code
 nothing = record { tables = no_tables; starts = []; instructions = [] }
@@ -21,6 +21,7 @@ joined_tables a b = record {
   numbers = a.numbers ++ b.numbers;
   senders = a.senders ++ b.senders;
   texts = a.texts ++ b.texts;
+  inspections = a.inspections ++ b.inspections;
 }
 
 -- one code after another

@@ -45,7 +45,8 @@ fn put_number(out: &mut Vec<u8>, number: &NumericLiteral) -> Result<(), AllocErr
     put_decimals(out, number.decimals.as_slice())
 }
 
-fn figurative(constant: Figurative) -> u8
+/// The byte of a figurative constant.
+pub(crate) fn figurative(constant: Figurative) -> u8
     ensures { result ≡ figurative_byte constant }
 {
     match constant {

@@ -113,6 +113,7 @@ impl<'a> Emitter<'a> {
             } => self.emit_display(code, operands.as_slice(), *advancing),
             Text::Accept { receiver } => self.emit_accept(code, receiver),
             Text::AcceptDate { receiver } => self.emit_date(code, receiver),
+            Text::Inspect(inspecting) => self.emit_inspect(code, inspecting),
         }
     }
 

@@ -3,6 +3,7 @@
 ghost use Rattle.std.specs.Prelude.{◌≡◌, IfOk, slice_get};
 ghost use Rattle.check_rules.specs.Named.{IsDeclared, items_in};
 ghost use Rattle.source_tree.specs.Arithmetic.{receiver_of};
+ghost use Rattle.source_tree.specs.Inspecting.{found_size};
 ghost use Rattle.codegen.specs.DataCode as spec;
 ghost use Rattle.codegen.specs.ArithmeticCode as arithmetic;
 
@@ -61,6 +62,17 @@ impl<'a> Emitter<'a> {
     {
         let number = entry_number(self.item_number(name))?;
         Ok(ItemIndex { number })
+    }
+
+    /// The length of the item that a name names.
+    pub(crate) fn length_of(&self, name: &QualifiedName) -> u32
+        requires { IsDeclared self.now.declarations.now }
+        ensures { result ≡ found_size (slice_get (items_in self.now.declarations.now) (spec.item_number (items_in self.now.declarations.now) name.now)) }
+    {
+        match self.declarations.layout.items.get(self.item_number(name)) {
+            Some(found) => found.item.length,
+            None => 0,
+        }
     }
 
     /// The dimensions of an item.

@@ -12,6 +12,7 @@ mod emitter;
 mod evaluate;
 mod expression;
 mod initializing;
+mod inspecting;
 mod moving;
 mod number;
 mod overlays;

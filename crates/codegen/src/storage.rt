@@ -61,6 +61,7 @@ fn storage_tables(alloc: Global, declarations: &Declarations<'_>) -> Result<Data
         numbers: Items::new(alloc),
         senders: Items::new(alloc),
         texts: Items::new(alloc),
+        inspections: Items::new(alloc),
     })
 }
 

@@ -52,6 +52,7 @@ tables = record {
   numbers = record { coefficient = pos 15; scale = 1 } ∷ record { coefficient = pos 0; scale = 0 } ∷ [];
   senders = digit (codes "5") ∷ digit (codes "7") ∷ digit (codes "8") ∷ digit (codes "9") ∷ record { taken = kept.Item (text_item 2); bytes = codes "Ab" } ∷ [];
   texts = [];
+  inspections = [];
 }
 
 abbrev item : ℕ → DataInstruction

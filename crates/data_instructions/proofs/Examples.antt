@@ -45,6 +45,7 @@ tables = record {
       ∷ record { coefficient = pos 40; scale = 0 } ∷ record { coefficient = pos 25; scale = 2 } ∷ record { coefficient = pos 0; scale = 0 } ∷ [];
   senders = [];
   texts = codes "N=" ∷ [];
+  inspections = [];
 }
 
 abbrev item : ℕ → DataInstruction

@@ -1,8 +1,10 @@
 -- How long what DISPLAY shows is.
-use Rattle.std.proofs.Common.{◌≡◌, ℕ, zero, suc, ◌+◌, ◌-◌, ◌≤◌, length, List, [], ◌∷◌, ◌++◌, take, drop, refl, ap, arith, Option, Some, None}
+use Rattle.std.proofs.Common.{◌≡◌, ℕ, zero, suc, ◌+◌, ◌-◌, ◌≤◌, length, List, [], ◌∷◌, ◌++◌, take, drop, refl, ap, ◌∙◌, subst, arith, Option, Some, None}
 use Rattle.std.specs.Prelude.{Bool, true, false, ◌==◌, if◌then◌else◌, slice_range, unsigned_abs}
 use Rattle.std.specs.Option.{option_map}
-use Rattle.std.proofs.lemmas.List.{length-take, length-drop, length-append}
+use Rattle.std.specs.Prelude.{replicate}
+use Rattle.std.proofs.lemmas.List.{length-take, length-drop, length-append, length-replicate, append-nil}
+use Rattle.std.proofs.Math.Seq.{take-length}
 use Rattle.std.proofs.lemmas.Option.{same_Some}
 use Rattle.decimal18.specs.Fraction.{Fraction, is_negative}
 use Rattle.decimal18.specs.Digits.{digit_text}
@@ -12,6 +14,7 @@ use Rattle.items.specs.declared.item.Kind.TheVariants as k
 use Rattle.items.specs.Numbers.{is_signed}
 use Rattle.items.specs.Display.{sign_character}
 use Rattle.items.specs.Values.{value_of, digits_of}
+use Rattle.items.specs.Texts.{padded}
 use Rattle.text_ops.specs.Shown.{point, shown, shown_sign, shown_digits, shown_number}
 use Rattle.text_ops.specs.Lengths.{shown_length}
 
@@ -55,3 +58,16 @@ shown_long (k.NumericEdited blank) bytes text e size within = let is = ap length
 
 pub range_long : (xs : List ℕ) (at size : ℕ) → length (slice_range xs at (at + size)) ≤ size
 range_long xs at size = let h = length-take (at + size - at) (drop at xs) in omega (arith, h)
+
+pub padded_long : (size : ℕ) (text : List ℕ) → length (padded size text) ≡ size
+padded_long size text = omega (arith, length-append (take size text) (replicate (size - length text) 32), length-take size text, length-replicate {A = ℕ} (size - length text) 32)
+
+-- a text of this size
+pub padded_whole : (size : ℕ) (text : List ℕ) → length text ≡ size → padded size text ≡ text
+padded_whole size text is =
+    subst (λ n. padded n text ≡ text) is whole
+  where
+    whole : padded (length text) text ≡ text
+    whole =
+        let none : length text - length text ≡ 0 = omega arith in
+        ap (λ n. take (length text) text ++ replicate n 32) none ∙ append-nil (take (length text) text) ∙ take-length text

@@ -4,6 +4,7 @@ pub mod Lengths
 pub mod Calculations
 pub mod Safety
 pub mod TextSafety
+pub mod InspectSafety
 pub mod EachSafety
 pub mod Entries
 pub mod Integers
@@ -16,6 +17,8 @@ pub mod Conditions
 pub mod ConditionChains
 pub mod TextCodes
 pub mod TextChains
+pub mod InspectCodes
+pub mod InspectChains
 mod Examples
 mod ConditionExamples
 mod TextExamples

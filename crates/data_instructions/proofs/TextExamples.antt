@@ -43,6 +43,7 @@ tables pointer = record {
   numbers = [];
   senders = [];
   texts = codes "AB" ∷ codes " " ∷ codes "E" ∷ codes "A B" ∷ (48 ∷ 48 ∷ 0 ∷ 0 ∷ []) ∷ (1 ∷ 1 ∷ 0 ∷ 0 ∷ []) ∷ [];
+  inspections = [];
 }
 
 abbrev item : ℕ → DataInstruction

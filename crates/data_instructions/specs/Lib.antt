@@ -12,3 +12,4 @@ pub mod Chains
 pub mod ArithmeticCodes
 pub mod ConditionCodes
 pub mod TextCodes
+pub mod InspectCodes

@@ -8,10 +8,10 @@ ghost use Rattle.data_instructions.specs.Shapes as spec;
 
 use crate::calculation::Calculation;
 use crate::gather::Gather;
-use crate::index::{ItemIndex, TextIndex};
+use crate::index::{InspectionIndex, ItemIndex, TextIndex};
 use crate::instruction::DataInstruction;
 use crate::shape::{PlaceShape, Shape, Stacks};
-use crate::tables::{DataItem, DataTables};
+use crate::tables::{DataItem, DataTables, Inspection};
 use crate::test::Test;
 use edited_move::{Receiving, Sending, is_permitted, is_short};
 use items::{Item, Kind, Numeric, OperationalSign, Taken, Usage};
@@ -250,7 +250,7 @@ fn stacks_gathered(tables: &DataTables, one: Gather, stacks: Stacks) -> Option<S
     ensures { result ≡ spec.stacks_gathered tables.now one stacks }
 {
     match one {
-        Gather::Bytes => without_place(stacks),
+        Gather::Bytes | Gather::Sized => without_place(stacks),
         Gather::UpToPlace => beside_place(without_place(stacks)?),
         Gather::UpToText { delimiter } => {
             with_text(tables, delimiter.number as usize, without_place(stacks))
@@ -270,6 +270,34 @@ fn without_receiver(pointer: bool, stacks: Stacks) -> Option<Stacks>
     } else {
         without_place(stacks)
     }
+}
+
+/// An inspection of the table.
+fn inspection(tables: &DataTables, index: InspectionIndex) -> Option<&Inspection>
+    ensures { option_copied result ≡ slice_get tables.now.inspections index.number }
+{
+    tables.inspections.get(index.number as usize)
+}
+
+/// The stacks without so many places.
+fn without_places(count: usize, stacks: Stacks) -> Option<Stacks>
+    ensures { result ≡ spec.without_places count stacks }
+{
+    let mut rest = stacks;
+    let mut left = count;
+    while left > 0 {
+        rest = without_place(rest)?;
+        left -= 1;
+    }
+    Some(rest)
+}
+
+/// The stacks without the places of an inspection's counters and subject.
+fn stacks_inspected(tables: &DataTables, index: InspectionIndex, stacks: Stacks) -> Option<Stacks>
+    ensures { result ≡ spec.stacks_inspected tables.now index stacks }
+{
+    let one = inspection(tables, index)?;
+    without_place(without_places(one.counters.len(), stacks)?)
 }
 
 /// The stacks after bytes were laid over others, where both texts are there.
@@ -311,6 +339,9 @@ fn stacks_after(
         DataInstruction::Overlay { text } => { Ok(stacks_overlaid(tables, text, stacks)) }
         DataInstruction::Gather(one) => Ok(stacks_gathered(tables, one, stacks)),
         DataInstruction::String { pointer } => Ok(without_receiver(pointer, stacks)),
+        DataInstruction::Inspect { inspection } => {
+            Ok(stacks_inspected(tables, inspection, stacks))
+        }
         DataInstruction::ClearTruth
         | DataInstruction::TakeLiteral { .. }
         | DataInstruction::AppendLiteral { .. } => Ok(Some(stacks)),
@@ -355,6 +386,18 @@ fn longer_by_text(
     }
 }
 
+/// No line, behind one that can have the texts of an inspection.
+fn line_inspected(tables: &DataTables, index: InspectionIndex, line: usize) -> Option<usize>
+    ensures { result ≡ spec.line_inspected tables.now index line }
+{
+    let one = inspection(tables, index)?;
+    if one.size as usize <= line {
+        Some(0)
+    } else {
+        None
+    }
+}
+
 /// The bytes that the line has at the most after an instruction.
 fn line_after(
     tables: &DataTables,
@@ -373,9 +416,11 @@ fn line_after(
         | DataInstruction::Gather(Gather::TextUpToPlace { text }) => {
             longer_by_text(tables, text.number as usize, line)
         }
-        DataInstruction::Gather(Gather::Bytes | Gather::UpToPlace | Gather::UpToText { .. }) =>
-            longer_by_item(tables, newest, line),
+        DataInstruction::Gather(
+            Gather::Bytes | Gather::UpToPlace | Gather::UpToText { .. } | Gather::Sized,
+        ) => longer_by_item(tables, newest, line),
         DataInstruction::String { .. } => Ok(Some(0)),
+        DataInstruction::Inspect { inspection } => Ok(line_inspected(tables, inspection, line)),
         _ => Ok(Some(line)),
     }
 }

@@ -1,4 +1,4 @@
-//! Instructions that gather texts, as STRING does.
+//! Instructions that gather texts, as STRING and INSPECT do.
 
 use crate::index::TextIndex;
 
@@ -13,4 +13,6 @@ pub enum Gather {
     UpToText { delimiter: TextIndex },
     /// A text up to the first occurrence of the bytes at the newest place, which stays.
     TextUpToPlace { text: TextIndex },
+    /// Takes a place: its bytes, as many as its item has.
+    Sized,
 }

@@ -18,6 +18,12 @@ pub struct SenderIndex {
     pub number: u32,
 }
 
+/// An inspection of their table.
+#[derive(Clone, Copy, Debug, PartialEq, Eq)]
+pub struct InspectionIndex {
+    pub number: u32,
+}
+
 /// A text of the table of those that are shown.
 #[derive(Clone, Copy, Debug, PartialEq, Eq)]
 pub struct TextIndex {

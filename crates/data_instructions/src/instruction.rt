@@ -2,7 +2,7 @@
 
 use crate::calculation::Calculation;
 use crate::gather::Gather;
-use crate::index::{ItemIndex, NumberIndex, SenderIndex, TextIndex};
+use crate::index::{InspectionIndex, ItemIndex, NumberIndex, SenderIndex, TextIndex};
 use crate::test::Test;
 use std::mem::size_of;
 
@@ -53,6 +53,10 @@ pub enum DataInstruction {
     /// (COBOL-85, Nucleus, "The STRING statement"). The truth is whether there was an overflow, and the line is empty then.
     /// Fault 90 where the pointer holds no integer.
     String { pointer: bool },
+    /// Takes the places of an inspection's counters, the last one's first, and its subject's, and does what INSPECT does (COBOL-85,
+    /// Nucleus, "The INSPECT statement") with the texts in the line, cut or padded with spaces to their size. The line is empty then.
+    /// Fault 90 where a counter holds no number.
+    Inspect { inspection: InspectionIndex },
 }
 
 // Code is read in order, so an instruction has few bytes.

@@ -8,6 +8,7 @@ ghost use Rattle.data_instructions.specs.Tables.{IsTables, IsEditing, IsDataItem
 ghost use Rattle.data_instructions.specs.declared.tables.DataItem.{DataItem};
 ghost use Rattle.data_instructions.specs.declared.tables.LiteralSender.{LiteralSender};
 
+use crate::inspections::has_inspections;
 use crate::tables::{DataItem, DataTables, LiteralSender};
 use items::{Item, Kind, Numeric, Taken};
 use picture::{Category, Picture};
@@ -126,8 +127,8 @@ fn has_senders(senders: &[LiteralSender]) -> bool
 }
 
 impl DataTables {
-    /// Each item has its form and lies in its area, which has fewer bytes than 4 GiB, and each literal has the bytes of what
-    /// it counts as.
+    /// Each item has its form and lies in its area, which has fewer bytes than 4 GiB, each literal has the bytes of what it counts
+    /// as, and each inspection has its texts.
     pub fn are_in_order(&self) -> bool
         ensures { IsTrue result ↔ IsTables self.now }
     {
@@ -137,6 +138,9 @@ impl DataTables {
         if !has_items(self.areas.as_slice(), self.items.as_slice()) {
             return false;
         }
-        has_senders(self.senders.as_slice())
+        if !has_senders(self.senders.as_slice()) {
+            return false;
+        }
+        has_inspections(self.inspections.as_slice())
     }
 }

@@ -4,6 +4,7 @@ use decimal18::Dec;
 use items::{Item, Taken};
 use picture::Picture;
 use sqlite_items::Items;
+use text_ops::Entry;
 
 /// An item that code names. Its first occurrence begins `offset` bytes behind the start of its area.
 #[derive(Debug, Drop)]
@@ -23,6 +24,19 @@ pub struct LiteralSender {
     pub bytes: Items<u8>,
 }
 
+/// What an INSPECT does with the texts that are joined in the line. Its entries have spans of these.
+#[derive(Debug, Drop)]
+pub struct Inspection {
+    /// The size of the texts, in bytes.
+    pub size: u32,
+    /// How many entries of TALLYING each counter has: the first one has the first entries.
+    pub counters: Items<u32>,
+    /// The entries of TALLYING.
+    pub tallying: Items<Entry>,
+    /// The entries of REPLACING.
+    pub replacing: Items<Entry>,
+}
+
 /// The tables of data that code names.
 #[derive(Debug, Drop)]
 pub struct DataTables {
@@ -35,4 +49,5 @@ pub struct DataTables {
     pub senders: Items<LiteralSender>,
     /// Texts that are shown.
     pub texts: Items<Items<u8>>,
+    pub inspections: Items<Inspection>,
 }

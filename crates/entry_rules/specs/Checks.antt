@@ -28,6 +28,7 @@ number_of rule.Object = 53
 number_of rule.Recursion = 54
 number_of rule.Range = 55
 number_of rule.NoProcedure = 56
+number_of rule.InspectOperand = 64
 number_of rule.StringOperand = 65
 number_of rule.AllLiteral = 67
 number_of rule.NoCondition = 68

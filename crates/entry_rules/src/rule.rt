@@ -48,6 +48,8 @@ pub enum Rule {
     Range,
     /// A procedure division without any paragraph or sentence.
     NoProcedure,
+    /// An operand of INSPECT that is of another kind, or a replacing text of another size.
+    InspectOperand,
     /// An operand of STRING that is of another kind.
     StringOperand,
     /// ALL with a literal in DISPLAY or STRING.
@@ -83,6 +85,7 @@ impl Rule {
             Rule::Recursion => 54,
             Rule::Range => 55,
             Rule::NoProcedure => 56,
+            Rule::InspectOperand => 64,
             Rule::StringOperand => 65,
             Rule::AllLiteral => 67,
             Rule::NoCondition => 68,

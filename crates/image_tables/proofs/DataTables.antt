@@ -2,6 +2,7 @@
 use Rattle.std.proofs.Common.{◌≡◌, ℕ, List, ◌++◌, Ok, ap, subst, ◌∙◌, append_assoc}
 use Rattle.data_instructions.specs.declared.tables.DataItem.{DataItem}
 use Rattle.data_instructions.specs.declared.tables.LiteralSender.{LiteralSender}
+use Rattle.data_instructions.specs.declared.tables.Inspection.{Inspection}
 use Rattle.data_instructions.specs.declared.tables.DataTables.{DataTables}
 use Rattle.decimal18.specs.Fraction.{Fraction}
 use Rattle.image_tables.specs.Spelling.{IsBytes, short_bytes, table_bytes, text_bytes, IsText, AreSpelled}
@@ -10,6 +11,7 @@ use Rattle.image_tables.specs.Items.{item_bytes}
 use Rattle.image_tables.specs.Pictures.{editing_bytes, editing_at}
 use Rattle.image_tables.specs.Fractions.{fraction_bytes, IsFractionSpelled, fraction_at}
 use Rattle.image_tables.specs.Senders.{sender_bytes, IsSenderSpelled, sender_at}
+use Rattle.image_tables.specs.Inspections.{inspection_bytes, IsInspectionSpelled, inspection_at}
 use Rattle.image_tables.specs.Tables.{data_item_bytes, tables_bytes, IsDataItemSpelled, HasTables, data_item_at, tables_at}
 use Rattle.image_tables.proofs.Forms.{ok_is, takes_then, IsForm, part, part_again, Took, form_of}
 use Rattle.image_tables.proofs.Numbers.{short_form}
@@ -18,12 +20,13 @@ use Rattle.image_tables.proofs.Items.{item_form}
 use Rattle.image_tables.proofs.Pictures.{editing_form}
 use Rattle.image_tables.proofs.Fractions.{fraction_form}
 use Rattle.image_tables.proofs.Senders.{sender_form}
+use Rattle.image_tables.proofs.Inspections.{inspection_form}
 
 regroup_4 : (a b c d e : List ℕ) → a ++ b ++ c ++ d ++ e ≡ a ++ (b ++ (c ++ (d ++ e)))
 regroup_4 a b c d e = simp append_assoc
 
-regroup_5 : (a b c d e f : List ℕ) → a ++ b ++ c ++ d ++ e ++ f ≡ a ++ (b ++ (c ++ (d ++ (e ++ f))))
-regroup_5 a b c d e f = simp append_assoc
+regroup_6 : (a b c d e f g : List ℕ) → a ++ b ++ c ++ d ++ e ++ f ++ g ≡ a ++ (b ++ (c ++ (d ++ (e ++ (f ++ g)))))
+regroup_6 a b c d e f g = simp append_assoc
 
 -- ---- an item that code names
 
@@ -77,6 +80,9 @@ number_table = table_form fraction_at fraction_bytes IsFractionSpelled fraction_
 sender_table : IsForm (table_at sender_at) (table_bytes sender_bytes) (AreSpelled IsSenderSpelled)
 sender_table = table_form sender_at sender_bytes IsSenderSpelled sender_form
 
+inspection_table : IsForm (table_at inspection_at) (table_bytes inspection_bytes) (AreSpelled IsInspectionSpelled)
+inspection_table = table_form inspection_at inspection_bytes IsInspectionSpelled inspection_form
+
 tables_took : (bytes : List ℕ) (x : DataTables × List ℕ) → IsBytes bytes → tables_at bytes ≡ Ok x → Took tables_bytes HasTables bytes x
 unfolding tables_at
 tables_took bytes x is e =
@@ -85,20 +91,26 @@ tables_took bytes x is e =
     let c = part number_table b.rest _ x b.takes.rest_fits b.goes in
     let d = part sender_table c.rest _ x c.takes.rest_fits c.goes in
     let f = part text_table d.rest _ x d.takes.rest_fits d.goes in
+    let g = part inspection_table f.rest _ x f.takes.rest_fits f.goes in
     let ta = table_bytes text_bytes a.value in
     let tb = table_bytes data_item_bytes b.value in
     let tc = table_bytes fraction_bytes c.value in
     let td = table_bytes sender_bytes d.value in
-    let made : DataTables = record { areas = a.value; items = b.value; numbers = c.value; senders = d.value; texts = f.value } in
+    let tf = table_bytes text_bytes f.value in
+    let made : DataTables = record { areas = a.value; items = b.value; numbers = c.value; senders = d.value; texts = f.value; inspections = g.value } in
     let two = takes_then bytes ta a.rest tb b.rest a.takes b.takes in
     let three = takes_then bytes (ta ++ tb) b.rest tc c.rest two c.takes in
     let four = takes_then bytes (ta ++ tb ++ tc) c.rest td d.rest three d.takes in
-    let five = takes_then bytes (ta ++ tb ++ tc ++ td) d.rest (table_bytes text_bytes f.value) f.rest four f.takes in
-    let fits : HasTables made = record { areas = a.sound; items = b.sound; numbers = c.sound; senders = d.sound; texts = f.sound } in
-    subst (Took tables_bytes HasTables bytes) {x = (made, f.rest)} (ok_is (made, f.rest) x f.goes) (five, fits)
+    let five = takes_then bytes (ta ++ tb ++ tc ++ td) d.rest tf f.rest four f.takes in
+    let six = takes_then bytes (ta ++ tb ++ tc ++ td ++ tf) f.rest (table_bytes inspection_bytes g.value) g.rest five g.takes in
+    let fits : HasTables made = record { areas = a.sound; items = b.sound; numbers = c.sound; senders = d.sound; texts = f.sound; inspections = g.sound } in
+    subst (Took tables_bytes HasTables bytes) {x = (made, g.rest)} (ok_is (made, g.rest) x g.goes) (six, fits)
+
+abbrev inspections_from : DataTables → List Inspection × List ℕ → Read DataTables
+inspections_from tables inspections = Ok (record tables { inspections = inspections.0 }, inspections.1)
 
 abbrev texts_from : DataTables → List (List ℕ) × List ℕ → Read DataTables
-texts_from tables texts = Ok (record tables { texts = texts.0 }, texts.1)
+texts_from tables texts = table_at inspection_at texts.1 >>= inspections_from (record tables { texts = texts.0 })
 
 abbrev senders_from : DataTables → List LiteralSender × List ℕ → Read DataTables
 senders_from tables senders = table_at text_at senders.1 >>= texts_from (record tables { senders = senders.0 })
@@ -120,12 +132,14 @@ tables_again tables rest h =
     let c = table_bytes fraction_bytes tables.numbers in
     let d = table_bytes sender_bytes tables.senders in
     let e = table_bytes text_bytes tables.texts in
-    ap tables_at (regroup_5 a b c d e rest)
-    ∙ part_again text_table tables.areas (b ++ (c ++ (d ++ (e ++ rest)))) (areas_from tables) h.areas
-    ∙ part_again item_table tables.items (c ++ (d ++ (e ++ rest))) (items_from tables) h.items
-    ∙ part_again number_table tables.numbers (d ++ (e ++ rest)) (numbers_from tables) h.numbers
-    ∙ part_again sender_table tables.senders (e ++ rest) (senders_from tables) h.senders
-    ∙ part_again text_table tables.texts rest (texts_from tables) h.texts
+    let f = table_bytes inspection_bytes tables.inspections in
+    ap tables_at (regroup_6 a b c d e f rest)
+    ∙ part_again text_table tables.areas (b ++ (c ++ (d ++ (e ++ (f ++ rest))))) (areas_from tables) h.areas
+    ∙ part_again item_table tables.items (c ++ (d ++ (e ++ (f ++ rest)))) (items_from tables) h.items
+    ∙ part_again number_table tables.numbers (d ++ (e ++ (f ++ rest))) (numbers_from tables) h.numbers
+    ∙ part_again sender_table tables.senders (e ++ (f ++ rest)) (senders_from tables) h.senders
+    ∙ part_again text_table tables.texts (f ++ rest) (texts_from tables) h.texts
+    ∙ part_again inspection_table tables.inspections rest (inspections_from tables) h.inspections
 
 pub tables_form : IsForm tables_at tables_bytes HasTables
 tables_form = form_of tables_at tables_bytes HasTables tables_took tables_again

@@ -1,12 +1,13 @@
 -- Worked examples: parts of images as bytes, and bytes that are refused.
 use Rattle.std.proofs.Common.{◌≡◌, true, false, [], ◌∷◌, ◌++◌, replicate, Ok, Err, refl}
-use Rattle.std.specs.Prelude.{pos, negsuc, None}
+use Rattle.std.specs.Prelude.{pos, negsuc, None, Some}
 use Rattle.picture.specs.declared.symbol.Symbol.TheVariants as symbol
 use Rattle.items.specs.declared.item.Kind.TheVariants as k
 use Rattle.items.specs.declared.usage.Usage.TheVariants as u
 use Rattle.items.specs.declared.usage.OperationalSign.TheVariants as s
 use Rattle.items.specs.declared.taken.Taken.TheVariants as t
 use Rattle.items.specs.declared.taken.Figurative.TheVariants as f
+use Rattle.text_ops.specs.declared.entry.Fit.TheVariants as fit
 use Rattle.data_instructions.specs.declared.tables.DataTables.{DataTables}
 use Rattle.data_instructions.specs.declared.calculation.Calculation.TheVariants as c
 use Rattle.data_instructions.specs.declared.test.Test.TheVariants as test
@@ -21,6 +22,7 @@ use Rattle.image_tables.specs.Items.{item_bytes, usage_of, plain_kind_of, numeri
 use Rattle.image_tables.specs.Pictures.{run_bytes, symbol_of, run_at, editing_at}
 use Rattle.image_tables.specs.Fractions.{fraction_bytes, fraction_at}
 use Rattle.image_tables.specs.Senders.{sender_bytes, plain_taken_of, taken_at, sender_at}
+use Rattle.image_tables.specs.Inspections as inspections
 use Rattle.image_tables.specs.Tables.{data_item_bytes, tables_bytes, data_item_at, tables_at}
 use Rattle.image_tables.specs.Tests.{relation_of, class_of}
 use Rattle.image_tables.specs.Instructions.{data_instruction_bytes, plain_instruction_of, data_instruction_at}
@@ -92,6 +94,11 @@ up_to_text_spelt = refl
 string_spelt : data_instruction_bytes (i.String true) ≡ 67 ∷ []
 string_spelt = refl
 
+-- the inspection 258
+inspect_spelt : data_instruction_bytes (i.Inspect (record { number = 258 })) ≡ 69 ∷ 0 ∷ 0 ∷ 1 ∷ 2 ∷ []
+unfolding short_bytes
+inspect_spelt = refl
+
 -- ---- what is refused
 
 -- zero isn't negative
@@ -123,12 +130,17 @@ no_symbol : run_at (80 ∷ replicate 16 0) ≡ Err faults.Value
 unfolding run_at told_at symbol_of byte_at
 no_symbol = refl
 
+-- an entry fits what 1 to 4 say
+no_fit : inspections.fit_at (5 ∷ []) ≡ Err faults.Value
+unfolding inspections.fit_at byte_at
+no_fit = refl
+
 -- whether there is a picture is told by 0 or 1
 no_editing : editing_at (2 ∷ []) ≡ Err faults.Value
 unfolding editing_at byte_at
 no_editing = refl
 
--- 15 begins another instruction, and 27, 59 and 68 none
+-- 15 begins another instruction, and 27, 59 and 70 none
 no_instruction : data_instruction_at (15 ∷ []) ≡ Err faults.Value
 unfolding data_instruction_at byte_at plain_instruction_of
 no_instruction = refl
@@ -141,7 +153,7 @@ before_overlay : data_instruction_at (59 ∷ []) ≡ Err faults.Value
 unfolding data_instruction_at byte_at plain_instruction_of
 before_overlay = refl
 
-behind_the_last : data_instruction_at (68 ∷ []) ≡ Err faults.Value
+behind_the_last : data_instruction_at (70 ∷ []) ≡ Err faults.Value
 unfolding data_instruction_at byte_at plain_instruction_of
 behind_the_last = refl
 
@@ -175,7 +187,7 @@ cut_truncate = refl
 
 -- ---- tables
 
--- an area of four bytes that is one item, the number 3, the literal ZERO, and the text A
+-- an area of four bytes that is one item, the number 3, the literal ZERO, the text A, and an inspection with a counter
 abbrev small : DataTables
 small = record {
   areas = (48 ∷ 48 ∷ 48 ∷ 48 ∷ []) ∷ [];
@@ -183,9 +195,15 @@ small = record {
   numbers = record { coefficient = pos 3; scale = 0 } ∷ [];
   senders = record { taken = t.Figurative f.Zero; bytes = [] } ∷ [];
   texts = (65 ∷ []) ∷ [];
+  inspections = record {
+    size = 3;
+    counters = 1 ∷ [];
+    tallying = record { fit = fit.All (record { start = 0; length = 1 }); before = None; after = Some (record { start = 1; length = 1 }); by = None } ∷ [];
+    replacing = record { fit = fit.Characters; before = None; after = None; by = Some (record { start = 2; length = 1 }) } ∷ [];
+  } ∷ [];
 }
 
 -- read again, with what comes after them
 read_again : tables_at (tables_bytes small ++ 7 ∷ []) ≡ Ok (small, 7 ∷ [])
-unfolding tables_at data_item_at item_at kind_at numeric_at usage_of editing_at fraction_at flag_of sender_at taken_at plain_taken_of text_at table_at entries_at told_at byte_at wide_at short_at count_at count_bytes short_bytes wide_bytes
+unfolding tables_at data_item_at item_at kind_at numeric_at usage_of editing_at fraction_at flag_of sender_at taken_at plain_taken_of inspections.inspection_at inspections.entry_at inspections.fit_at inspections.text_at inspections.span_at text_at table_at entries_at told_at byte_at wide_at short_at count_at count_bytes short_bytes wide_bytes
 read_again = refl

@@ -10,7 +10,7 @@ use Rattle.image_tables.specs.Spelling.{IsBytes, short_bytes}
 use Rattle.image_tables.specs.Reading.{◌>>=◌, byte_at, short_at}
 use Rattle.image_tables.specs.Instructions.{data_instruction_bytes, HasShorts, store, plain_instruction_of, naming_at, index_at, truncate, place, literal, take_literal, append_literal, duplicate, text_from, test_from, instruction_from, data_instruction_at}
 use Rattle.image_tables.specs.Tests.{compare, compare_numbers, or_equal, or_within}
-use Rattle.image_tables.specs.Gathers.{overlay, up_to_text, text_up_to_place}
+use Rattle.image_tables.specs.Gathers.{inspect, overlay, up_to_text, text_up_to_place}
 use Rattle.image_tables.proofs.Forms.{ok_is, chosen, takes_then, takes_kind, IsForm, part, part_again, Took, form_of, first_took, byte_is, behind_took, told_took, first_told, told_in}
 use Rattle.image_tables.proofs.Numbers.{byte_form, short_form}
 use Rattle.image_tables.proofs.Tests.{relation_form, class_form, compare_literal_took, compare_literal_again}
@@ -21,7 +21,7 @@ plain_instructions =
     ∷ (28, store false false) ∷ (29, store true false) ∷ (30, store false true) ∷ (31, store true true)
     ∷ (32, i.Calculate c.Add) ∷ (33, i.Calculate c.Subtract) ∷ (34, i.Calculate c.Multiply) ∷ (35, i.Calculate c.Divide) ∷ (36, i.Calculate c.Negate)
     ∷ (39, i.Calculate c.Discard) ∷ (46, i.Test t.Invert)
-    ∷ (61, i.DropPlace) ∷ (62, i.Gather g.Bytes) ∷ (63, i.Gather g.UpToPlace) ∷ (66, i.String false) ∷ (67, i.String true) ∷ []
+    ∷ (61, i.DropPlace) ∷ (62, i.Gather g.Bytes) ∷ (63, i.Gather g.UpToPlace) ∷ (66, i.String false) ∷ (67, i.String true) ∷ (68, i.Gather g.Sized) ∷ []
 
 instruction_told : (n : ℕ) → plain_instruction_of n ≡ first_told plain_instructions n
 unfolding plain_instruction_of
@@ -30,7 +30,7 @@ instruction_told n = refl
 plain_instruction_is : (n : ℕ) (one : DataInstruction) → plain_instruction_of n ≡ Some one → (data_instruction_bytes one ≡ n ∷ []) × HasShorts one
 plain_instruction_is n one e =
     told_in data_instruction_bytes HasShorts plain_instructions
-    ((refl, tt), ((refl, tt), ((refl, tt), ((refl, tt), ((refl, tt), ((refl, tt), ((refl, tt), ((refl, tt), ((refl, tt), ((refl, tt), ((refl, tt), ((refl, tt), ((refl, tt), ((refl, tt), ((refl, tt), ((refl, tt), ((refl, tt), ((refl, tt), ((refl, tt), ((refl, tt), ((refl, tt), ((refl, tt), tt))))))))))))))))))))))
+    ((refl, tt), ((refl, tt), ((refl, tt), ((refl, tt), ((refl, tt), ((refl, tt), ((refl, tt), ((refl, tt), ((refl, tt), ((refl, tt), ((refl, tt), ((refl, tt), ((refl, tt), ((refl, tt), ((refl, tt), ((refl, tt), ((refl, tt), ((refl, tt), ((refl, tt), ((refl, tt), ((refl, tt), ((refl, tt), ((refl, tt), tt)))))))))))))))))))))))
     n one (sym (instruction_told n) ∙ e)
 
 -- so does an instruction with this first byte
@@ -53,7 +53,10 @@ text_from_took n rest x is e =
         | inl p ↦ byte_is data_instruction_bytes HasShorts 64 n rest x p.0 (behind_took data_instruction_bytes HasShorts short_form 64 up_to_text (λ a. refl) (λ a h. h) rest x is p.1)
         | inr r ↦ elim (chosen (eqb n 65) _ _ _ r.1) [
           | inl p ↦ byte_is data_instruction_bytes HasShorts 65 n rest x p.0 (behind_took data_instruction_bytes HasShorts short_form 65 text_up_to_place (λ a. refl) (λ a h. h) rest x is p.1)
-          | inr s ↦ told_took data_instruction_bytes HasShorts plain_instruction_of plain_instruction_is n rest x is s.1
+          | inr s ↦ elim (chosen (eqb n 69) _ _ _ s.1) [
+            | inl p ↦ byte_is data_instruction_bytes HasShorts 69 n rest x p.0 (behind_took data_instruction_bytes HasShorts short_form 69 inspect (λ a. refl) (λ a h. h) rest x is p.1)
+            | inr u ↦ told_took data_instruction_bytes HasShorts plain_instruction_of plain_instruction_is n rest x is u.1
+          ]
         ]
       ]
     ]
@@ -155,6 +158,8 @@ instruction_again (i.Gather (g.UpToText delimiter)) rest h = naming_again up_to_
 instruction_again (i.Gather (g.TextUpToPlace text)) rest h = naming_again text_up_to_place text.number rest h
 instruction_again (i.String false) rest h = refl
 instruction_again (i.String true) rest h = refl
+instruction_again (i.Gather g.Sized) rest h = refl
+instruction_again (i.Inspect inspection) rest h = naming_again inspect inspection.number rest h
 
 pub data_instruction_form : IsForm data_instruction_at data_instruction_bytes HasShorts
 data_instruction_form = form_of data_instruction_at data_instruction_bytes HasShorts instruction_took instruction_again

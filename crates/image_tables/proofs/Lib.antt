@@ -6,6 +6,7 @@ pub mod Items
 pub mod Pictures
 pub mod Fractions
 pub mod Senders
+pub mod Inspections
 pub mod DataTables
 pub mod Tests
 pub mod Instructions

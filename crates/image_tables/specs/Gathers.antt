@@ -11,6 +11,7 @@ gather_bytes g.Bytes = 62 ∷ []
 gather_bytes g.UpToPlace = 63 ∷ []
 gather_bytes (g.UpToText delimiter) = 64 ∷ short_bytes delimiter.number
 gather_bytes (g.TextUpToPlace text) = 65 ∷ short_bytes text.number
+gather_bytes g.Sized = 68 ∷ []
 
 -- STRING, by whether it has a pointer
 abbrev pub string_byte : Bool → ℕ
@@ -22,8 +23,12 @@ HasText g.Bytes = Unit {0}
 HasText g.UpToPlace = Unit {0}
 HasText (g.UpToText delimiter) = IsShort delimiter.number
 HasText (g.TextUpToPlace text) = IsShort text.number
+HasText g.Sized = Unit {0}
 
 -- ---- reading
+
+abbrev pub inspect : ℕ → DataInstruction
+inspect number = i.Inspect (record { number = number })
 
 abbrev pub overlay : ℕ → DataInstruction
 overlay number = i.Overlay (record { number = number })

@@ -9,7 +9,7 @@ use Rattle.data_instructions.specs.declared.instruction.DataInstruction.TheVaria
 use Rattle.image_tables.specs.Spelling.{short_bytes, IsByte, IsShort}
 use Rattle.image_tables.specs.Reading.{Read, ◌>>=◌, or_value, byte_at, short_at}
 use Rattle.image_tables.specs.Tests.{test_bytes, HasEntry, relating_at, class_at, compare_literal_at, compare, compare_numbers, or_equal, or_within}
-use Rattle.image_tables.specs.Gathers.{gather_bytes, string_byte, HasText, overlay, up_to_text, text_up_to_place}
+use Rattle.image_tables.specs.Gathers.{gather_bytes, string_byte, HasText, inspect, overlay, up_to_text, text_up_to_place}
 
 -- a store, by whether it rounds and whether it keeps the item after a size error
 abbrev pub store_byte : Bool → Bool → ℕ
@@ -47,6 +47,7 @@ data_instruction_bytes (i.Overlay text) = 60 ∷ short_bytes text.number
 data_instruction_bytes i.DropPlace = 61 ∷ []
 data_instruction_bytes (i.Gather one) = gather_bytes one
 data_instruction_bytes (i.String pointer) = string_byte pointer ∷ []
+data_instruction_bytes (i.Inspect inspection) = 69 ∷ short_bytes inspection.number
 
 abbrev pub HasNumber : Calculation → Type 0
 HasNumber (c.Truncate scale) = IsByte scale
@@ -78,6 +79,7 @@ HasShorts (i.Overlay text) = IsShort text.number
 HasShorts i.DropPlace = Unit {0}
 HasShorts (i.Gather one) = HasText one
 HasShorts (i.String pointer) = Unit {0}
+HasShorts (i.Inspect inspection) = IsShort inspection.number
 
 -- ---- reading
 
@@ -109,6 +111,7 @@ plain_instruction_of byte =
     else if byte == 63 then Some (i.Gather g.UpToPlace)
     else if byte == 66 then Some (i.String false)
     else if byte == 67 then Some (i.String true)
+    else if byte == 68 then Some (i.Gather g.Sized)
     else None
 
 -- an instruction with one number
@@ -152,6 +155,7 @@ text_from byte bytes =
     if byte == 60 then naming_at overlay bytes
     else if byte == 64 then naming_at up_to_text bytes
     else if byte == 65 then naming_at text_up_to_place bytes
+    else if byte == 69 then naming_at inspect bytes
     else (or_value (plain_instruction_of byte) >>= λ one. Ok (one, bytes))
 
 -- the test whose first byte this is, or another instruction

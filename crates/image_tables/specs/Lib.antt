@@ -5,6 +5,7 @@ pub mod Items
 pub mod Pictures
 pub mod Fractions
 pub mod Senders
+pub mod Inspections
 pub mod Tables
 pub mod Tests
 pub mod Gathers

@@ -8,14 +8,16 @@ use Rattle.image_tables.specs.Items.{item_bytes, item_at, IsItemSpelled}
 use Rattle.image_tables.specs.Pictures.{editing_bytes, editing_at, IsEditingSpelled}
 use Rattle.image_tables.specs.Fractions.{fraction_bytes, fraction_at, IsFractionSpelled}
 use Rattle.image_tables.specs.Senders.{sender_bytes, sender_at, IsSenderSpelled}
+use Rattle.image_tables.specs.Inspections.{inspection_bytes, inspection_at, IsInspectionSpelled}
 
 abbrev pub data_item_bytes : DataItem → List ℕ
 data_item_bytes one = item_bytes one.item ++ editing_bytes one.editing ++ short_bytes one.area ++ short_bytes one.offset
 
--- The tables of areas, items, numbers, literals that are sent, and texts.
+-- The tables of areas, items, numbers, literals that are sent, texts, and inspections.
 abbrev pub tables_bytes : DataTables → List ℕ
 tables_bytes tables =
     table_bytes text_bytes tables.areas ++ table_bytes data_item_bytes tables.items ++ table_bytes fraction_bytes tables.numbers ++ table_bytes sender_bytes tables.senders ++ table_bytes text_bytes tables.texts
+    ++ table_bytes inspection_bytes tables.inspections
 
 -- Its numbers fit their bytes, and its picture is that of some text.
 pub record IsDataItemSpelled (one : DataItem) : Type 0 where
@@ -31,6 +33,7 @@ pub record HasTables (tables : DataTables) : Type 0 where
   pub numbers : AreSpelled IsFractionSpelled tables.numbers
   pub senders : AreSpelled IsSenderSpelled tables.senders
   pub texts : AreSpelled IsText tables.texts
+  pub inspections : AreSpelled IsInspectionSpelled tables.inspections
 
 -- ---- reading
 
@@ -49,4 +52,5 @@ tables_at bytes = do
   numbers ← table_at fraction_at items.1
   senders ← table_at sender_at numbers.1
   texts ← table_at text_at senders.1
-  Ok (record { areas = areas.0; items = items.0; numbers = numbers.0; senders = senders.0; texts = texts.0 }, texts.1)
+  inspections ← table_at inspection_at texts.1
+  Ok (record { areas = areas.0; items = items.0; numbers = numbers.0; senders = senders.0; texts = texts.0; inspections = inspections.0 }, inspections.1)

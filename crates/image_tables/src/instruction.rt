@@ -11,8 +11,8 @@ ghost use Rattle.image_tables.specs.Tests.{compare_literal_at};
 use crate::byte::{found, put_byte, read_byte};
 use crate::fault::ImageError;
 use crate::gather::{
-    GATHER_BYTES, STRING, STRING_POINTER, TEXT_UP_TO_PLACE, UP_TO_PLACE, UP_TO_TEXT, put_gather,
-    string_byte,
+    GATHER_BYTES, SIZED, STRING, STRING_POINTER, TEXT_UP_TO_PLACE, UP_TO_PLACE, UP_TO_TEXT,
+    put_gather, string_byte,
 };
 use crate::number::{put_naming, put_short, read_short};
 use crate::table::TableEntry;
@@ -21,7 +21,8 @@ use crate::test::{
     read_class, read_relation,
 };
 use data_instructions::{
-    Calculation, DataInstruction, Gather, ItemIndex, NumberIndex, SenderIndex, Test, TextIndex,
+    Calculation, DataInstruction, Gather, InspectionIndex, ItemIndex, NumberIndex, SenderIndex,
+    Test, TextIndex,
 };
 use std::alloc::{AllocError, Global};
 
@@ -75,6 +76,8 @@ const DISCARD: u8 = 39;
 const OVERLAY: u8 = 60;
 
 const DROP_PLACE: u8 = 61;
+
+const INSPECT: u8 = 69;
 
 fn put_index(out: &mut Vec<u8>, stride: u32, count: u32) -> Result<(), AllocError>
     ensures bytes { OnOk result (out.new.items ≡ out.old.items ++ (17 ∷ (short_bytes stride ++ short_bytes count))) }
@@ -155,6 +158,7 @@ fn plain_instruction_of(byte: u8) -> Option<DataInstruction>
         UP_TO_PLACE => Some(DataInstruction::Gather(Gather::UpToPlace)),
         STRING => Some(DataInstruction::String { pointer: false }),
         STRING_POINTER => Some(DataInstruction::String { pointer: true }),
+        SIZED => Some(DataInstruction::Gather(Gather::Sized)),
         _ => None,
     }
 }
@@ -214,6 +218,11 @@ fn read_text(byte: u8, bytes: &[u8]) -> Result<(DataInstruction, &[u8]), ImageEr
             let text = TextIndex { number };
             let one = Gather::TextUpToPlace { text };
             Ok((DataInstruction::Gather(one), rest))
+        }
+        INSPECT => {
+            let (number, rest) = read_short(bytes)?;
+            let inspection = InspectionIndex { number };
+            Ok((DataInstruction::Inspect { inspection }, rest))
         }
         _ => Ok((found(plain_instruction_of(byte))?, bytes)),
     }
@@ -313,6 +322,7 @@ impl TableEntry for DataInstruction {
             DataInstruction::DropPlace => put_byte(out, DROP_PLACE),
             DataInstruction::Gather(one) => put_gather(out, one),
             DataInstruction::String { pointer } => put_byte(out, string_byte(pointer)),
+            DataInstruction::Inspect { inspection } => put_naming(out, INSPECT, inspection.number),
         }
     }
 

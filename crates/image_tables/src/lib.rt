@@ -7,6 +7,7 @@ mod editing;
 mod fault;
 mod fraction;
 mod gather;
+mod inspection;
 mod instruction;
 mod item;
 mod laws;

@@ -91,6 +91,23 @@ pub(crate) fn read_wide(bytes: &[u8]) -> Result<(u128, &[u8]), ImageError>
     Ok((high as u128 * HALF_UNIT + low as u128, rest))
 }
 
+/// A number of 32 bits.
+impl TableEntry for u32 {
+    ghost spelled = { short_bytes };
+
+    ghost read_from = { short_at };
+
+    ghost fits = { IsShort };
+
+    fn put(&self, out: &mut Vec<u8>) -> Result<(), AllocError> {
+        put_short(out, *self)
+    }
+
+    fn read(_alloc: Global, bytes: &[u8]) -> Result<(u32, &[u8]), ImageError> {
+        read_short(bytes)
+    }
+}
+
 /// An address.
 impl TableEntry for usize {
     ghost spelled = { count_bytes };

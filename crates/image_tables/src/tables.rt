@@ -53,7 +53,8 @@ pub fn put_tables(out: &mut Vec<u8>, tables: &DataTables) -> Result<(), AllocErr
     put_table(out, tables.items.as_slice())?;
     put_table(out, tables.numbers.as_slice())?;
     put_table(out, tables.senders.as_slice())?;
-    put_table(out, tables.texts.as_slice())
+    put_table(out, tables.texts.as_slice())?;
+    put_table(out, tables.inspections.as_slice())
 }
 
 /// The tables in front, and the bytes after them. 71 where the bytes end too soon, 72 at a value that isn't possible.
@@ -66,12 +67,14 @@ pub fn read_tables(alloc: Global, bytes: &[u8]) -> Result<(DataTables, &[u8]), I
     let (numbers, rest) = read_table(alloc, rest)?;
     let (senders, rest) = read_table(alloc, rest)?;
     let (texts, rest) = read_table(alloc, rest)?;
+    let (inspections, rest) = read_table(alloc, rest)?;
     let tables = DataTables {
         areas,
         items,
         numbers,
         senders,
         texts,
+        inspections,
     };
     Ok((tables, rest))
 }

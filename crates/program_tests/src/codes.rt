@@ -365,6 +365,7 @@ fn tables(alloc: Global) -> Result<DataTables, AllocError> {
         numbers: Items::new(alloc),
         senders: Items::new(alloc),
         texts: list(alloc, Items::from_slice(alloc, b"A")?)?,
+        inspections: Items::new(alloc),
     })
 }
 

@@ -1,8 +1,12 @@
 -- What is gathered.
-use Rattle.std.proofs.Common.{ℕ, ◌≤◌, length, List, arith, Option, Some, None}
+use Rattle.std.proofs.Common.{◌≡◌, ℕ, ◌≤◌, length, sym, List, arith, Option, Some, None}
 use Rattle.std.proofs.lemmas.List.{length-take}
+use Rattle.items.specs.declared.item.Item.{Item}
+use Rattle.items.specs.Items.{IsOf}
+use Rattle.items.specs.Texts.{padded}
 use Rattle.text_ops.specs.Places.{first_place, up_to}
 use Rattle.text_ops.specs.Strings.{delimited}
+use Rattle.data_instructions.proofs.Lengths.{padded_whole}
 
 up_to_long : (o : Option ℕ) (text : List ℕ) → length (up_to o text) ≤ length text
 up_to_long None text = omega arith
@@ -12,3 +16,7 @@ up_to_long (Some n) text = let h = length-take n text in omega (arith, h)
 pub delimited_long : (delimiter text : List ℕ) → length (delimited delimiter text) ≤ length text
 unfolding delimited
 delimited_long delimiter text = up_to_long (first_place delimiter text) text
+
+-- Bytes of an item are as many as it has.
+pub sized_whole : (item : Item) (bytes : List ℕ) → IsOf item bytes → bytes ≡ padded item.length bytes
+sized_whole item bytes is = sym (padded_whole item.length bytes is.size)

@@ -9,4 +9,6 @@ pub mod ReadyBehind
 pub mod KnownIntegers
 pub mod Overlays
 pub mod Gathers
+pub mod Stacks
 pub mod Strings
+pub mod Inspects

@@ -1,6 +1,9 @@
 //! Bytes in room that is made once.
 
-ghost use Rattle.std.specs.Prelude.{◌≡◌, ◌+◌, ◌≤◌, [], ◌++◌, length, IfOk};
+ghost use Rattle.std.specs.Prelude.{◌≡◌, ◌+◌, ◌≤◌, [], ◌++◌, length, take, IfOk};
+ghost use Rattle.items.specs.Texts.{padded};
+ghost use Rattle.text_ops.specs.Entries.{AreWithin};
+ghost use Rattle.text_ops.specs.Inspect.{replaced};
 ghost use Rattle.items.specs.Items.{IsOf};
 ghost use Rattle.text_ops.specs.Shown.{shown};
 ghost use Rattle.text_ops.specs.Lengths.{shown_length};
@@ -9,7 +12,7 @@ ghost use Rattle.run_time_data.specs.Writing.{Appends, WritesBehind};
 use items::{DataFault, Item};
 use std::alloc::{AllocError, Global};
 use std::marker::Model;
-use text_ops::shown;
+use text_ops::{Entry, Progress, replace, shown};
 
 /// Bytes, with room for so many.
 #[derive(Drop)]
@@ -65,6 +68,34 @@ impl Buffer {
         self.used = end;
     }
 
+    /// Cut or padded with spaces to so many bytes.
+    pub fn fit(&mut self, size: usize)
+        requires { size ≤ self.old.room }
+        ensures { self.new ≡ record { room = self.old.room; bytes = padded size self.old.bytes } }
+    {
+        if self.used < size {
+            let room = self.room.as_mut_slice();
+            room[self.used..size].fill(b' ');
+        }
+        self.used = size;
+    }
+
+    /// Replaces each fit of an entry of INSPECT by its text. The entries' texts are spans of `texts`.
+    pub fn replace(&mut self, texts: &[u8], entries: &[Entry], progress: &mut [Progress])
+        requires within { AreWithin entries.now (length texts.now) }
+        requires progress { length entries.now ≤ length progress.old }
+        ensures value { self.new ≡ record { room = self.old.room; bytes = replaced texts.now entries.now self.old.bytes } }
+        ensures size { length self.new.bytes ≡ length self.old.bytes }
+    {
+        replace_front(
+            texts,
+            entries,
+            progress,
+            self.used,
+            self.room.as_mut_slice(),
+        );
+    }
+
     /// Adds what DISPLAY shows of an item at the end. Where a numeric item holds no number, nothing changes.
     pub fn append_shown(&mut self, item: Item, bytes: &[u8]) -> Result<(), DataFault>
         requires item { IsOf item bytes.now }
@@ -74,6 +105,23 @@ impl Buffer {
         self.used = put_shown(item, bytes, self.used, self.room.as_mut_slice())?;
         Ok(())
     }
+}
+
+/// Replaces in so many bytes in front.
+fn replace_front(
+    texts: &[u8],
+    entries: &[Entry],
+    progress: &mut [Progress],
+    used: usize,
+    room: &mut [u8],
+)
+    requires within { AreWithin entries.now (length texts.now) }
+    requires progress { length entries.now ≤ length progress.old }
+    requires used { used ≤ length room.old }
+    ensures { take used room.new ≡ replaced texts.now entries.now (take used room.old) }
+{
+    let (front, _) = room.split_at_mut(used);
+    replace(texts, entries, progress, front);
 }
 
 /// Writes what DISPLAY shows of an item behind so many bytes, and answers where it ends.

@@ -8,10 +8,12 @@ ghost use Rattle.run_time_data.specs.Comes.{Comes, Keeps};
 ghost use Rattle.data_instructions.specs.declared.tables.DataItem.{DataItem};
 ghost use Rattle.data_instructions.specs.declared.tables.LiteralSender.{LiteralSender};
 ghost use Rattle.run_time_data.specs.Finds.{HasItemRoom, HasSenderRoom};
+ghost use Rattle.run_time_data.specs.Inspecting.{HasInspectRoom};
 ghost use Rattle.run_time_data.specs.Ready.{HasRoomOf, IsReady};
 
 use crate::areas::Areas;
 use crate::buffer::Buffer;
+use crate::inspect_room::{InspectRoom, most_entries};
 use crate::sender::Sender;
 use crate::stack::Stack;
 use data_instructions::{
@@ -46,6 +48,8 @@ pub struct Data {
     pub line: Buffer,
     /// A size error arose, or what a test found.
     pub truth: bool,
+    /// What INSPECT needs.
+    pub inspecting: InspectRoom,
 }
 
 /// The greatest length of an item, in bytes.
@@ -84,18 +88,28 @@ fn sender_room(tables: &DataTables) -> usize
     longest_item(tables).max(longest_literal(tables.senders.as_slice()))
 }
 
+/// Room for each inspection.
+fn inspect_room(alloc: Global, tables: &DataTables) -> Result<InspectRoom, AllocError>
+    ensures { IfOk result (HasInspectRoom tables.now) }
+{
+    let entries = most_entries(tables.inspections.as_slice());
+    InspectRoom::new(alloc, entries, longest_item(tables))
+}
+
 impl Data {
-    /// Data at the start of a run, with this room, and room for whatever is sent.
+    /// Data at the start of a run, with this room, and room for whatever is sent and inspected.
     pub fn new(alloc: Global, tables: &DataTables, room: Room) -> Result<Data, AllocError>
         ensures starts { IfOk result (λ d. scratch_of d ≡ started tables.now) }
         ensures room { IfOk result (HasRoomOf room) }
         ensures senders { IfOk result (λ d. HasSenderRoom tables.now d.sender.bytes.room) }
+        ensures inspects { IfOk result (λ d. HasInspectRoom tables.now d.inspecting) }
     {
         let areas = Areas::new(alloc, tables.areas.as_slice())?;
         let numbers = Stack::new(alloc, room.numbers, None)?;
         let places = Stack::new(alloc, room.places, NO_PLACE)?;
         let sender = Sender::new(alloc, sender_room(tables))?;
         let line = Buffer::new(alloc, room.line)?;
+        let inspecting = inspect_room(alloc, tables)?;
         Ok(Data {
             areas,
             numbers,
@@ -103,6 +117,7 @@ impl Data {
             sender,
             line,
             truth: false,
+            inspecting,
         })
     }
 
@@ -131,6 +146,7 @@ impl Data {
             DataInstruction::DropPlace => self.drop_place(tables),
             DataInstruction::Gather(one) => self.gather(tables, one),
             DataInstruction::String { pointer } => self.string(tables, pointer),
+            DataInstruction::Inspect { inspection } => self.inspect(tables, inspection),
         }
     }
 }

@@ -1,6 +1,8 @@
 //! Instructions that add texts to the line, as STRING does with its senders.
 
 ghost use Rattle.std.specs.Prelude.{◌≡◌, ◌<◌, ◌≤◌, length};
+ghost use Rattle.items.specs.Items.{IsOf};
+ghost use Rattle.items.specs.Texts.{padded};
 ghost use Rattle.text_ops.specs.Strings.{delimited};
 ghost use Rattle.data_instructions.specs.Table as spec;
 ghost use Rattle.data_instructions.specs.declared.gather.Gather.TheVariants as gathers;
@@ -12,7 +14,7 @@ ghost use Rattle.run_time_data.specs.Lines.{HasPartRoom, HasTextRoom};
 ghost use Rattle.run_time_data.specs.Ready.{IsReady};
 
 use crate::data::Data;
-use data_instructions::{DataTables, Gather, ProgramFault, TextIndex};
+use data_instructions::{DataItem, DataTables, Gather, ProgramFault, TextIndex};
 use text_ops::delimited;
 
 /// A text up to its delimiter, all of it where that isn't there.
@@ -22,6 +24,16 @@ fn up_to<'a>(delimiter: &[u8], text: &'a [u8]) -> &'a [u8]
     ensures long { length result.now ≤ length text.now }
 {
     delimited(delimiter, text)
+}
+
+/// Bytes of an item, as many as it has.
+#[tactic(auto, using(crate::proofs::Gathers::sized_whole))]
+fn sized<'a>(one: &DataItem, bytes: &'a [u8]) -> &'a [u8]
+    requires { IsOf one.now.item bytes.now }
+    ensures value { result.now ≡ padded one.now.item.length bytes.now }
+    ensures long { length result.now ≡ one.now.item.length }
+{
+    bytes
 }
 
 impl Data {
@@ -97,6 +109,20 @@ impl Data {
         Ok(())
     }
 
+    /// `gather sized`: the bytes at the newest place, as many as its item has.
+    pub fn gather_sized(&mut self, tables: &DataTables) -> Result<(), ProgramFault>
+        requires operand { FindsItem tables.now self.old.areas self.old.places.newest_first }
+        requires room { HasPartRoom tables.now self.old.places.newest_first (length self.old.line.bytes) self.old.line.room }
+        ensures does { Comes result (scratch_of self.new) (spec.gathered tables.now gathers.Sized (scratch_of self.old)) }
+        ensures keeps { Keeps self.old self.new }
+    {
+        let place = self.places.pop();
+        let one = &tables.items.as_slice()[place.item.number as usize];
+        self.line
+            .append(sized(one, self.areas.bytes(one, place.offset)));
+        Ok(())
+    }
+
     /// What is added to the line. It takes no memory.
     pub fn gather(&mut self, tables: &DataTables, one: Gather) -> Result<(), ProgramFault>
         requires { IsReady tables.now self.old (instructions.Gather one) }
@@ -108,6 +134,7 @@ impl Data {
             Gather::UpToPlace => self.gather_up_to_place(tables),
             Gather::UpToText { delimiter } => self.gather_up_to_text(tables, delimiter),
             Gather::TextUpToPlace { text } => self.gather_text(tables, text),
+            Gather::Sized => self.gather_sized(tables),
         }
     }
 }

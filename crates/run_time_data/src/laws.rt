@@ -12,12 +12,13 @@ ghost use Rattle.run_time_data.specs.declared.data.Data.{Data};
 ghost use Rattle.run_time_data.specs.Data.{scratch_of};
 ghost use Rattle.run_time_data.specs.Comes.{Keeps};
 ghost use Rattle.run_time_data.specs.Finds.{FindsItem, HasItemRoom, HasSenderRoom};
+ghost use Rattle.run_time_data.specs.Inspecting.{HasInspectRoom};
 ghost use Rattle.run_time_data.specs.Ready.{HasRoom, IsAt};
 
 /// At the start nothing is known (`start`). Where data go on from an instruction that is safe with a shape, they stand at that
 /// shape (`stays`): with `safety_law` of `data_instructions` the next instruction finds what it needs.
 pub fn staying_law()
-    ensures start { (tables : DataTables) (d : Data) → IsTables tables → scratch_of d ≡ started tables → HasSenderRoom tables d.sender.bytes.room → IsAt tables d empty }
+    ensures start { (tables : DataTables) (d : Data) → IsTables tables → scratch_of d ≡ started tables → HasSenderRoom tables d.sender.bytes.room → HasInspectRoom tables d.inspecting → IsAt tables d empty }
     ensures stays { (tables : DataTables) (old new : Data) (shape after : Shape) (step : Step) → IsAt tables old shape → HasRoom old after → Keeps old new → Safe tables step after → step ≡ Went (scratch_of new) → IsAt tables new after }
 {}
 

@@ -9,6 +9,8 @@ mod data;
 mod fused;
 mod fusing;
 mod gathering;
+mod inspect_room;
+mod inspecting;
 mod integers;
 mod keeping;
 mod laws;

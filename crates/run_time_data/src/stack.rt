@@ -1,6 +1,6 @@
 //! Stacks of a room that is made once.
 
-ghost use Rattle.std.specs.Prelude.{◌≡◌, ◌<◌, [], ◌∷◌, length, slice_get, Some, IfOk};
+ghost use Rattle.std.specs.Prelude.{◌≡◌, ◌<◌, ◌≤◌, [], ◌∷◌, ◌++◌, length, drop, reverse, slice_get, Some, IfOk};
 
 use std::alloc::{AllocError, Global};
 use std::marker::Model;
@@ -58,5 +58,22 @@ impl<T: Copy> Stack<T> {
         ensures { slice_get self.now.newest_first depth ≡ Some result }
     {
         self.room[self.used - 1 - depth]
+    }
+
+    /// So many of the newest, in the order in which they came.
+    pub fn newest(&self, count: usize) -> &[T]
+        requires { count ≤ length self.now.newest_first }
+        ensures length { length result.now ≡ count }
+        ensures value { self.now.newest_first ≡ reverse result.now ++ drop count self.now.newest_first }
+    {
+        &self.room.as_slice()[self.used - count..self.used]
+    }
+
+    /// Without so many of the newest.
+    pub fn leave(&mut self, count: usize)
+        requires { count ≤ length self.old.newest_first }
+        ensures { self.new ≡ record { room = self.old.room; newest_first = drop count self.old.newest_first } }
+    {
+        self.used -= count;
     }
 }

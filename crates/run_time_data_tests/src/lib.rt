@@ -1,4 +1,4 @@
-//! Tests of `data_instructions` and `run_time_data`: MOVE, DISPLAY, arithmetic, conditions, ACCEPT and STRING of items by code written by hand,
+//! Tests of `data_instructions` and `run_time_data`: MOVE, DISPLAY, arithmetic, conditions, ACCEPT, STRING and INSPECT of items by code written by hand,
 //! faults, tables that aren't in order, and what is known where ways meet. Nothing here is built into the product.
 #![tactic(auto)]
 

@@ -7,8 +7,8 @@
 //!     01 C PIC S9(3)V99.                     01 R PIC S9(3)V99.
 //!     01 B PIC Z9.9 BLANK WHEN ZERO.
 use data_instructions::{
-    DataInstruction, DataItem, DataTables, ItemIndex, LiteralSender, NumberIndex, SenderIndex,
-    TextIndex,
+    DataInstruction, DataItem, DataTables, Inspection, InspectionIndex, ItemIndex, LiteralSender,
+    NumberIndex, SenderIndex, TextIndex,
 };
 use decimal18::Dec;
 use items::{Item, Kind, Numeric, OperationalSign, Taken, Usage};
@@ -16,6 +16,7 @@ use picture::Picture;
 use sqlite_items::Items;
 use std::alloc::Global;
 use std::process::Abort;
+use text_ops::{Entry, Fit, Span};
 
 /// `CELL (1, 1)`.
 pub const CELL: ItemIndex = ItemIndex { number: 0 };
@@ -241,6 +242,48 @@ fn numbers(rt: &impl Abort, alloc: Global) -> Items<Dec> {
     numbers
 }
 
+/// A text that is counted and replaced by the one behind it in the line, both of one character.
+pub const INSPECTION: InspectionIndex = InspectionIndex { number: 0 };
+
+fn inspections(rt: &impl Abort, alloc: Global) -> Items<Inspection> {
+    let sought = Span {
+        start: 0,
+        length: 1,
+    };
+    let by = Span {
+        start: 1,
+        length: 1,
+    };
+    let counting = Entry {
+        fit: Fit::All(sought),
+        before: None,
+        after: None,
+        by: None,
+    };
+    let mut counters = Items::new(alloc);
+    add(rt, &mut counters, 1);
+    let mut tallying = Items::new(alloc);
+    add(rt, &mut tallying, counting);
+    let mut replacing = Items::new(alloc);
+    add(
+        rt,
+        &mut replacing,
+        Entry {
+            by: Some(by),
+            ..counting
+        },
+    );
+    let one = Inspection {
+        size: 2,
+        counters,
+        tallying,
+        replacing,
+    };
+    let mut inspections = Items::new(alloc);
+    add(rt, &mut inspections, one);
+    inspections
+}
+
 /// The tables of those items and literals.
 pub fn tables(rt: &impl Abort, alloc: Global) -> DataTables {
     let mut texts = Items::new(alloc);
@@ -256,5 +299,6 @@ pub fn tables(rt: &impl Abort, alloc: Global) -> DataTables {
         numbers: numbers(rt, alloc),
         senders: senders(rt, alloc),
         texts,
+        inspections: inspections(rt, alloc),
     }
 }

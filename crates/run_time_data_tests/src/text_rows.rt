@@ -1,10 +1,10 @@
-//! Bytes laid over others and STRING, by code written by hand. What is expected of STRING is what COBOL-85, Nucleus says; of bytes laid
-//! over others it is this project's own choice.
+//! Bytes laid over others, STRING and INSPECT, by code written by hand. What is expected of STRING and INSPECT is what COBOL-85, Nucleus says; of bytes laid
+//! over others and of a counter in its subject it is this project's own choice.
 use crate::asserted::{holds, same, same_in};
 use crate::run::{begin, run};
 use crate::samples::{
-    A, AB, BAR, FIVE, I, J, LABEL, LONG, MARKED, N, NAME, NOTHING, ONE, R, SEVEN, SEVEN_LESS,
-    SPREAD, X, tables,
+    A, AB, BAR, FIVE, I, INSPECTION, J, LABEL, LONG, MARKED, N, NAME, NOTHING, ONE, R, SEVEN,
+    SEVEN_LESS, SPREAD, X, tables,
 };
 use data_instructions::{
     Calculation, DataInstruction, Gather, ItemIndex, NumberIndex, Shape, TextIndex,
@@ -36,6 +36,12 @@ const STRING_POINTER: DataInstruction = DataInstruction::String { pointer: true 
 const STORE: DataInstruction = DataInstruction::Store {
     rounded: false,
     keep: false,
+};
+
+const SIZED: DataInstruction = DataInstruction::Gather(Gather::Sized);
+
+const INSPECT: DataInstruction = DataInstruction::Inspect {
+    inspection: INSPECTION,
 };
 
 const SEND_AB: DataInstruction = DataInstruction::TakeLiteral { literal: AB };
@@ -77,6 +83,42 @@ fn bytes_laid_over_others(rt: HostRuntime) {
     leaves(&rt, rt.alloc(), &longer, b"W2YB  ", false);
     let shorter = [at(I), overlay, at(I), BYTES];
     leaves(&rt, rt.alloc(), &shorter, b"W2", false);
+}
+
+// The counter is raised, and then the text stored; a text that isn't there neither counts nor is replaced.
+#[test]
+fn inspected(rt: HostRuntime) {
+    let found = [
+        at(X),
+        at(I),
+        append(A),
+        append(BAR),
+        INSPECT,
+        at(X),
+        SIZED,
+        at(I),
+        SIZED,
+    ];
+    leaves(&rt, rt.alloc(), &found, b"12|B  03", false);
+    let none = [
+        at(X),
+        at(I),
+        append(BAR),
+        append(A),
+        INSPECT,
+        at(X),
+        SIZED,
+        at(I),
+        SIZED,
+    ];
+    leaves(&rt, rt.alloc(), &none, b"12AB  02", false);
+}
+
+// A counter in its subject, 02, of which each 0 is counted and becomes a 2: both phrases look at it as it was, and its bytes are the text's.
+#[test]
+fn counter_in_its_subject(rt: HostRuntime) {
+    let both = [at(I), SIZED, at(I), at(I), INSPECT, at(I), SIZED];
+    leaves(&rt, rt.alloc(), &both, b"22", false);
 }
 
 #[test]

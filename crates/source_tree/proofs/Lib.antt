@@ -13,6 +13,7 @@ pub mod PlaceExamples
 pub mod EntryExamples
 pub mod MoveExamples
 pub mod StringExamples
+pub mod InspectExamples
 pub mod DataExamples
 pub mod UntilExamples
 pub mod Folded

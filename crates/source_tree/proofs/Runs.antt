@@ -20,6 +20,7 @@ use Rattle.source_tree.specs.Texts.{texts}
 use Rattle.source_tree.specs.Accepting.{next_line, later_lines, accept_line, accept_date}
 use Rattle.source_tree.specs.Arithmetic.{Stored, operation, is_there, in_phrase, phrase_for, calculating}
 use Rattle.source_tree.specs.Stringing.{Strings, string, stringing}
+use Rattle.source_tree.specs.Inspecting.{inspect}
 use Rattle.source_tree.specs.declared.phrases.Phrases.{Phrases}
 use Rattle.source_tree.specs.declared.stringing.Stringing.{Stringing}
 use Rattle.source_tree.specs.declared.arithmetic.Arithmetic.{Arithmetic}
@@ -171,6 +172,7 @@ pub texts_runs : (items : List Placed) (one : Text) → IsRun (texts items one)
 texts_runs items (text.Display operands advancing) = value_runs (λ bytes s. Done (showing bytes s)) show_runs (displayed items operands advancing)
 texts_runs items (text.Accept receiver) = accept_runs items receiver
 texts_runs items (text.AcceptDate receiver) = accept_date_runs items receiver
+texts_runs items (text.Inspect one) = changing_runs (inspect items one)
 
 pub finish_runs : (one : Ending) → IsRun (finish one)
 finish_runs ending.StopRun = stop_runs

@@ -10,7 +10,6 @@ use Rattle.source_tree.specs.declared.stringing.Stringing.{Stringing}
 use Rattle.source_tree.specs.declared.statement.Statement.{Statement}
 use Rattle.source_tree.specs.Broken.{Broken}
 use Rattle.source_tree.specs.Places.{items_of}
-use Rattle.source_tree.specs.Starts.{areas_at_start}
 use Rattle.source_tree.specs.Storage.{Storage}
 use Rattle.source_tree.specs.Evaluated as fault
 use Rattle.source_tree.specs.Evaluated.{Evaluated, ◌>>=◌}
@@ -18,7 +17,7 @@ use Rattle.source_tree.specs.Initializing.{initialize, set}
 use Rattle.source_tree.specs.Stringing.{Strings, string}
 use Rattle.source_tree.specs.SettingRules.{initialize_rules, set_rules}
 use Rattle.source_tree.specs.StringRules.{string_rules}
-use Rattle.source_tree.proofs.Samples.{group, item, unnamed, redefining, occurring, valued, binary, justified, signed, entries, one_value, condition, number, text, constant, all, reference, plain, counted, by_item, the_item, the_literal}
+use Rattle.source_tree.proofs.Samples.{group, item, unnamed, redefining, occurring, binary, justified, entries, one_value, condition, number, text, constant, all, reference, plain, counted, by_item, the_item, the_literal}
 unfoldable use Rattle.source_tree.proofs.Computing.{computing}
 use Rattle.decimal18.specs.Receiver as receivers
 unfoldable use Rattle.text_ops.specs.Strings.{delimited, strung}

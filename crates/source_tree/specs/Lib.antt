@@ -25,6 +25,7 @@ pub mod Evaluate
 pub mod Branching
 pub mod Until
 pub mod Showing
+pub mod Inspecting
 pub mod Texts
 pub mod Accepting
 pub mod Stringing
@@ -40,6 +41,7 @@ pub mod ArithmeticRules
 pub mod ConditionRules
 pub mod SettingRules
 pub mod StringRules
+pub mod InspectRules
 pub mod EvaluateRules
 pub mod PerformRules
 pub mod Recursion

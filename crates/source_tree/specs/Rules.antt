@@ -6,7 +6,7 @@ use Rattle.source_tree.specs.declared.name.Name.{Name}
 use Rattle.source_tree.specs.declared.moving.Moving.{Moving}
 use Rattle.source_tree.specs.declared.moving.Moving.TheVariants.{Move, Initialize, Set}
 use Rattle.source_tree.specs.declared.text.Text.{Text}
-use Rattle.source_tree.specs.declared.text.Text.TheVariants.{Display, Accept, AcceptDate}
+use Rattle.source_tree.specs.declared.text.Text.TheVariants.{Display, Accept, AcceptDate, Inspect}
 use Rattle.source_tree.specs.declared.phrases.Phrases.{Phrases}
 use Rattle.source_tree.specs.declared.arithmetic.Arithmetic.{Arithmetic}
 use Rattle.source_tree.specs.declared.performing.Turns.{Turns}
@@ -37,6 +37,7 @@ use Rattle.source_tree.specs.ArithmeticRules.{operation_rules}
 use Rattle.source_tree.specs.ConditionRules.{condition_rules, until_rules}
 use Rattle.source_tree.specs.SettingRules.{initialize_rules, set_rules}
 use Rattle.source_tree.specs.StringRules.{string_rules}
+use Rattle.source_tree.specs.InspectRules.{inspect_rules}
 use Rattle.source_tree.specs.EvaluateRules.{subject_rules, selected_rules}
 use Rattle.source_tree.specs.declared.branching.Branching.{Branching}
 use Rattle.source_tree.specs.declared.branching.Branching.TheVariants as branch
@@ -51,6 +52,7 @@ abbrev pub text_rules : List Placed → Text → List Broken
 text_rules items (Display operands advancing) = display_rules items operands
 text_rules items (Accept receiver) = accept_line_rules items receiver
 text_rules items (AcceptDate receiver) = accept_date_rules items receiver
+text_rules items (Inspect one) = inspect_rules items one
 
 -- A phrase that is absent breaks none; `inside` has the rules of the statements in one.
 abbrev pub phrase_rules : {S : Type 0} → (S → List Broken) → Option (List S) → List Broken

@@ -1,5 +1,5 @@
 -- The rules of INITIALIZE and SET: 40, 41, 50 and 51 of references, and 68 where SET names an item in place of a condition name.
-use Rattle.std.specs.Prelude.{ℕ, List, [], ◌∷◌, ◌++◌}
+use Rattle.std.specs.Prelude.{List, [], ◌∷◌, ◌++◌}
 use Rattle.lexical.specs.declared.place.Place.{Place}
 use Rattle.source_tree.specs.declared.reference.Reference.{Reference}
 use Rattle.source_tree.specs.Places.{Placed}

@@ -1,4 +1,4 @@
--- Statements on texts: DISPLAY and ACCEPT.
+-- Statements on texts: DISPLAY, ACCEPT and INSPECT.
 use Rattle.std.specs.Prelude.{List}
 use Rattle.source_tree.specs.declared.text.Text.{Text}
 use Rattle.source_tree.specs.declared.text.Text.TheVariants as text
@@ -6,6 +6,7 @@ use Rattle.source_tree.specs.Places.{Placed}
 use Rattle.source_tree.specs.State.{State, Outcome, Done, showing, changing, with_value}
 use Rattle.source_tree.specs.Showing.{displayed}
 use Rattle.source_tree.specs.Accepting.{next_line, later_lines, accept_line, accept_date}
+use Rattle.source_tree.specs.Inspecting.{inspect}
 
 abbrev pub texts : List Placed → Text → State → Outcome
 texts items (text.Display operands advancing) s =
@@ -14,3 +15,4 @@ texts items (text.Accept receiver) s =
     with_value (accept_line items (next_line s.lines) receiver s.storage) s
     (λ after. Done (record s { storage = after; lines = later_lines s.lines }))
 texts items (text.AcceptDate receiver) s = changing (accept_date items s.day receiver) s
+texts items (text.Inspect one) s = changing (inspect items one) s

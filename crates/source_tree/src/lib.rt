@@ -8,6 +8,7 @@ mod ending;
 mod entry;
 mod evaluate;
 mod expression;
+mod inspecting;
 mod laws;
 mod literal;
 mod moving;
@@ -32,6 +33,9 @@ pub use entry::{
 };
 pub use evaluate::{Choice, Evaluate, Object, Selected, Subject, When};
 pub use expression::{Expression, Operand, Operator};
+pub use inspecting::{
+    Inspecting, Limits, Occurrences, ReplacedText, Replacing, Tallied, TalliedText, Tallying,
+};
 pub use laws::{budget_law, depth_law, output_law, turns_law};
 pub use lexical::{NumericLiteral, Place, Sign};
 pub use literal::{Figurative, Integer, Literal, LiteralValue};

@@ -1,6 +1,7 @@
-//! Statements on texts: DISPLAY and ACCEPT.
+//! Statements on texts: DISPLAY, ACCEPT and INSPECT.
 
 use crate::expression::Operand;
+use crate::inspecting::Inspecting;
 use crate::reference::Reference;
 use sqlite_items::Items;
 
@@ -20,4 +21,5 @@ pub enum Text {
     AcceptDate {
         receiver: Reference,
     },
+    Inspect(Inspecting),
 }

@@ -12,6 +12,8 @@ pub mod Display
 pub mod Evaluate
 pub mod Exiting
 pub mod Initializing
+pub mod Limiting
+pub mod Inspecting
 pub mod Moving
 pub mod Turning
 pub mod Performing

@@ -13,6 +13,8 @@ pub mod Continuing
 pub mod Display
 pub mod Exiting
 pub mod Initializing
+pub mod Limiting
+pub mod Inspecting
 pub mod Moving
 pub mod Turning
 pub mod Performing

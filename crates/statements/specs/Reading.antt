@@ -16,6 +16,7 @@ use Rattle.statements.specs.Display.{display_reader}
 use Rattle.statements.specs.Evaluate.{evaluating_reader}
 use Rattle.statements.specs.Exiting.{exiting_reader}
 use Rattle.statements.specs.Initializing.{initializing_reader}
+use Rattle.statements.specs.Inspecting.{inspecting_reader}
 use Rattle.statements.specs.Moving.{moving_reader}
 use Rattle.statements.specs.Performing.{performing_reader}
 use Rattle.statements.specs.Setting.{setting_reader}
@@ -37,6 +38,7 @@ module _ (depth : ℕ) (statement : Parser Statement) where
   by_verb (Some v.Exit) = exiting_reader
   by_verb (Some v.If) = branching_reader depth (statements statement)
   by_verb (Some v.Initialize) = initializing_reader
+  by_verb (Some v.Inspect) = inspecting_reader
   by_verb (Some v.Move) = moving_reader
   by_verb (Some v.Perform) = performing_reader depth (statements statement)
   by_verb (Some v.Set) = setting_reader

@@ -19,6 +19,7 @@ use Rattle.statements.specs.Continuing.{continuing}
 use Rattle.statements.specs.Display.{display}
 use Rattle.statements.specs.Exiting.{exiting}
 use Rattle.statements.specs.Initializing.{initializing}
+use Rattle.statements.specs.Inspecting.{inspecting}
 use Rattle.statements.specs.Moving.{moving}
 use Rattle.statements.specs.Performing.{performing}
 use Rattle.statements.specs.Setting.{setting}
@@ -38,6 +39,7 @@ abbrev pub text_line : Text → Part
 text_line (text.Display operands advancing) = display operands advancing
 text_line (text.Accept receiver) = accepting receiver true
 text_line (text.AcceptDate receiver) = accepting receiver false
+text_line (text.Inspect one) = inspecting one
 
 abbrev pub ending_line : Ending → Part
 ending_line ending.StopRun = stop_run

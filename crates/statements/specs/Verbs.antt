@@ -21,6 +21,7 @@ verb_of w.Evaluate = Some v.Evaluate
 verb_of w.Exit = Some v.Exit
 verb_of w.If = Some v.If
 verb_of w.Initialize = Some v.Initialize
+verb_of w.Inspect = Some v.Inspect
 verb_of w.Move = Some v.Move
 verb_of w.Multiply = Some (v.Arithmetic a.Multiply)
 verb_of w.Perform = Some v.Perform

@@ -13,6 +13,8 @@ mod dividing;
 mod evaluate;
 mod exiting;
 mod initializing;
+mod inspecting;
+mod limiting;
 mod moving;
 mod multiplying;
 mod nesting;

@@ -11,6 +11,7 @@ use crate::continuing::continuing;
 use crate::display::display;
 use crate::exiting::exiting;
 use crate::initializing::initializing;
+use crate::inspecting::inspecting;
 use crate::moving::moving;
 use crate::setting::setting;
 use crate::stop_run::stop_run;
@@ -75,6 +76,7 @@ impl<F: Fn(Global, &mut Tokens<'_>, usize) -> Result<Statement, ReadFault>> Nest
             Some(VerbWord::Exit) => exiting(tokens),
             Some(VerbWord::If) => self.branching(tokens),
             Some(VerbWord::Initialize) => initializing(self.alloc, tokens),
+            Some(VerbWord::Inspect) => inspecting(self.alloc, tokens),
             Some(VerbWord::Move) => moving(self.alloc, tokens),
             Some(VerbWord::Perform) => self.performing(tokens),
             Some(VerbWord::Set) => setting(self.alloc, tokens),

@@ -1,5 +1,6 @@
-//! Arithmetic statements without their phrases, and ACCEPT, written out again.
+//! Arithmetic statements without their phrases, ACCEPT and INSPECT, written out again.
 
+use crate::inspected::push_inspect;
 use crate::operands::{DEEPEST, push_expression, push_operand, push_operands, push_reference};
 use source_tree::{DivisionOrder, Operation, Receiver, Text};
 use sqlite_items::Items;
@@ -139,6 +140,7 @@ pub fn push_text(to: &mut String, text: &Text) -> Result<(), AllocError> {
             to.push_str("date ")?;
             push_reference(to, receiver)
         }
+        Text::Inspect(one) => push_inspect(to, one),
         Text::Display { .. } => to.push_str("?"),
     }
 }

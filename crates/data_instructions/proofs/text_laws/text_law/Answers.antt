@@ -1,5 +1,7 @@
 use Rattle.data_instructions.proofs.TextCodes.{initialize_works, set_works, sendings_work, string_works}
 use Rattle.data_instructions.proofs.TextChains.{initialize_known, set_known, sendings_known, string_known}
+use Rattle.data_instructions.proofs.InspectCodes.{inspect_does}
+use Rattle.data_instructions.proofs.InspectChains.{inspect_leaves}
 use Rattle.data_instructions.proofs.text_laws.text_law.Goals as goal
 
 pub returns-clause-initializes : goal.returns-clause-initializes
@@ -25,3 +27,9 @@ returns-clause-knows_send c = sendings_known
 
 pub returns-clause-knows_string : goal.returns-clause-knows_string
 returns-clause-knows_string c = λ items tables one code is lies. string_known items tables one code is lies
+
+pub returns-clause-inspects : goal.returns-clause-inspects
+returns-clause-inspects c = λ items tables one code order is. inspect_does items tables order one code is
+
+pub returns-clause-knows_inspect : goal.returns-clause-knows_inspect
+returns-clause-knows_inspect c = inspect_leaves

@@ -1,4 +1,4 @@
-use Rattle.std.proofs.Common.{◌≡◌, ◌<◌, ◌+◌, ℕ, List, length, refl, ap, subst, ◌∙◌, arith, Some}
+use Rattle.std.proofs.Common.{length, refl, ap, ◌∙◌, arith, Some}
 use Rattle.machine.proofs.Counters.{set_now}
 use Rattle.machine.proofs.Steps.{counted_from, after_count}
 use Rattle.machine.proofs.Standing.{stands_after_count}

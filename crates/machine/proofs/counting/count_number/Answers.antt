@@ -23,7 +23,7 @@ returns-in-Ok-clause-stands c =
     let r = c.args.registers.now in
     let worked : Data = record r.scratch { numbers = c.pop-newest.new.self; truth = c.begin_turns-registers.result } in
     let keeps : Keeps r.scratch worked =
-    record { areas = refl; numbers = c.pop-newest.ensures.room; places = refl; sender = refl; line = refl; taken = λ holds. holds } in
+    record { areas = refl; numbers = c.pop-newest.ensures.room; places = refl; sender = refl; line = refl; inspecting = record { progress = refl; counts = refl; text = refl }; taken = λ holds. holds } in
     stands_after_number c.args.code.now r c.args.address c.requires.stands c.args.counter c.requires.here
     (record r { counters = with_items r.counters c.begin_turns-registers.new.counters; scratch = worked })
     c.pop-newest.result c.pop-newest.new.self.newest_first c.pop-newest.ensures.newest refl keeps

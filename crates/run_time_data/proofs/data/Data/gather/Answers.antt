@@ -2,7 +2,7 @@ use Rattle.std.proofs.Common.{subst}
 use Rattle.data_instructions.specs.declared.gather.Gather.{Gather}
 use Rattle.data_instructions.specs.declared.instruction.DataInstruction.TheVariants as i
 use Rattle.run_time_data.specs.Ready.{IsReady}
-use Rattle.run_time_data.proofs.Readies.{ready_gather_bytes, ready_gather_up_to_place, ready_gather_up_to_text, ready_gather_text}
+use Rattle.run_time_data.proofs.Readies.{ready_gather_bytes, ready_gather_up_to_place, ready_gather_up_to_text, ready_gather_text, ready_gather_sized}
 use Rattle.run_time_data.proofs.data.Data.gather.Goals as goal
 
 pub gather_bytes-requires-clause-operand : goal.gather_bytes-requires-clause-operand
@@ -43,3 +43,9 @@ gather_text-requires-clause-places c = (ready_gather_text c.args.tables.now c.ar
 
 pub gather_text-requires-clause-room : goal.gather_text-requires-clause-room
 gather_text-requires-clause-room c = (ready_gather_text c.args.tables.now c.args.self.now c.in-TextUpToPlace.text (subst (λ (one : Gather). IsReady c.args.tables.now c.args.self.now (i.Gather one)) c.in-TextUpToPlace.is c.requires)).3
+
+pub gather_sized-requires-clause-operand : goal.gather_sized-requires-clause-operand
+gather_sized-requires-clause-operand c = (ready_gather_sized c.args.tables.now c.args.self.now (subst (λ (one : Gather). IsReady c.args.tables.now c.args.self.now (i.Gather one)) c.in-Sized.is c.requires)).0
+
+pub gather_sized-requires-clause-room : goal.gather_sized-requires-clause-room
+gather_sized-requires-clause-room c = (ready_gather_sized c.args.tables.now c.args.self.now (subst (λ (one : Gather). IsReady c.args.tables.now c.args.self.now (i.Gather one)) c.in-Sized.is c.requires)).1

@@ -1,0 +1,11 @@
+       IDENTIFICATION DIVISION.
+       PROGRAM-ID. P.
+       DATA DIVISION.
+       WORKING-STORAGE SECTION.
+       77  T PIC X(4) VALUE "AABB".
+       77  N PIC 9 VALUE 0.
+       PROCEDURE DIVISION.
+       MAIN.
+           INSPECT T TALLYING N FOR ALL "A" REPLACING ALL "A" BY "C".
+           DISPLAY T N.
+           STOP RUN.

@@ -1,0 +1,8 @@
+use Rattle.check_rules.specs.Named.{items_in}
+use Rattle.codegen.proofs.InspectMaking.{bytes_made}
+use Rattle.codegen.proofs.emitter.Emitter.emit_bytes.Goals as goal
+
+pub returns : goal.returns
+returns c =
+    bytes_made (items_in c.args.self.now.declarations.now) c.args.one.now c.args.code.now c.emit_taking.new.code c.args.at c.length_of.result c.requires.rules c.in_ok-emit_taking.ensures
+    c.length_of.ensures

@@ -1,0 +1,23 @@
+use Rattle.check_rules.specs.Named.{items_in}
+use Rattle.codegen.proofs.InspectKept.{before_kept, after_kept}
+use Rattle.codegen.proofs.emitter.Emitter.emit_limits.Goals as goal
+
+pub emit_limit-requires-clause-rules : goal.emit_limit-requires-clause-rules
+emit_limit-requires-clause-rules c =
+    let items = items_in c.args.self.now.declarations.now in
+    after_kept items c.args.one.now c.requires.rules
+
+pub emit_limit-requires-then-one-clause-rules : goal.emit_limit-requires-then-one-clause-rules
+emit_limit-requires-then-one-clause-rules c =
+    let items = items_in c.args.self.now.declarations.now in
+    before_kept items c.args.one.now c.requires.rules
+
+pub emit_limit-requires-2-clause-rules : goal.emit_limit-requires-2-clause-rules
+emit_limit-requires-2-clause-rules c =
+    let items = items_in c.args.self.now.declarations.now in
+    before_kept items c.args.one.now c.requires.rules
+
+pub emit_limit-requires-3-clause-rules : goal.emit_limit-requires-3-clause-rules
+emit_limit-requires-3-clause-rules c =
+    let items = items_in c.args.self.now.declarations.now in
+    after_kept items c.args.one.now c.requires.rules

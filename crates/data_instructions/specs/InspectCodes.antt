@@ -1,0 +1,67 @@
+-- The code of INSPECT (own choice), and what it does in the words of its meaning.
+use Rattle.std.specs.Prelude.{◌≡◌, ℕ, List, [], ◌∷◌, ◌++◌, Some, slice_get}
+use Rattle.source_tree.specs.declared.inspecting.Inspecting.{Inspecting}
+use Rattle.source_tree.specs.Places.{Placed}
+use Rattle.source_tree.specs.Inspecting as meaning
+use Rattle.source_tree.specs.Inspecting.{Bytes, Characters, Taking, Counter, Text, takings, inspection, inspected_size, inspect}
+use Rattle.data_instructions.specs.declared.index.InspectionIndex.{InspectionIndex}
+use Rattle.data_instructions.specs.declared.tables.Inspection.{Inspection}
+use Rattle.data_instructions.specs.declared.tables.DataTables.{DataTables}
+use Rattle.data_instructions.specs.declared.gather.Gather.TheVariants as g
+use Rattle.data_instructions.specs.declared.instruction.DataInstruction.{DataInstruction}
+use Rattle.data_instructions.specs.declared.instruction.DataInstruction.TheVariants as i
+use Rattle.data_instructions.specs.Tables.{inspection_of}
+use Rattle.data_instructions.specs.Scratch.{Scratch, Went, step_with}
+use Rattle.data_instructions.specs.Codes.{works, IsReferenceCode, IsTakingCode, IsTextCode}
+use Rattle.data_instructions.specs.Chains.{LiesAll}
+use Rattle.data_instructions.specs.TextCodes.{KnowsString}
+
+module _ (items : List Placed) (tables : DataTables) where
+  -- A counter's place stays on the stack; a text is added to the line.
+  abbrev pub IsTakenCode : Taking → List DataInstruction → Type 0
+  IsTakenCode (Counter one) code = IsReferenceCode items tables one code
+  IsTakenCode (Text (Bytes one)) code = IsTakingCode items tables (i.Gather g.Sized) one code
+  IsTakenCode (Text (Characters text)) code = IsTextCode items tables text code
+
+  -- in the order of writing
+  abbrev pub AreTakenCode : List Taking → List DataInstruction → Type 0
+  AreTakenCode [] code = code ≡ []
+  AreTakenCode (one ∷ more) code =
+      (front : List DataInstruction) × IsTakenCode one front × (back : List DataInstruction) × AreTakenCode more back × (code ≡ front ++ back)
+
+  -- what the table has of an INSPECT, whose texts have this size
+  pub record HasInspection (how : meaning.Inspection) (size : ℕ) (index : InspectionIndex) : Type 0 where
+    pub one : Inspection
+    pub entry : slice_get tables.inspections index.number ≡ Some one
+    pub is : inspection_of one ≡ how
+    pub size_is : one.size ≡ size
+
+  -- The subject's place lies below those of the counters.
+  abbrev pub IsInspectCode : Inspecting → List DataInstruction → Type 0
+  IsInspectCode one code =
+      (subject : List DataInstruction) × IsReferenceCode items tables one.subject subject
+      × (parts : List DataInstruction) × AreTakenCode (takings items one) parts
+      × (index : InspectionIndex) × HasInspection (inspection items one) (inspected_size items one) index
+      × (code ≡ subject ++ (parts ++ (i.Inspect index ∷ [])))
+
+  -- with nothing in the line, which is empty again
+  abbrev pub DoesInspect : Inspecting → List DataInstruction → Type 0
+  DoesInspect one code =
+      (s : Scratch) → s.line ≡ [] → works tables code s ≡ step_with (inspect items one s.storage) (λ after. Went (record s { storage = after }))
+
+  -- ---- what is known along it
+
+  abbrev pub KnowsInspect : List DataInstruction → Type 0
+  KnowsInspect code = KnowsString items tables code
+
+  abbrev pub LiesTaking : Taking → Type 0
+  LiesTaking (Counter one) = LiesAll items tables one
+  LiesTaking (Text (Bytes one)) = LiesAll items tables one
+  LiesTaking (Text (Characters text)) = Unit {0}
+
+  abbrev pub LieTakings : List Taking → Type 0
+  LieTakings [] = Unit {0}
+  LieTakings (one ∷ more) = LiesTaking one × LieTakings more
+
+  abbrev pub LiesInspect : Inspecting → Type 0
+  LiesInspect one = LiesAll items tables one.subject × LieTakings (takings items one)

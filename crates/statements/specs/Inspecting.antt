@@ -1,0 +1,214 @@
+-- INSPECT: its rule, and how it is read.
+use Rattle.std.specs.Prelude.{◌&&◌, ◌||◌, not, is_some, if◌then◌else◌, Bool, List, [], ◌∷◌, Option, None, Some, Ok}
+use Rattle.tokens.specs.declared.reserved.Reserved.{Reserved}
+use Rattle.tokens.specs.declared.reserved.Reserved.TheVariants as w
+use Rattle.tokens.specs.declared.token.Kind.{Kind}
+use Rattle.tokens.specs.declared.token.Kind.TheVariants as k
+use Rattle.tokens.specs.declared.token.Token.{Token}
+use Rattle.source_tree.specs.declared.inspecting.Occurrences.{Occurrences}
+use Rattle.source_tree.specs.declared.inspecting.Occurrences.TheVariants.{All, Leading, First}
+use Rattle.source_tree.specs.declared.inspecting.TalliedText.{TalliedText}
+use Rattle.source_tree.specs.declared.inspecting.Tallied.{Tallied}
+use Rattle.source_tree.specs.declared.inspecting.Tallied.TheVariants as tallied_as
+use Rattle.source_tree.specs.declared.inspecting.Tallying.{Tallying}
+use Rattle.source_tree.specs.declared.inspecting.ReplacedText.{ReplacedText}
+use Rattle.source_tree.specs.declared.inspecting.Replacing.{Replacing}
+use Rattle.source_tree.specs.declared.inspecting.Replacing.TheVariants as replacing_as
+use Rattle.source_tree.specs.declared.inspecting.Inspecting.{Inspecting}
+use Rattle.source_tree.specs.declared.text.Text.TheVariants as text_as
+use Rattle.source_tree.specs.declared.statement.Verb.{Verb}
+use Rattle.source_tree.specs.declared.statement.Verb.TheVariants as verb
+use Rattle.source_tree.specs.declared.statement.Statement.{Statement}
+use Rattle.grammar.specs.Parts as g
+use Rattle.grammar.specs.Parts.{Part, ◌then◌, ◌but◌, without, tested, telling, begins_telling, word, begins_name}
+use Rattle.grammar.specs.Reading as r
+use Rattle.grammar.specs.Reading.{Parser, ◌>>=◌, ◌>>◌, pure, refuse, begins_word, expect, one_token}
+use Rattle.expressions.specs.References.{reference, reference_reader}
+use Rattle.expressions.specs.Looking.{reference_before, after_reference_before}
+use Rattle.statements.specs.Limiting.{text, begins_text, limited, text_reader, limits_reader}
+
+-- ---- how texts occur
+
+abbrev pub tallied_of : Reserved → Option Occurrences
+tallied_of w.All = Some All
+tallied_of w.Leading = Some Leading
+tallied_of _ = None
+
+abbrev pub replaced_of : Reserved → Option Occurrences
+replaced_of w.First = Some First
+replaced_of one = tallied_of one
+
+abbrev pub tallied_by : Kind → Option Occurrences
+tallied_by (k.Reserved one) = tallied_of one
+tallied_by _ = None
+
+abbrev pub replaced_by : Kind → Option Occurrences
+replaced_by (k.Reserved one) = replaced_of one
+replaced_by _ = None
+
+-- ALL|LEADING
+abbrev pub tallied_in : Token → Option Occurrences
+tallied_in one = tallied_by one.kind
+
+-- ALL|LEADING|FIRST
+abbrev pub replaced_in : Token → Option Occurrences
+replaced_in one = replaced_by one.kind
+
+-- ---- TALLYING
+
+-- A reference before FOR is a counter, and no text.
+abbrev pub begin_tallied_text : Part
+begin_tallied_text = tested begins_text but reference_before w.For
+
+-- x bd
+abbrev pub tallied_text : TalliedText → Part
+tallied_text one = (text one.text then limited one.limits) but reference_before w.For
+
+-- CHARACTERS bd|{ALL|LEADING} {x bd}...
+abbrev pub tallied : Tallied → Part
+tallied (tallied_as.Characters limits) = word w.Characters then limited limits
+tallied (tallied_as.Texts occurrences texts) = telling tallied_in occurrences then g.several tallied_text begin_tallied_text texts
+
+abbrev pub begins_tallied : List Token → Bool
+begins_tallied i = begins_word w.Characters i || begins_telling tallied_in i
+
+-- d FOR {CHARACTERS bd|{ALL|LEADING} {x bd}...}...
+abbrev pub counting : Tallying → Part
+counting one = reference one.counter then word w.For then g.several tallied (tested begins_tallied) one.tallied
+
+-- tal: TALLYING {d FOR {CHARACTERS bd|{ALL|LEADING} {x bd}...}...}...
+abbrev pub tallying : List Tallying → Part
+tallying all = word w.Tallying then g.several counting (tested begins_name) all
+
+-- ---- REPLACING
+
+-- x BY x bd
+abbrev pub replaced_text : ReplacedText → Part
+replaced_text one = text one.text then word w.By then text one.by then limited one.limits
+
+-- CHARACTERS BY x bd|{ALL|LEADING|FIRST} {x BY x bd}...
+abbrev pub replaced : Replacing → Part
+replaced (replacing_as.Characters by limits) = word w.Characters then word w.By then text by then limited limits
+replaced (replacing_as.Texts occurrences texts) = telling replaced_in occurrences then g.several replaced_text (tested begins_text) texts
+
+abbrev pub begins_replaced : List Token → Bool
+begins_replaced i = begins_word w.Characters i || begins_telling replaced_in i
+
+-- rep: REPLACING {CHARACTERS BY x bd|{ALL|LEADING|FIRST} {x BY x bd}...}...
+abbrev pub replacing : List Replacing → Part
+replacing all = word w.Replacing then g.several replaced (tested begins_replaced) all
+
+-- ---- the statement
+
+-- [rep]
+abbrev pub perhaps_replacing : List Replacing → Part
+perhaps_replacing [] = without (word w.Replacing)
+perhaps_replacing (one ∷ more) = replacing (one ∷ more)
+
+-- tal [rep]|rep
+abbrev pub phrases : List Tallying → List Replacing → Part
+phrases [] all = replacing all
+phrases (one ∷ more) all = tallying (one ∷ more) then perhaps_replacing all
+
+-- INSPECT d {tal [rep]|rep} (COBOL-85, Nucleus, "The INSPECT statement")
+abbrev pub inspecting : Inspecting → Part
+inspecting one = word w.Inspect then reference one.subject then phrases one.tallying one.replacing
+
+-- ---- reading TALLYING
+
+abbrev pub begins_tallied_text : List Token → Bool
+begins_tallied_text i = begins_text i && not (is_some (after_reference_before w.For i))
+
+unfoldable pub limited_text_reader : Parser TalliedText
+limited_text_reader = do
+  one ← text_reader
+  limits ← limits_reader
+  pure (record { text = one; limits = limits })
+
+unfoldable pub tallied_text_reader : Parser TalliedText
+tallied_text_reader i = if is_some (after_reference_before w.For i) then refuse i else limited_text_reader i
+
+unfoldable pub tallied_texts_reader : Parser Tallied
+tallied_texts_reader = do
+  occurrences ← one_token tallied_in
+  texts ← r.several tallied_text_reader begins_tallied_text
+  pure (tallied_as.Texts occurrences texts)
+
+unfoldable pub tallied_characters_reader : Parser Tallied
+tallied_characters_reader = do
+  expect w.Characters
+  limits ← limits_reader
+  pure (tallied_as.Characters limits)
+
+unfoldable pub tallied_reader : Parser Tallied
+tallied_reader i = if begins_telling tallied_in i then tallied_texts_reader i else tallied_characters_reader i
+
+unfoldable pub counting_reader : Parser Tallying
+counting_reader = do
+  counter ← reference_reader
+  expect w.For
+  entries ← r.several tallied_reader begins_tallied
+  pure (record { counter = counter; tallied = entries })
+
+unfoldable pub tallying_reader : Parser (List Tallying)
+tallying_reader = do
+  expect w.Tallying
+  r.several counting_reader begins_name
+
+-- ---- reading REPLACING
+
+unfoldable pub replaced_text_reader : Parser ReplacedText
+replaced_text_reader = do
+  one ← text_reader
+  expect w.By
+  by ← text_reader
+  limits ← limits_reader
+  pure (record { text = one; by = by; limits = limits })
+
+unfoldable pub replaced_texts_reader : Parser Replacing
+replaced_texts_reader = do
+  occurrences ← one_token replaced_in
+  texts ← r.several replaced_text_reader begins_text
+  pure (replacing_as.Texts occurrences texts)
+
+unfoldable pub replaced_characters_reader : Parser Replacing
+replaced_characters_reader = do
+  expect w.Characters
+  expect w.By
+  by ← text_reader
+  limits ← limits_reader
+  pure (replacing_as.Characters by limits)
+
+unfoldable pub replaced_reader : Parser Replacing
+replaced_reader i = if begins_telling replaced_in i then replaced_texts_reader i else replaced_characters_reader i
+
+unfoldable pub replacing_reader : Parser (List Replacing)
+replacing_reader = do
+  expect w.Replacing
+  r.several replaced_reader begins_replaced
+
+-- ---- reading the statement
+
+unfoldable pub perhaps_replacing_reader : Parser (List Replacing)
+perhaps_replacing_reader i = if begins_word w.Replacing i then replacing_reader i else Ok ([], i)
+
+unfoldable pub counted_reader : Parser (List Tallying × List Replacing)
+counted_reader = do
+  counters ← tallying_reader
+  entries ← perhaps_replacing_reader
+  pure (counters, entries)
+
+unfoldable pub uncounted_reader : Parser (List Tallying × List Replacing)
+uncounted_reader = do
+  entries ← replacing_reader
+  pure ([], entries)
+
+unfoldable pub phrases_reader : Parser (List Tallying × List Replacing)
+phrases_reader i = if begins_word w.Tallying i then counted_reader i else uncounted_reader i
+
+unfoldable pub inspecting_reader : Parser (Verb Statement)
+inspecting_reader = do
+  expect w.Inspect
+  subject ← reference_reader
+  both ← phrases_reader
+  pure (verb.Text (text_as.Inspect (record { subject = subject; tallying = both.0; replacing = both.1 })))
