@@ -15,7 +15,7 @@ const TALLYING: [(&str, &str); 17] = [
         "inspect T tally N{ all[\"A\"]};",
     ),
     (
-        "INSPECT T OF G (1) TALLYING N OF G (I) FOR LEADING X OF G (2).",
+        "INSPECT T OF G (1) TALLYING N OF G (I) FOR LEADING\nX OF G (2).",
         "inspect T.G(1) tally N.G(I){ leading[X.G(2)]};",
     ),
     // numbers are refused by a rule, and not by the grammar
@@ -121,7 +121,7 @@ const REPLACING: [(&str, &str); 10] = [
         "inspect T tally N{ all[A]} replace all[A=B];",
     ),
     (
-        "INSPECT T TALLYING N FOR CHARACTERS BEFORE A M FOR LEADING B C\nREPLACING CHARACTERS BY D FIRST E BY F EXIT.",
+        "INSPECT T TALLYING N FOR CHARACTERS BEFORE A\nM FOR LEADING B C\nREPLACING CHARACTERS BY D FIRST E BY F EXIT.",
         "inspect T tally N{ characters[ before A]} M{ leading[B][C]} replace characters[=D] first[E=F];exit;",
     ),
 ];
