@@ -16,7 +16,7 @@ const HEADER: &str =
     "       IDENTIFICATION DIVISION.\n       PROGRAM-ID. HELLO.\n       PROCEDURE DIVISION.\n";
 
 /// What comes after the three lines of `HEADER`, and its tree as `shape` writes it.
-const TREES: [(&str, &str); 41] = [
+const TREES: [(&str, &str); 42] = [
     // HELLO in its six lines, with END PROGRAM, and with another name there
     (
         "       MAIN-PARA.\n           DISPLAY \"HELLO\".\n           STOP RUN.\n",
@@ -173,6 +173,11 @@ const TREES: [(&str, &str); 41] = [
     (
         "           INITIALIZE A B SET C OF D TO TRUE\n           STRING A 'X' DELIMITED BY SIZE INTO B POINTER C.\n",
         "HELLO|.N2@4:12T1@4:27Z@5:12",
+    ),
+    // INSPECT: two counters, and one list of entries that replace
+    (
+        "           INSPECT A TALLYING B FOR ALL 'X' C FOR CHARACTERS\n           REPLACING FIRST 'X' BY 'Y'.\n",
+        "HELLO|.Y2-1@4:12",
     ),
     // END PROGRAM after a section
     (
@@ -456,18 +461,30 @@ fn push_moving(to: &mut String, alloc: Global, one: &Moving) -> Result<(), Alloc
     to.push_str(format!(in alloc; "{mark}{count}")?.as_str())
 }
 
+/// DISPLAY with how many operands it has, ACCEPT, and INSPECT with how many counters and lists of entries it has.
+fn push_text_verb(to: &mut String, alloc: Global, one: &Text) -> Result<(), AllocError> {
+    match one {
+        Text::Display {
+            operands,
+            advancing,
+        } => {
+            let end = if *advancing { "+" } else { "-" };
+            to.push_str(format!(in alloc; "D{}{end}", operands.len())?.as_str())
+        }
+        Text::Accept { .. } => to.push_str("A"),
+        Text::AcceptDate { .. } => to.push_str("AD"),
+        Text::Inspect(one) => to.push_str(format!(in alloc;
+            "Y{}-{}",
+            one.tallying.len(),
+            one.replacing.len()
+        )?.as_str()),
+    }
+}
+
 #[cycle(pushed)]
 fn push_statement(to: &mut String, alloc: Global, statement: &Statement) -> Result<(), AllocError> {
     match &statement.verb {
-        Verb::Text(
-            Text::Display {
-                operands,
-                advancing,
-            },
-        ) => {
-            let end = if *advancing { "+" } else { "-" };
-            to.push_str(format!(in alloc; "D{}{end}", operands.len())?.as_str())?;
-        }
+        Verb::Text(one) => push_text_verb(to, alloc, one)?,
         Verb::Moving(one) => push_moving(to, alloc, one)?,
         Verb::Performing(Performing { performed, turns }) => {
             to.push_str("P")?;
@@ -482,8 +499,6 @@ fn push_statement(to: &mut String, alloc: Global, statement: &Statement) -> Resu
             to.push_str(format!(in alloc; "I{}", statements.len())?.as_str())?;
         }
         Verb::Branching(Branching::Evaluate(one)) => push_evaluate(to, alloc, one)?,
-        Verb::Text(Text::Accept { .. }) => to.push_str("A")?,
-        Verb::Text(Text::AcceptDate { .. }) => to.push_str("AD")?,
         // what stands in their phrases is shown by tests of `statements`
         Verb::Arithmetic(_) => to.push_str("R")?,
         Verb::Stringing(_) => to.push_str("Z")?,
@@ -503,7 +518,7 @@ fn push_name(to: &mut String, alloc: Global, mark: &str, name: &Name) -> Result<
 
 /// The program's name; where it has entries `^` and their number; for each section `#`, its name and place; for each paragraph
 /// `|`, its name and place; for each sentence `.` and its statements: `D`, the number of operands and `+`, or `-` for NO ADVANCING;
-/// `M` for MOVE, `N` for INITIALIZE and `T` for SET with the number of items; `Z` for STRING; `S` for STOP RUN, `C` for CONTINUE, `I` for IF and the number of its statements, `V` for EVALUATE, the number
+/// `M` for MOVE, `N` for INITIALIZE and `T` for SET with the number of items; `Z` for STRING; `Y` for INSPECT with the numbers of its counters and of its lists of entries that replace; `S` for STOP RUN, `C` for CONTINUE, `I` for IF and the number of its statements, `V` for EVALUATE, the number
 /// of its subjects, and for each group the numbers of its WHENs and statements, and `O` and those of OTHER, `P`
 /// for PERFORM with its integer, or `U` and `V` for UNTIL with its test before and after, and the statements in it; each with its
 /// place.
