@@ -97,7 +97,7 @@ module _ (bytes : List ℕ) (one other : Named) (more more' : List ℕ) (good : 
       ∙ ap (λ (n : ℕ). drop (121 + row_size s' * n) bytes) same_count
       ∙ rest_is other more' bytes good' is'
 
-same_files : (one other : Files) (bytes : List ℕ) → AllByRecursion IsReadable one → AllByRecursion IsReadable other → bytes ≡ spelled one → bytes ≡ spelled other → length bytes < 2 ^ 64 → one ≡ other
+pub same_files : (one other : Files) (bytes : List ℕ) → AllByRecursion IsReadable one → AllByRecursion IsReadable other → bytes ≡ spelled one → bytes ≡ spelled other → length bytes < 2 ^ 64 → one ≡ other
 same_files [] [] bytes good good' is is' few = refl
 same_files [] (file ∷ more) bytes good good' is is' few = absurd (let e = long file (spelled more) bytes good'.0 is' in omega (arith, e, ap length is))
 same_files (file ∷ more) [] bytes good good' is is' few = absurd (let e = long file (spelled more) bytes good.0 is in omega (arith, e, ap length is'))

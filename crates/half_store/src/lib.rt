@@ -14,6 +14,7 @@ mod heads;
 mod inserting;
 mod keeping;
 mod laws;
+mod one_file;
 mod opening;
 mod reading;
 mod removing;
@@ -28,6 +29,7 @@ mod stored;
 
 pub use empty::format;
 pub use laws::one_list_of_files;
+pub use one_file::spelled_file;
 pub use opening::recover;
 pub use store::HalfStore;
 pub use stored::{StoredFile, StoredRow};

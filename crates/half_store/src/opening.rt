@@ -149,7 +149,7 @@ fn is_same(one: &[u8], two: &[u8]) -> bool
 }
 
 /// The files of a volume of this generation that bytes spell, if they spell any.
-fn spelled_files(
+pub(crate) fn spelled_files(
     alloc: Global,
     bytes: &[u8],
     generation: u64,

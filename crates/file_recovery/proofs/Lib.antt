@@ -1,0 +1,10 @@
+pub mod Read
+pub mod Roots
+pub mod SpecBytes
+pub mod Pigeons
+pub mod Wholes
+pub mod FlatRows
+pub mod ListingTold
+pub mod RowsTold
+pub mod Looking
+pub mod Stepping
