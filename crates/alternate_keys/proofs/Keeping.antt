@@ -83,7 +83,7 @@ pairs_seen m found kept (Alternate i) is few within =
 rooted : RowLayout → ℕ → Rooted
 rooted layout root = record { layout = layout; root = root }
 
-same_tree : (one two : Rooted) → one.layout ≡ two.layout → one.root ≡ two.root → one ≡ two
+pub same_tree : (one two : Rooted) → one.layout ≡ two.layout → one.root ≡ two.root → one ≡ two
 unfolding rooted
 same_tree one two layout root = ap (λ l. rooted l one.root) layout ∙ ap (rooted two.layout) root
 
@@ -98,7 +98,7 @@ roots_low m (tree ∷ trees) small grow =
     All-cons (λ page. page < 2 ^ 32) tree.tree.root (map (λ (t : Planted). t.tree.root) trees)
     (root_small m.pages tree small (All-head (Grows m.pages) tree trees grow)) (roots_low m trees small (All-tail (Grows m.pages) tree trees grow))
 
-root_is : (m : Map) (found : Option File) (kept : Kept) (key : KeyOfReference) → IsFound m found kept → length m.pages ≤ 2 ^ 20 → IsKey kept.named.file.spec key → root_in key (spelled (listing_of kept)) ≡ (tree_under key kept).tree.root
+pub root_is : (m : Map) (found : Option File) (kept : Kept) (key : KeyOfReference) → IsFound m found kept → length m.pages ≤ 2 ^ 20 → IsKey kept.named.file.spec key → root_in key (spelled (listing_of kept)) ≡ (tree_under key kept).tree.root
 root_is m found kept Prime is small within = prime_read (listing_of kept) is.named.file.spec (root_small m.pages kept.prime small (All-head (Grows m.pages) kept.prime kept.alternates is.grow))
 root_is m found kept (Alternate i) is small within =
     let count = is.is.count in

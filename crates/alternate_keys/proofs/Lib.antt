@@ -16,3 +16,9 @@ pub mod OpenedStore
 pub mod ReadCalls
 pub mod Splits
 pub mod Among
+pub mod Calling
+pub mod Becoming
+pub mod Fresh
+pub mod Placing
+pub mod Walks
+pub mod Pairing

@@ -14,11 +14,11 @@ use Rattle.records.specs.Rows.{part, prime_place, named_pair}
 use Rattle.file_trees.specs.Trees.{prime_key, prime_key_length}
 use Rattle.file_trees.proofs.Places.{place_within}
 
-bytes_long : (n x : ℕ) → length (big_bytes n x) ≡ n
+pub bytes_long : (n x : ℕ) → length (big_bytes n x) ≡ n
 bytes_long zero x = refl
 bytes_long (suc n) x = let rest = bytes_long n x in omega (arith, rest)
 
-part_long : (place : KeyPlace) (n : ℕ) (bytes : List ℕ) → place.offset + place.length ≤ n → length bytes ≡ n → length (part place bytes) ≡ place.length
+pub part_long : (place : KeyPlace) (n : ℕ) (bytes : List ℕ) → place.offset + place.length ≤ n → length bytes ≡ n → length (part place bytes) ≡ place.length
 part_long place n bytes fits long =
     let rest : length (drop place.offset bytes) ≡ length bytes - place.offset = length-drop place.offset bytes in
     length-take-le place.length (drop place.offset bytes) (omega (arith, rest, long, fits))

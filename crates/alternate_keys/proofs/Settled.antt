@@ -1,5 +1,7 @@
 -- What a commit of pages says of files.
-use Rattle.std.proofs.Common.{◌≡◌, inl, inr, List, sym, subst}
+use Rattle.std.proofs.Common.{◌≡◌, ◌⊎◌, ◌<◌, ◌≤◌, ◌^◌, inl, inr, ℕ, Bool, true, false, List, ◌∷◌, length, refl, sym, ap, subst, ◌∙◌, arith}
+use Rattle.std.proofs.lemmas.Bool.{eq-eqb, eqb-true}
+use Rattle.std.proofs.Math.Dec.{eqb}
 use Rattle.std.specs.Prelude.{[]}
 use Rattle.station.specs.Disk.{Disk, Sector}
 use Rattle.station.specs.State.{State, Event}
@@ -8,11 +10,13 @@ use Rattle.station.specs.Blocks.{CrashLeaves}
 use Rattle.station.proofs.Spans.{weakens}
 use Rattle.pages.specs.Image.{Map, map_of}
 use Rattle.pages.specs.Changes.{BeforeOrAfter}
-use Rattle.pages.specs.Pages.{map_now, committed_of, changed_pages_of, Agrees}
+use Rattle.pages.specs.Pages.{map_now, catalog_of, committed_of, changed_pages_of, advanced, HasChanges, Agrees}
 use Rattle.pages.specs.declared.page_map.PageMap.{PageMap}
 use Rattle.records.specs.Files.{Files}
 use Rattle.records.specs.Stores.{Either}
 use Rattle.file_trees.specs.Volume.{MapHolds, Holds}
+use Rattle.file_trees.proofs.Empty.{next_holds}
+use Rattle.file_trees.proofs.OneFiles.{one_in_map_most}
 use Rattle.alternate_keys.specs.Stands.{Stands}
 
 -- an image of either map
@@ -35,3 +39,31 @@ stands_then p disk m files agrees committed rested is holds = record {
   rested = rested;
   holds = subst (λ (x : Map). MapHolds x files) (sym is) holds;
 }
+
+-- whether something was changed
+by_catalog : (b : Bool) (p : PageMap) → changed_pages_of p ≡ [] → eqb (catalog_of p) (committed_of p).root.catalog ≡ b → HasChanges p ⊎ ((changed_pages_of p ≡ []) × (catalog_of p ≡ (committed_of p).root.catalog))
+by_catalog true p none is = inr (none, eqb-true (catalog_of p) (committed_of p).root.catalog is)
+by_catalog false p none is = inl (λ same. let clash : true ≡ false = sym (eq-eqb (catalog_of p) (committed_of p).root.catalog same.1) ∙ is in cc)
+
+by_pages : (pages : List ℕ) (p : PageMap) → changed_pages_of p ≡ pages → HasChanges p ⊎ ((changed_pages_of p ≡ []) × (catalog_of p ≡ (committed_of p).root.catalog))
+by_pages [] p is = by_catalog (eqb (catalog_of p) (committed_of p).root.catalog) p is refl
+by_pages (page ∷ pages) p is = inl (λ same. let clash : page ∷ pages ≡ [] = sym is ∙ same.0 in cc)
+
+pub changed_or_not : (p : PageMap) → HasChanges p ⊎ ((changed_pages_of p ≡ []) × (catalog_of p ≡ (committed_of p).root.catalog))
+changed_or_not p = by_pages (changed_pages_of p) p refl
+
+-- Where nothing was changed, the files before are those after, and stay.
+pub rests_then : (p q : PageMap) (old new : Disk) (before after : Files) → Agrees q new → ((image : List Sector) → map_now q image ≡ map_of image (committed_of q)) → changed_pages_of q ≡ [] → q ≡ p → new ≡ old →
+    (map_now p old.present).generation < 2 ^ 63 → length (map_now p old.present).pages ≤ 921600 → MapHolds (map_of old.present (committed_of p)) before → MapHolds (advanced (map_now p old.present)) after → Stands q new after
+rests_then p q old new before after agrees committed rested same still few small was will =
+    let m : Map = map_now p old.present in
+    let is : m ≡ map_of old.present (committed_of p) = subst (λ (x : PageMap). map_now x old.present ≡ map_of old.present (committed_of x)) same (committed old.present) in
+    let here : MapHolds m before = subst (λ (x : Map). MapHolds x before) (sym is) was in
+    let files : before ≡ after = one_in_map_most (advanced m) before after (omega (arith, few)) (omega (arith, small)) (next_holds m before here) will in
+    let map_is : map_now q new.present ≡ m = ap (λ (d : Disk). map_now q d.present) still ∙ ap (λ (x : PageMap). map_now x old.present) same in
+    record {
+      agrees = agrees;
+      still = committed new.present;
+      rested = rested;
+      holds = subst (λ (x : Map). MapHolds x after) (sym map_is) (subst (λ (l : Files). MapHolds m l) files here);
+    }

@@ -3,10 +3,12 @@ use Rattle.std.specs.Prelude.{◌≡◌, ◌+◌, ◌*◌, ℕ, List, drop, Opti
 use Rattle.std.specs.List.{All}
 use Rattle.byteorder.specs.Endian.{big_number}
 use Rattle.pages.specs.Image.{Map}
+use Rattle.btree.specs.Rooted.{Rooted}
 use Rattle.btree.specs.Entries.{Entry}
 use Rattle.records.specs.declared.key.KeyOfReference.{KeyOfReference}
 use Rattle.records.specs.declared.key.KeyOfReference.TheVariants.{Prime, Alternate}
 use Rattle.records.specs.Files.{File, IsNamed}
+use Rattle.file_trees.specs.Catalog.{catalog_layout}
 use Rattle.file_trees.specs.Forest.{Grows}
 use Rattle.file_trees.specs.Volume.{Kept, IsKept, trees_of, catalog_entry}
 
@@ -26,3 +28,7 @@ IsListed m found (Some entry) = (kept : Kept) × IsFound m found kept × (entry 
 abbrev pub root_in : KeyOfReference → List ℕ → ℕ
 root_in Prime value = big_number 4 (drop 43 value)
 root_in (Alternate i) value = big_number 4 (drop (47 + 4 * i) value)
+
+-- the tree of the catalog
+abbrev pub catalog_at : ℕ → Rooted
+catalog_at root = record { layout = catalog_layout; root = root }

@@ -1,10 +1,10 @@
--- Changed pages were put on the disk.
+-- Pages were put on the disk.
 use Rattle.std.specs.Prelude.{◌≡◌, ◌≢◌, Result, Err, OnOk}
 use Rattle.station.specs.History.{Through}
 use Rattle.station.specs.Blocks.{CrashLeaves}
 use Rattle.station.specs.declared.device.Device.{Ghosts as Devices}
 use Rattle.pages.specs.Image.{map_of}
-use Rattle.pages.specs.Pages.{map_now, committed_of, advanced, HasChanges, IsFull, Agrees}
+use Rattle.pages.specs.Pages.{map_now, committed_of, advanced, IsFull, Agrees}
 use Rattle.pages.specs.declared.page_map.PageMap.{PageMap}
 use Rattle.records.specs.declared.fault.StoreFault.{StoreFault}
 use Rattle.records.specs.declared.fault.StoreFault.TheVariants.{Full, Damaged}
@@ -14,11 +14,10 @@ use Rattle.file_trees.specs.Volume.{MapHolds, Holds}
 use Rattle.alternate_keys.specs.Stands.{Stands}
 
 module _ {D : Type 0} (d : Devices D) where
-  -- changed pages over a device: what is committed holds the files before, and the next generation of the pages holds those after
+  -- pages over a device: what is committed holds the files before, and the next generation of the pages holds those after
   pub record IsChanged (pages : PageMap) (device : D) (before after : Files) : Type 0 where
     pub honest : d.is_honest device
     pub agrees : Agrees pages (d.state device).disk
-    pub changes : HasChanges pages
     pub was : MapHolds (map_of (d.state device).disk.present (committed_of pages)) before
     pub will : MapHolds (advanced (map_now pages (d.state device).disk.present)) after
 

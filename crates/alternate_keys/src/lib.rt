@@ -12,6 +12,7 @@ mod finding;
 mod keeps;
 mod listing;
 mod look;
+mod new_pairs;
 mod new_row;
 mod opening;
 mod repeats;
@@ -21,6 +22,7 @@ mod seeking;
 mod settling;
 mod store;
 mod tell;
+mod values;
 
 pub use aim::Aim;
 pub use opening::format;

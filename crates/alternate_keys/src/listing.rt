@@ -1,13 +1,19 @@
 //! What the catalog says of a file.
-ghost use Rattle.std.specs.Prelude.{◌≡◌, ◌≤◌, Err, true, length, IfOk, IfErr, IfSome};
+ghost use Rattle.std.specs.Prelude.{◌≡◌, ◌≤◌, Err, true, length, map, IsSome, IfOk, OnOk, IfErr, IfSome};
 ghost use Rattle.station.specs.Calls.{OnlyReads};
-ghost use Rattle.pages.specs.Pages.{map_now, is_spent, sectors_of, Agrees, IsOpen, Unchanged};
-ghost use Rattle.btree.specs.Calls.{Agreed};
+ghost use Rattle.pages.specs.Pages.{map_now, is_spent, catalog_of, sectors_of, Agrees, IsOpen, Unchanged};
+ghost use Rattle.btree.specs.Calls.{Agreed, pages_on};
+ghost use Rattle.btree.specs.Entries.{entry_with, with_value};
+ghost use Rattle.btree.specs.Told.{FewChanged};
 ghost use Rattle.records.specs.Spec.{is_name};
 ghost use Rattle.records.specs.Files.{Files, file_at};
-ghost use Rattle.file_trees.specs.Volume.{MapHolds};
+ghost use Rattle.file_trees.specs.Catalog.{padded, catalog_layout};
+ghost use Rattle.file_trees.specs.Grows.{StandsAmong};
+ghost use Rattle.file_trees.specs.Volume.{MapHolds, catalog_entry};
+ghost use Rattle.alternate_keys.specs.Among.{OnAmong};
+ghost use Rattle.alternate_keys.specs.Calls.{Edits};
 ghost use Rattle.alternate_keys.specs.Faults.{IsReadFault};
-ghost use Rattle.alternate_keys.specs.Listed.{IsListed};
+ghost use Rattle.alternate_keys.specs.Listed.{IsListed, catalog_at};
 
 use crate::fault::to_fault;
 use btree::{Entry, Tree};
@@ -17,6 +23,18 @@ use records::StoreFault;
 use station::Device;
 use std::alloc::Global;
 use tree_pages::RowLayout;
+
+/// The tree of the catalog.
+fn catalog_tree(alloc: Global, root: u32) -> Tree
+    ensures layout { result.layout ≡ catalog_layout }
+    ensures root { result.root ≡ root }
+{
+    let layout = RowLayout {
+        key_length: NAME_BYTES,
+        value_length: LISTING_BYTES,
+    };
+    Tree::new(alloc, layout, root)
+}
 
 /// The entry of a name in the catalog.
 pub(crate) fn find_listing<D: Device>(
@@ -34,18 +52,44 @@ pub(crate) fn find_listing<D: Device>(
     ensures open { IsOpen pages.new }
     ensures listed { Agreed D.Device pages.old device.old ((files : Files) → MapHolds (map_now pages.old (D.state device.old).disk.present) files →
         IfOk result (IsListed (map_now pages.old (D.state device.old).disk.present) (file_at name.now files))) }
+    ensures entry { Agreed D.Device pages.old device.old ((files : Files) → (holds : MapHolds (map_now pages.old (D.state device.old).disk.present) files) →
+        IfOk result (λ entry. entry ≡ entry_with (map catalog_entry holds.kept) (padded name.now))) }
     ensures damaged { Agreed D.Device pages.old device.old ((files : Files) → MapHolds (map_now pages.old (D.state device.old).disk.present) files → result ≡ Err StoreFault.Damaged → ⊥) }
     ensures spent { result ≡ Err StoreFault.Spent → is_spent pages.old ≡ true }
     ensures long { IfOk result (λ entry. IfSome entry (λ e. length e.value ≡ 83)) }
     ensures cause { IfErr result IsReadFault }
 {
-    let layout = RowLayout {
-        key_length: NAME_BYTES,
-        value_length: LISTING_BYTES,
-    };
-    let catalog = Tree::new(alloc, layout, pages.catalog());
+    let catalog = catalog_tree(alloc, pages.catalog());
     match catalog.get(pages, device, &pad_name(name)) {
         Ok(entry) => Ok(entry),
+        Err(error) => Err(to_fault(error)),
+    }
+}
+
+/// Gives the entry of a name in the catalog another value. Other trees stay.
+pub(crate) fn replace_listing<D: Device>(
+    alloc: Global,
+    pages: &mut PageMap,
+    device: &mut D,
+    name: &[u8],
+    listing: &[u8],
+) -> Result<(), StoreFault>
+    requires open { IsOpen pages.old }
+    requires sectors { sectors_of pages.old ≤ D.sectors device.old }
+    requires name { length name.now ≤ 30 }
+    requires listing { length listing.now ≡ 83 }
+    ensures edits { Edits D.Device (result ≡ Err StoreFault.Device) pages.old device.old pages.new device.new }
+    ensures replaced { OnAmong D.Device (catalog_at (catalog_of pages.old)) pages.old device.old (λ left right entries.
+        OnOk result (StandsAmong (pages_on D.Device pages.new device.old) left right (catalog_at (catalog_of pages.old)) (with_value entries (record { key = padded name.now; value = listing.now })))) }
+    ensures damaged { OnAmong D.Device (catalog_at (catalog_of pages.old)) pages.old device.old (λ left right entries. IsSome (entry_with entries (padded name.now)) → result ≡ Err StoreFault.Damaged → ⊥) }
+    ensures few { FewChanged 1 pages.old pages.new }
+    ensures spent { result ≡ Err StoreFault.Spent → is_spent pages.old ≡ true }
+    ensures cause { IfErr result IsReadFault }
+{
+    let mut catalog = catalog_tree(alloc, pages.catalog());
+    match catalog.replace(pages, device, &pad_name(name), listing) {
+        Ok(true) => Ok(()),
+        Ok(false) => Err(StoreFault::Damaged),
         Err(error) => Err(to_fault(error)),
     }
 }

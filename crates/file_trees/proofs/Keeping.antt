@@ -23,19 +23,19 @@ part_bytes : (place : KeyPlace) (bytes : List ℕ) → All IsByte bytes → All 
 part_bytes place bytes low = All-take IsByte place.length (drop place.offset bytes) (All-drop IsByte place.offset bytes low)
 
 prime_pair_is : (file : File) (organization : Organization) (row : Row) → (prime_place organization).offset + (prime_place organization).length ≤ file.spec.record_length → length row.bytes ≡ file.spec.record_length →
-    file.next_arrival < 2 ^ 63 → IsRowNumber organization file.next_arrival row.number → IsPrimePair organization (named_pair organization row.number row.bytes)
+    file.next_arrival ≤ 2 ^ 63 → IsRowNumber organization file.next_arrival row.number → IsPrimePair organization (named_pair organization row.number row.bytes)
 prime_pair_is file Sequential row fits long few number = (refl, let less = number.1 in omega arith)
 prime_pair_is file Relative row fits long few number = (refl, let high = number.1 in omega arith)
 prime_pair_is file (Indexed place) row fits long few number = (part_long place file.spec.record_length row.bytes fits long, refl)
 
-prime_bytes : (organization : Organization) (row : Row) → All IsByte row.bytes → All IsByte (named_pair organization row.number row.bytes).value
+pub prime_bytes : (organization : Organization) (row : Row) → All IsByte row.bytes → All IsByte (named_pair organization row.number row.bytes).value
 prime_bytes Sequential row low = All-nil IsByte
 prime_bytes Relative row low = All-nil IsByte
 prime_bytes (Indexed place) row low = part_bytes place row.bytes low
 
-pub rows_fit : (file : File) → IsFile file → file.next_arrival < 2 ^ 63 →
+pub rows_fit_most : (file : File) → IsFile file → file.next_arrival ≤ 2 ^ 63 →
     All (IsUnder file.spec Prime) file.rows × ((i : ℕ) → i < length file.spec.alternates → All (IsUnder file.spec (Alternate i)) file.rows)
-rows_fit file is few =
+rows_fit_most file is few =
     let spec : Spec = file.spec in
     let rows : All (IsRow spec file.next_arrival) file.rows = All-from_recursion (IsRow spec file.next_arrival) file.rows is.rows in (
       λ k d within.
@@ -57,3 +57,7 @@ rows_fit file is few =
             bytes = part_bytes (place_of spec (Alternate i)) row.bytes bytes;
           },
     )
+
+pub rows_fit : (file : File) → IsFile file → file.next_arrival < 2 ^ 63 →
+    All (IsUnder file.spec Prime) file.rows × ((i : ℕ) → i < length file.spec.alternates → All (IsUnder file.spec (Alternate i)) file.rows)
+rows_fit file is few = rows_fit_most file is (omega arith)

@@ -72,8 +72,11 @@ at_next l is count = sym (drop-drop 28 47 (spelled l)) ∙ ap (drop 28) (at_page
 pub prime_read : (l : Listing) → is_spec l.spec ≡ true → l.prime < 2 ^ 32 → big_number 4 (drop 43 (spelled l)) ≡ l.prime
 prime_read l is low = ap (big_number 4) (at_prime l is) ∙ big_number-reads_back 4 l.prime (pages_part l ++ big_bytes 8 l.next_arrival) low
 
+pub next_read_most : (l : Listing) → is_spec l.spec ≡ true → length l.alternates ≡ length l.spec.alternates → l.next_arrival ≤ 2 ^ 63 → big_number 8 (drop 75 (spelled l)) ≡ l.next_arrival
+next_read_most l is count low = ap (big_number 8) (at_next l is count ∙ sym (append-nil (big_bytes 8 l.next_arrival))) ∙ big_number-reads_back 8 l.next_arrival [] (omega arith)
+
 pub next_read : (l : Listing) → is_spec l.spec ≡ true → length l.alternates ≡ length l.spec.alternates → l.next_arrival < 2 ^ 63 → big_number 8 (drop 75 (spelled l)) ≡ l.next_arrival
-next_read l is count low = ap (big_number 8) (at_next l is count ∙ sym (append-nil (big_bytes 8 l.next_arrival))) ∙ big_number-reads_back 8 l.next_arrival [] (omega arith)
+next_read l is count low = next_read_most l is count (omega arith)
 
 pub root_read : (l : Listing) (i : ℕ) → is_spec l.spec ≡ true → All (λ page. page < 2 ^ 32) l.alternates → i < length l.alternates → big_number 4 (drop (47 + 4 * i) (spelled l)) ≡ slice_index_or l.alternates i 0
 root_read l i is low within =
@@ -83,7 +86,7 @@ root_read l i is low within =
     let there : drop (47 + 4 * i) (spelled l) ≡ drop (4 * i) (pages_part l ++ last) = sym (drop-drop (4 * i) 47 (spelled l)) ∙ ap (drop (4 * i)) (at_pages l is) in
     ap (big_number 4) (there ∙ ap (drop (4 * i)) (append_assoc pages zeros last)) ∙ page_at l.alternates i (zeros ++ last) within low
 
-long : (l : Listing) → is_spec l.spec ≡ true → length l.alternates ≡ length l.spec.alternates → length (spelled l) ≡ 83
+pub long : (l : Listing) → is_spec l.spec ≡ true → length l.alternates ≡ length l.spec.alternates → length (spelled l) ≡ 83
 unfolding spelled
 long l is count =
     let front = spec_long l.spec (few_alternates l.spec is) in

@@ -1,5 +1,5 @@
 -- The tree of rows tells the rows.
-use Rattle.std.proofs.Common.{◌≡◌, ◌<◌, ◌^◌, ℕ, List, [], ◌∷◌, length, refl, sym, ap, subst, ◌∙◌, arith}
+use Rattle.std.proofs.Common.{◌≡◌, ◌<◌, ◌≤◌, ◌^◌, ℕ, List, [], ◌∷◌, length, refl, sym, ap, subst, ◌∙◌, arith}
 use Rattle.std.specs.Prelude.{map}
 use Rattle.std.specs.List.{All, AllByRecursion, flat_map}
 use Rattle.std.proofs.lemmas.List.{append-nil}
@@ -33,7 +33,7 @@ same_arrivals (x ∷ one) (y ∷ two) low high count same =
     let rest : one ≡ two = same_arrivals one two (All-tail P x one low) (All-tail P y two high) (omega (arith, count)) cut.1 in
     cc
 
-same_numbers : (file other : File) (organization : Organization) (one two : Row) → file.next_arrival < 2 ^ 63 → other.next_arrival < 2 ^ 63 → IsRowNumber organization file.next_arrival one.number → IsRowNumber organization other.next_arrival two.number →
+same_numbers : (file other : File) (organization : Organization) (one two : Row) → file.next_arrival ≤ 2 ^ 63 → other.next_arrival ≤ 2 ^ 63 → IsRowNumber organization file.next_arrival one.number → IsRowNumber organization other.next_arrival two.number →
     prime_key organization (named_pair organization one.number one.bytes) ≡ prime_key organization (named_pair organization two.number two.bytes) → one.number ≡ two.number
 same_numbers file other Sequential one two low high first second same = same_number 8 one.number two.number (let a = first.1 in omega arith) (let a = second.1 in omega arith) same
 same_numbers file other Relative one two low high first second same = same_number 4 one.number two.number (let a = first.1 in omega arith) (let a = second.1 in omega arith) same
@@ -42,10 +42,10 @@ same_numbers file other (Indexed place) one two low high first second same = fir
 row_of : ℕ → List ℕ → List ℕ → Row
 row_of number bytes arrivals = record { number = number; bytes = bytes; arrivals = arrivals }
 
-below : (next : ℕ) (arrivals : List ℕ) → next < 2 ^ 63 → AllByRecursion (IsArrival next) arrivals → All (λ a. a < 256 ^ 8) arrivals
+below : (next : ℕ) (arrivals : List ℕ) → next ≤ 2 ^ 63 → AllByRecursion (IsArrival next) arrivals → All (λ a. a < 256 ^ 8) arrivals
 below next arrivals few given = λ k d within. let l = (All-from_recursion (IsArrival next) arrivals given k d within).1 in omega arith
 
-same_row : (file other : File) (one two : Row) → other.spec ≡ file.spec → file.next_arrival < 2 ^ 63 → other.next_arrival < 2 ^ 63 → IsRow file.spec file.next_arrival one → IsRow file.spec other.next_arrival two →
+same_row : (file other : File) (one two : Row) → other.spec ≡ file.spec → file.next_arrival ≤ 2 ^ 63 → other.next_arrival ≤ 2 ^ 63 → IsRow file.spec file.next_arrival one → IsRow file.spec other.next_arrival two →
     entry_under file.spec Prime one ≡ entry_under file.spec Prime two → one ≡ two
 unfolding row_of
 same_row file other one two spec low high is is_too same =
@@ -56,7 +56,7 @@ same_row file other one two spec low high is is_too same =
     let numbers = same_numbers file other file.spec.organization one two low high is.number is_too.number (ap (λ (e : Entry). e.key) same) in
     ap (λ n. row_of n one.bytes one.arrivals) numbers ∙ ap (λ b. row_of two.number b one.arrivals) cut.0 ∙ ap (row_of two.number two.bytes) arrivals
 
-same_rows : (file other : File) (ones twos : List Row) → other.spec ≡ file.spec → file.next_arrival < 2 ^ 63 → other.next_arrival < 2 ^ 63 → AllByRecursion (IsRow file.spec file.next_arrival) ones → AllByRecursion (IsRow file.spec other.next_arrival) twos →
+same_rows : (file other : File) (ones twos : List Row) → other.spec ≡ file.spec → file.next_arrival ≤ 2 ^ 63 → other.next_arrival ≤ 2 ^ 63 → AllByRecursion (IsRow file.spec file.next_arrival) ones → AllByRecursion (IsRow file.spec other.next_arrival) twos →
     map (entry_under file.spec Prime) ones ≡ map (entry_under file.spec Prime) twos → ones ≡ twos
 same_rows file other [] [] spec low high is is_too same = refl
 same_rows file other [] (two ∷ twos) spec low high is is_too same = cc
@@ -69,7 +69,11 @@ same_rows file other (one ∷ ones) (two ∷ twos) spec low high is is_too same 
     let rest = same_rows file other ones twos spec low high is.1 is_too.1 tail in
     ap (λ r. r ∷ ones) first ∙ ap (λ rs. two ∷ rs) rest
 
+pub one_rows_most : (file other : File) → IsFile file → IsFile other → other.spec ≡ file.spec → file.next_arrival ≤ 2 ^ 63 → other.next_arrival ≤ 2 ^ 63 →
+    map (entry_under file.spec Prime) file.rows ≡ map (entry_under file.spec Prime) other.rows → file.rows ≡ other.rows
+one_rows_most file other is is_too spec low high same =
+    same_rows file other file.rows other.rows spec low high is.rows (subst (λ (s : Spec). AllByRecursion (IsRow s other.next_arrival) other.rows) spec is_too.rows) same
+
 pub one_rows : (file other : File) → IsFile file → IsFile other → other.spec ≡ file.spec → file.next_arrival < 2 ^ 63 → other.next_arrival < 2 ^ 63 →
     map (entry_under file.spec Prime) file.rows ≡ map (entry_under file.spec Prime) other.rows → file.rows ≡ other.rows
-one_rows file other is is_too spec low high same =
-    same_rows file other file.rows other.rows spec low high is.rows (subst (λ (s : Spec). AllByRecursion (IsRow s other.next_arrival) other.rows) spec is_too.rows) same
+one_rows file other is is_too spec low high same = one_rows_most file other is is_too spec (omega arith) (omega arith) same

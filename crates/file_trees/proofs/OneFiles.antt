@@ -24,9 +24,9 @@ use Rattle.file_trees.specs.Volume.{Kept, IsKept, MapHolds, Holds, trees_of, lis
 use Rattle.file_trees.proofs.Forests.{all_right}
 use Rattle.file_trees.proofs.Names.{one_name}
 use Rattle.file_trees.proofs.Specs.{one_spec}
-use Rattle.file_trees.proofs.Listings.{spec_read, prime_read, next_read}
+use Rattle.file_trees.proofs.Listings.{spec_read, prime_read, next_read_most}
 use Rattle.file_trees.proofs.Roots.{root_small}
-use Rattle.file_trees.proofs.Once.{one_rows}
+use Rattle.file_trees.proofs.Once.{one_rows_most}
 
 named_with : List ℕ → Spec → List Row → ℕ → Named
 named_with name spec rows next = record { name = name; file = record { spec = spec; rows = rows; next_arrival = next } }
@@ -35,7 +35,7 @@ counted : (kept : Kept) → length kept.alternates ≡ length kept.named.file.sp
 counted kept count = length-map kept.alternates (λ (tree : Planted). tree.tree.root) ∙ count
 
 -- two files that one map keeps under one entry of the catalog
-same_named : (m : Map) (one two : Kept) → m.generation < 2 ^ 63 → length m.pages ≤ 2 ^ 20 → IsKept m.generation one → IsKept m.generation two → Grows m.pages one.prime → Grows m.pages two.prime → IsNamed one.named → IsNamed two.named →
+same_named : (m : Map) (one two : Kept) → m.generation ≤ 2 ^ 63 → length m.pages ≤ 2 ^ 20 → IsKept m.generation one → IsKept m.generation two → Grows m.pages one.prime → Grows m.pages two.prime → IsNamed one.named → IsNamed two.named →
     catalog_entry one ≡ catalog_entry two → one.named ≡ two.named
 unfolding named_with
 same_named m one two few small is is_too grows grows_too named named_too same =
@@ -51,9 +51,9 @@ same_named m one two few small is is_too grows grows_too named named_too same =
     ∙ ap (λ (b : List ℕ). big_number 4 (drop 43 b)) bytes
     ∙ prime_read (listing_of two) named_too.file.spec (root_small m.pages two.prime small grows_too) in
     let next : one.named.file.next_arrival ≡ two.named.file.next_arrival =
-    sym (next_read (listing_of one) named.file.spec (counted one is.count) (omega arith))
+    sym (next_read_most (listing_of one) named.file.spec (counted one is.count) (omega arith))
     ∙ ap (λ (b : List ℕ). big_number 8 (drop 75 b)) bytes
-    ∙ next_read (listing_of two) named_too.file.spec (counted two is_too.count) (omega arith) in
+    ∙ next_read_most (listing_of two) named_too.file.spec (counted two is_too.count) (omega arith) in
     let layout : two.prime.tree.layout ≡ one.prime.tree.layout = is_too.layout ∙ ap (λ (x : Spec). layout_under x Prime) (sym spec) ∙ sym is.layout in
     let there : HoldsTree one.prime.tree.layout m.pages one.prime.tree.root two.prime.levels =
     subst (λ (l : RowLayout). HoldsTree l m.pages one.prime.tree.root two.prime.levels) layout
@@ -61,13 +61,13 @@ same_named m one two few small is is_too grows grows_too named named_too same =
     let levels : one.prime.levels ≡ two.prime.levels = one_tree one.prime.tree.layout m.pages one.prime.tree.root one.prime.levels two.prime.levels small grows there in
     let listed : map (entry_under s Prime) one.named.file.rows ≡ map (entry_under s Prime) two.named.file.rows =
     sym is.rows ∙ ap (entries_of one.prime.tree.layout) levels ∙ ap (λ (l : RowLayout). entries_of l two.prime.levels) (sym layout) ∙ is_too.rows ∙ ap (λ (x : Spec). map (entry_under x Prime) two.named.file.rows) (sym spec) in
-    let rows : one.named.file.rows ≡ two.named.file.rows = one_rows one.named.file two.named.file named.file named_too.file (sym spec) (omega arith) (omega arith) listed in
+    let rows : one.named.file.rows ≡ two.named.file.rows = one_rows_most one.named.file two.named.file named.file named_too.file (sym spec) (omega arith) (omega arith) listed in
     ap (λ n. named_with n s one.named.file.rows one.named.file.next_arrival) name
     ∙ ap (λ x. named_with two.named.name x one.named.file.rows one.named.file.next_arrival) spec
     ∙ ap (λ r. named_with two.named.name t r one.named.file.next_arrival) rows
     ∙ ap (named_with two.named.name t two.named.file.rows) next
 
-same_list : (m : Map) (ones twos : List Kept) → m.generation < 2 ^ 63 → length m.pages ≤ 2 ^ 20 → All (IsKept m.generation) ones → All (IsKept m.generation) twos →
+same_list : (m : Map) (ones twos : List Kept) → m.generation ≤ 2 ^ 63 → length m.pages ≤ 2 ^ 20 → All (IsKept m.generation) ones → All (IsKept m.generation) twos →
     All (Grows m.pages) (flat_map trees_of ones) → All (Grows m.pages) (flat_map trees_of twos) → AllByRecursion IsNamed (map (λ (k : Kept). k.named) ones) → AllByRecursion IsNamed (map (λ (k : Kept). k.named) twos) →
     map catalog_entry ones ≡ map catalog_entry twos → map (λ (k : Kept). k.named) ones ≡ map (λ (k : Kept). k.named) twos
 same_list m [] [] few small is is_too grow grow_too named named_too same = refl
@@ -82,8 +82,8 @@ same_list m (one ∷ ones) (two ∷ twos) few small is is_too grow grow_too name
     (all_right (Grows m.pages) (trees_of one) (flat_map trees_of ones) grow) (all_right (Grows m.pages) (trees_of two) (flat_map trees_of twos) grow_too) named.1 named_too.1 tail in
     ap (λ (n : Named). n ∷ map (λ (k : Kept). k.named) ones) first ∙ ap (λ (l : Files). two.named ∷ l) rest
 
-pub one_in_map : (m : Map) (one two : Files) → m.generation < 2 ^ 63 → length m.pages ≤ 2 ^ 20 → MapHolds m one → MapHolds m two → one ≡ two
-one_in_map m one two few small first second =
+pub one_in_map_most : (m : Map) (one two : Files) → m.generation ≤ 2 ^ 63 → length m.pages ≤ 2 ^ 20 → MapHolds m one → MapHolds m two → one ≡ two
+one_in_map_most m one two few small first second =
     let P : Files → Type 0 = λ files. AllByRecursion IsNamed files in
     let catalog = All-head (Grows m.pages) _ _ first.keeps.forest.grow in
     let catalog_too = All-head (Grows m.pages) _ _ second.keeps.forest.grow in
@@ -94,6 +94,9 @@ one_in_map m one two few small first second =
     (All-tail (Grows m.pages) _ _ first.keeps.forest.grow) (All-tail (Grows m.pages) _ _ second.keeps.forest.grow)
     (subst P (sym first.named) first.are.each) (subst P (sym second.named) second.are.each) entries
     ∙ second.named
+
+pub one_in_map : (m : Map) (one two : Files) → m.generation < 2 ^ 63 → length m.pages ≤ 2 ^ 20 → MapHolds m one → MapHolds m two → one ≡ two
+one_in_map m one two few small first second = one_in_map_most m one two (omega arith) small first second
 
 pub one_files : (image : List Sector) (one two : Files) → Holds image one → Holds image two → one ≡ two
 one_files image one two first second =

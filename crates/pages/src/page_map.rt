@@ -398,6 +398,7 @@ impl PageMap {
         ensures committed { OnOk result ((image : List Sector) → map_now self.new image ≡ map_of image (committed_of self.new)) }
         ensures changed_pages { OnOk result (changed_pages_of self.new ≡ []) }
         ensures filled { OnOk result (filled_of self.new ≡ 0) }
+        ensures unspent { OnOk result (is_spent self.new ≡ false) }
 
         // Where something was changed, it is the map of the next generation, and else nothing is other than before.
         ensures advances { D.is_honest device.old → Agrees self.old (D.state device.old).disk → HasChanges self.old → OnOk result (map_now self.new (D.state device.new).disk.present ≡ advanced (map_now self.old (D.state device.old).disk.present)) }

@@ -1,10 +1,11 @@
-use Rattle.std.proofs.Common.{rules, ◌≡◌, Err, sym, ap, ◌∙◌}
+use Rattle.std.proofs.Common.{rules, ◌≡◌, ⊎_elim, Err, sym, ap, ◌∙◌}
+use Rattle.station.specs.State.{State}
 use Rattle.pages.specs.Image.{Map, map_of}
 use Rattle.pages.specs.Pages.{map_now, committed_of, advanced}
 use Rattle.pages.specs.declared.error.PagesError.TheVariants as pages
 use Rattle.records.specs.declared.fault.StoreFault.TheVariants.{Full, Damaged}
 use Rattle.alternate_keys.proofs.Faults.{commit_sound, full_back}
-use Rattle.alternate_keys.proofs.Settled.{moments_hold, stands_then}
+use Rattle.alternate_keys.proofs.Settled.{moments_hold, stands_then, changed_or_not, rests_then}
 use Rattle.alternate_keys.proofs.settling.settle.Goals as goal
 
 pub returns-in-Ok-clause-settles : goal.returns-in-Ok-clause-settles
@@ -14,7 +15,13 @@ returns-in-Ok-clause-settles g c = λ before after changed.
     let m : Map = map_of old.disk.present (committed_of c.args.pages.now) in
     let n : Map = advanced (map_now c.args.pages.now old.disk.present) in
     record {
-      stands = stands_then c.commit.new.self new.disk n after (c.in-Ok.ensures.agrees changed.honest changed.agrees) c.in-Ok.ensures.committed c.in-Ok.ensures.changed_pages (c.in-Ok.ensures.advances changed.honest changed.agrees changed.changes) changed.will;
+      stands = ⊎_elim
+          (λ changes. stands_then c.commit.new.self new.disk n after (c.in-Ok.ensures.agrees changed.honest changed.agrees) c.in-Ok.ensures.committed c.in-Ok.ensures.changed_pages (c.in-Ok.ensures.advances changed.honest changed.agrees changes) changed.will)
+          (λ none.
+          let bounds = c.map_bounds.ensures.open c.args.pages.now old.disk.present c.requires.open c.requires.unspent in
+          rests_then c.args.pages.now c.commit.new.self old.disk new.disk before after (c.in-Ok.ensures.agrees changed.honest changed.agrees) c.in-Ok.ensures.committed c.in-Ok.ensures.changed_pages
+          (c.in-Ok.ensures.rests (λ changes. changes none) c.requires.unspent) (ap (λ (s : State). s.disk) (c.in-Ok.ensures.nothing none.0 none.1 changed.honest).0) bounds.0 bounds.1 changed.was changed.will)
+          (changed_or_not c.args.pages.now);
       moments = moments_hold (g.D.Device.history c.args.device.now) (g.D.Device.history c.commit.new.device) new old.events m n before after changed.was changed.will (c.in-Ok.ensures.moments changed.honest changed.agrees);
       sound = λ is. absurd cc;
       full = λ is. absurd cc;

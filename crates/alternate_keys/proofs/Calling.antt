@@ -1,0 +1,66 @@
+-- Calls on pages, one after the other.
+use Rattle.std.proofs.Common.{◌≤◌, ◌⊎◌, ◌∙◌, [], ap, arith}
+use Rattle.station.specs.Calls.{OnlyReads}
+use Rattle.station.specs.declared.device.Device.{Ghosts as Devices}
+use Rattle.station.proofs.Calls.{reads_nothing, reads_then}
+use Rattle.pages.specs.Image.{Map, Volume}
+use Rattle.pages.specs.Pages.{sectors_of, IsOpen}
+use Rattle.pages.specs.declared.page_map.PageMap.{PageMap}
+use Rattle.btree.proofs.Frames.{unchanged_still, unchanged_on}
+use Rattle.alternate_keys.specs.Calls.{LooksAt, Edits}
+use Rattle.alternate_keys.proofs.Still.{same_volume}
+
+reads_blamed : {D : Type 0} (d : Devices D) (A B : Type 0) (a b : D) → (B → A) → OnlyReads d A a b → OnlyReads d B a b
+reads_blamed d A B a b from only = record {
+  honest = only.honest;
+  sectors = only.sectors;
+  failures = record { no_fewer = only.failures.no_fewer; failed = λ blamed. only.failures.failed (from blamed) };
+  state = only.state;
+  history = only.history;
+}
+
+module _ {D : Type 0} (d : Devices D) where
+  pub looks_nowhere : (p : PageMap) (a : D) → IsOpen p → LooksAt d ⊥ p a p a
+  looks_nowhere p a is = record { only = reads_nothing d a; unchanged = unchanged_still p; agrees = λ honest agrees. agrees; is_open = is }
+
+  pub looks_blamed : (A B : Type 0) (p q : PageMap) (a b : D) → (B → A) → LooksAt d A p a q b → LooksAt d B p a q b
+  looks_blamed A B p q a b from looks = record { only = reads_blamed d A B a b from looks.only; unchanged = looks.unchanged; agrees = looks.agrees; is_open = looks.is_open }
+
+  pub looks_then : (A B C : Type 0) (p q r : PageMap) (a b c : D) → (C → A ⊎ B) → LooksAt d A p a q b → LooksAt d B q b r c → LooksAt d C p a r c
+  looks_then A B C p q r a b c which first second = record {
+    only = reads_then d A B C a b c which first.only second.only;
+    unchanged = unchanged_on p q r first.unchanged second.unchanged;
+    agrees = λ honest agrees. second.agrees (first.only.honest.0 honest) (first.agrees honest agrees);
+    is_open = second.is_open;
+  }
+
+  -- a call that only reads changes nothing
+  pub looks_edits : (A : Type 0) (p q : PageMap) (a b : D) → LooksAt d A p a q b → Edits d A p a q b
+  looks_edits A p q a b looks = record {
+    only = looks.only;
+    committed = looks.unchanged.committed;
+    catalog = ap (λ (m : Map). m.catalog) (looks.unchanged.map []);
+    agrees = looks.agrees;
+    is_open = looks.is_open;
+  }
+
+  pub edits_nothing : (p : PageMap) (a : D) → IsOpen p → Edits d ⊥ p a p a
+  edits_nothing p a is = looks_edits ⊥ p p a a (looks_nowhere p a is)
+
+  pub edits_blamed : (A B : Type 0) (p q : PageMap) (a b : D) → (B → A) → Edits d A p a q b → Edits d B p a q b
+  edits_blamed A B p q a b from edits = record { only = reads_blamed d A B a b from edits.only; committed = edits.committed; catalog = edits.catalog; agrees = edits.agrees; is_open = edits.is_open }
+
+  pub edits_then : (A B C : Type 0) (p q r : PageMap) (a b c : D) → (C → A ⊎ B) → Edits d A p a q b → Edits d B q b r c → Edits d C p a r c
+  edits_then A B C p q r a b c which first second = record {
+    only = reads_then d A B C a b c which first.only second.only;
+    committed = record { volume = second.committed.volume ∙ first.committed.volume; spent = second.committed.spent ∙ first.committed.spent };
+    catalog = second.catalog ∙ first.catalog;
+    agrees = λ honest agrees. second.agrees (first.only.honest.0 honest) (first.agrees honest agrees);
+    is_open = second.is_open;
+  }
+
+  pub sectors_kept : (A : Type 0) (p q : PageMap) (a b : D) → Edits d A p a q b → sectors_of p ≤ d.sectors a → sectors_of q ≤ d.sectors b
+  sectors_kept A p q a b edits fits =
+      let same = ap (λ (v : Volume). v.root.sectors) (same_volume p q edits.committed) in
+      let many = edits.only.sectors in
+      omega (arith, same, many, fits)

@@ -1,0 +1,107 @@
+-- A new row's pairs come to the trees of the alternate keys, one after the other.
+use Rattle.std.proofs.Common.{◌≡◌, ◌<◌, ◌+◌, ◌++◌, ⊎_elim, ◌⊎◌, inl, inr, ℕ, zero, suc, List, [], ◌∷◌, length, refl, sym, ap, subst, ◌∙◌, append_assoc, arith}
+use Rattle.std.specs.Prelude.{drop, slice_index_or, Option}
+use Rattle.std.proofs.lemmas.List.{length-append}
+use Rattle.station.specs.Disk.{Sector}
+use Rattle.btree.specs.Rooted.{Rooted}
+use Rattle.btree.specs.Entries.{Entry, entries_of, with_entry}
+use Rattle.records.specs.declared.key.KeyOfReference.TheVariants.{Alternate}
+use Rattle.records.specs.Rows.{Row}
+use Rattle.records.specs.Changes.{with_row}
+use Rattle.records.specs.Files.{File}
+use Rattle.file_trees.specs.Trees.{entry_under, layout_under, AreOf}
+use Rattle.file_trees.specs.Forest.{Planted, IsForest}
+use Rattle.file_trees.specs.Grows.{StandsAmong}
+use Rattle.file_trees.specs.Volume.{IsIndex, no_tree, planted}
+use Rattle.file_trees.proofs.Comes.{pair_comes}
+use Rattle.alternate_keys.specs.NewRow.{file_with}
+use Rattle.alternate_keys.specs.Placed.{HasIndexes, Become, listed_tree, roots_of}
+use Rattle.alternate_keys.proofs.Keeping.{same_tree}
+
+rest_of : {X : Type 0} (xs : List X) (k : ℕ) (d : X) → k < length xs → drop k xs ≡ slice_index_or xs k d ∷ drop (k + 1) xs
+rest_of [] k d low = absurd (omega (arith, low))
+rest_of (x ∷ xs) zero d low = refl
+rest_of (x ∷ xs) (suc k) d low = rest_of xs k d (omega (arith, low)) ∙ ap (λ n. slice_index_or xs k d ∷ drop n (x ∷ xs)) (let e : suc (k + 1) ≡ suc k + 1 = omega arith in e)
+
+at_first : {X : Type 0} (xs : List X) (x d : X) (k : ℕ) → k < length xs → slice_index_or (xs ++ x ∷ []) k d ≡ slice_index_or xs k d
+at_first [] x d k low = absurd (omega (arith, low))
+at_first (y ∷ xs) x d zero low = refl
+at_first (y ∷ xs) x d (suc k) low = at_first xs x d k (omega (arith, low))
+
+own_end : {X : Type 0} (x d : X) (ys : List X) → slice_index_or (ys ++ x ∷ []) (length ys) d ≡ x
+own_end x d [] = refl
+own_end x d (y ∷ ys) = own_end x d ys
+
+at_end : {X : Type 0} (xs : List X) (x d : X) (k : ℕ) → k ≡ length xs → slice_index_or (xs ++ x ∷ []) k d ≡ x
+at_end xs x d k is = ap (λ n. slice_index_or (xs ++ x ∷ []) n d) is ∙ own_end x d xs
+
+below_or_at : (k i : ℕ) → k < suc i → (k < i) ⊎ (k ≡ i)
+below_or_at zero zero less = inr refl
+below_or_at zero (suc i) less = inl (omega arith)
+below_or_at (suc k) zero less = absurd (omega (arith, less))
+below_or_at (suc k) (suc i) less = ⊎_elim (λ low. inl (omega (arith, low))) (λ is. inr (ap (λ n. suc n) is)) (below_or_at k i (omega (arith, less)))
+
+roots_more : (trees : List Planted) (tree : Planted) → roots_of (trees ++ tree ∷ []) ≡ roots_of trees ++ tree.tree.root ∷ []
+roots_more [] tree = refl
+roots_more (t ∷ trees) tree = ap (λ (l : List ℕ). t.tree.root ∷ l) (roots_more trees tree)
+
+pub roots_count : (trees : List Planted) → length (roots_of trees) ≡ length trees
+roots_count [] = refl
+roots_count (t ∷ trees) = ap (λ (n : ℕ). suc n) (roots_count trees)
+
+-- the next tree stands among the others
+pub stands_next : (held new : File) (before pages : List (Option Sector)) (left right trees : List Planted) (listing : List ℕ) (i : ℕ) (roots : List ℕ) → HasIndexes held before left right trees listing →
+    (become : Become new pages left right trees i roots) → i < length held.spec.alternates → (tree : Rooted) → tree ≡ listed_tree held.spec i listing →
+    StandsAmong pages (left ++ become.done) (drop (i + 1) trees ++ right) tree (entries_of tree.layout (slice_index_or trees i no_tree).levels)
+stands_next held new before pages left right trees listing i roots has become low tree is =
+    let t : Planted = slice_index_or trees i no_tree in
+    let count = has.count in
+    let index = has.indexes i low in
+    let same : t.tree ≡ tree = same_tree t.tree (listed_tree held.spec i listing) index.layout (has.roots i low) ∙ sym is in
+    let own : t ≡ planted tree t.levels = ap (λ (r : Rooted). planted r t.levels) same in
+    let rest : drop i trees ++ right ≡ planted tree t.levels ∷ (drop (i + 1) trees ++ right) = ap (λ (l : List Planted). l ++ right) (rest_of trees i no_tree (omega (arith, count, low))) ∙ ap (λ (x : Planted). x ∷ (drop (i + 1) trees ++ right)) own in
+    let parted : left ++ (become.done ++ (drop i trees ++ right)) ≡ (left ++ become.done) ++ (planted tree t.levels ∷ (drop (i + 1) trees ++ right)) =
+    ap (λ (l : List Planted). left ++ (become.done ++ l)) rest ∙ sym (append_assoc left become.done (planted tree t.levels ∷ (drop (i + 1) trees ++ right))) in
+    record { levels = t.levels; forest = subst (λ (ts : List Planted). IsForest pages ts) parted become.forest; listed = refl }
+
+index_with : (held : File) (row : Row) (i : ℕ) (tree : Rooted) (entries : List Entry) (new : Planted) → AreOf held.spec (Alternate i) held.rows entries → new.tree.layout ≡ layout_under held.spec (Alternate i) →
+    entries_of new.tree.layout new.levels ≡ with_entry entries (entry_under held.spec (Alternate i) row) → IsIndex (file_with row held) i new
+index_with held row i tree entries new are layout listed = record {
+  layout = layout;
+  pairs = subst (λ (es : List Entry). AreOf held.spec (Alternate i) (with_row held.spec.organization row held.rows) es) (sym listed) (pair_comes held.spec (Alternate i) held.rows entries row are);
+}
+
+-- and has become another
+pub become_next : (held : File) (row : Row) (before pages after : List (Option Sector)) (left right trees : List Planted) (listing : List ℕ) (i : ℕ) (roots : List ℕ) → HasIndexes held before left right trees listing →
+    (become : Become (file_with row held) pages left right trees i roots) → i < length held.spec.alternates → (tree new : Rooted) → tree ≡ listed_tree held.spec i listing → new.layout ≡ tree.layout →
+    StandsAmong after (left ++ become.done) (drop (i + 1) trees ++ right) new (with_entry (entries_of tree.layout (slice_index_or trees i no_tree).levels) (entry_under held.spec (Alternate i) row)) →
+    Become (file_with row held) after left right trees (i + 1) (roots ++ new.root ∷ [])
+become_next held row before pages after left right trees listing i roots has become low tree new is layout stands =
+    let t : Planted = slice_index_or trees i no_tree in
+    let x : Planted = planted new stands.levels in
+    let index = has.indexes i low in
+    let same : tree ≡ t.tree = is ∙ sym (same_tree t.tree (listed_tree held.spec i listing) index.layout (has.roots i low)) in
+    let are : AreOf held.spec (Alternate i) held.rows (entries_of tree.layout t.levels) =
+    subst (λ (r : Rooted). AreOf held.spec (Alternate i) held.rows (entries_of r.layout t.levels)) (sym same) index.pairs in
+    let own : IsIndex (file_with row held) i x = index_with held row i tree (entries_of tree.layout t.levels) x are (layout ∙ ap (λ (r : Rooted). r.layout) is) stands.listed in
+    let count = become.count in
+    let many = length-append become.done (x ∷ []) in
+    let parted : (left ++ become.done) ++ (x ∷ (drop (i + 1) trees ++ right)) ≡ left ++ ((become.done ++ x ∷ []) ++ (drop (i + 1) trees ++ right)) =
+    append_assoc left become.done (x ∷ (drop (i + 1) trees ++ right)) ∙ ap (λ (l : List Planted). left ++ l) (sym (append_assoc become.done (x ∷ []) (drop (i + 1) trees ++ right))) in
+    record {
+      done = become.done ++ x ∷ [];
+      count = omega (arith, count, many);
+      forest = subst (λ (ts : List Planted). IsForest after ts) parted stands.forest;
+      indexes = λ k less. by k (cases k less) become.indexes become.count own;
+      roots_are = roots_more become.done x ∙ ap (λ (l : List ℕ). l ++ new.root ∷ []) become.roots_are;
+    }
+  where
+    cases : (k : ℕ) → k < i + 1 → (k < i) ⊎ (k ≡ i)
+    cases k less = below_or_at k i (omega (arith, less))
+
+    by : (k : ℕ) → (k < i) ⊎ (k ≡ i) → ((k : ℕ) → k < i → IsIndex (file_with row held) k (slice_index_or become.done k no_tree)) → length become.done ≡ i → IsIndex (file_with row held) i (planted new stands.levels) →
+        IsIndex (file_with row held) k (slice_index_or (become.done ++ planted new stands.levels ∷ []) k no_tree)
+    by k (inl less) all count own = subst (λ (p : Planted). IsIndex (file_with row held) k p) (sym (at_first become.done (planted new stands.levels) no_tree k (omega (arith, less, count)))) (all k less)
+    by k (inr is) all count own =
+        subst (λ (p : Planted). IsIndex (file_with row held) k p) (sym (at_end become.done (planted new stands.levels) no_tree k (is ∙ sym count)))
+        (subst (λ (n : ℕ). IsIndex (file_with row held) n (planted new stands.levels)) (sym is) own)

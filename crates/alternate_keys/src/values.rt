@@ -1,0 +1,97 @@
+//! Which values of a new record are there already.
+ghost use Rattle.std.specs.Prelude.{◌≡◌, ◌≤◌, ◌&&◌, ◌||◌, not, true, List, Err, length, if◌then◌else◌, slice_index_or, IfOk, IfErr};
+ghost use Rattle.pages.specs.Pages.{is_spent, sectors_of, IsOpen};
+ghost use Rattle.btree.specs.Calls.{Agreed, pages_on};
+ghost use Rattle.records.specs.Rows.{Row, no_key};
+ghost use Rattle.records.specs.Changes.{repeats, is_taken, is_duplicate, done};
+ghost use Rattle.records.specs.Stores.{spec_of, IsKey};
+ghost use Rattle.alternate_keys.specs.Calls.{LooksAt};
+ghost use Rattle.alternate_keys.specs.Faults.{IsReadFault};
+ghost use Rattle.alternate_keys.specs.Placed.{HasAllPairs, listed_tree};
+ghost use Rattle.alternate_keys.specs.Seen.{HasPairs};
+
+use crate::file_tree::file_tree;
+use crate::repeats::is_value_there;
+use crate::row_bytes::part_of;
+use pages::PageMap;
+use records::{FileSpec, KeyOfReference, Outcome, StoreFault};
+use station::Device;
+use std::alloc::Global;
+
+/// Whether a row has the value that a record has of an alternate key.
+pub(crate) fn is_repeated<D: Device>(
+    alloc: Global,
+    pages: &mut PageMap,
+    device: &mut D,
+    file: &FileSpec,
+    key: u8,
+    listing: &[u8],
+    bytes: &[u8],
+) -> Result<bool, StoreFault>
+    requires open { IsOpen pages.old }
+    requires sectors { sectors_of pages.old ≤ D.sectors device.old }
+    requires key { IsKey (spec_of file.now) (KeyOfReference.Alternate key) }
+    requires listing { length listing.now ≡ 83 }
+    requires bytes { length bytes.now ≡ file.now.record_length }
+    ensures looks { LooksAt D.Device (result ≡ Err StoreFault.Device) pages.old device.old pages.new device.new }
+    ensures repeated { Agreed D.Device pages.old device.old ((rows : List Row) → HasPairs (spec_of file.now) (KeyOfReference.Alternate key) (pages_on D.Device pages.old device.old) rows (listed_tree (spec_of file.now) key listing.now) →
+        IfOk result (λ repeated. repeated ≡ repeats rows bytes.now (slice_index_or (spec_of file.now).alternates key no_key))) }
+    ensures damaged { Agreed D.Device pages.old device.old ((rows : List Row) → HasPairs (spec_of file.now) (KeyOfReference.Alternate key) (pages_on D.Device pages.old device.old) rows (listed_tree (spec_of file.now) key listing.now) →
+        result ≡ Err StoreFault.Damaged → ⊥) }
+    ensures spent { result ≡ Err StoreFault.Spent → is_spent pages.old ≡ true }
+    ensures cause { IfErr result IsReadFault }
+{
+    let tree = file_tree(alloc, file, KeyOfReference::Alternate(key), listing);
+    let place = file.key_place(KeyOfReference::Alternate(key));
+    is_value_there(alloc, &tree, pages, device, part_of(place, bytes))
+}
+
+/// Whether a value that is there already bars a record.
+fn is_barred(duplicates: bool, repeated: bool) -> bool
+    ensures { result ≡ (not duplicates && repeated) }
+{
+    if duplicates { false } else { repeated }
+}
+
+/// Whether one of two is so.
+fn either(one: bool, two: bool) -> bool
+    ensures { result ≡ (one || two) }
+{
+    if one { true } else { two }
+}
+
+/// What a new record comes to by its values of the alternate keys: `Taken` where a row has its value of one without DUPLICATES,
+/// `Duplicate` where a row has its value of one with them, or `Done`.
+pub(crate) fn look_at_values<D: Device>(
+    alloc: Global,
+    pages: &mut PageMap,
+    device: &mut D,
+    file: &FileSpec,
+    listing: &[u8],
+    bytes: &[u8],
+) -> Result<Outcome, StoreFault>
+    requires open { IsOpen pages.old }
+    requires sectors { sectors_of pages.old ≤ D.sectors device.old }
+    requires listing { length listing.now ≡ 83 }
+    requires bytes { length bytes.now ≡ file.now.record_length }
+    ensures looks { LooksAt D.Device (result ≡ Err StoreFault.Device) pages.old device.old pages.new device.new }
+    ensures told { Agreed D.Device pages.old device.old ((rows : List Row) → HasAllPairs (spec_of file.now) (pages_on D.Device pages.old device.old) rows listing.now →
+        IfOk result (λ outcome. outcome ≡ (if is_taken (spec_of file.now).alternates rows bytes.now then Outcome.Taken else done (is_duplicate (spec_of file.now).alternates rows bytes.now)))) }
+    ensures damaged { Agreed D.Device pages.old device.old ((rows : List Row) → HasAllPairs (spec_of file.now) (pages_on D.Device pages.old device.old) rows listing.now → result ≡ Err StoreFault.Damaged → ⊥) }
+    ensures spent { result ≡ Err StoreFault.Spent → is_spent pages.old ≡ true }
+    ensures cause { IfErr result IsReadFault }
+{
+    let count = file.alternates.len() as u8;
+    let mut duplicate = false;
+    for key in 0..count {
+        let repeated = is_repeated(alloc, pages, device, file, key, listing, bytes)?;
+        if is_barred(file.alternates[key as usize].duplicates, repeated) {
+            return Ok(Outcome::Taken);
+        }
+        duplicate = either(duplicate, repeated);
+    }
+    if duplicate {
+        return Ok(Outcome::Duplicate);
+    }
+    Ok(Outcome::Done)
+}
