@@ -257,8 +257,8 @@ fn hello_image(alloc: Global) -> Result<Vec<u8>, AllocError> {
     image.extend_from_slice(b"HELLO")?;
     put_counts(&mut image, &[1])?;
     image.extend_from_slice(b"\n")?;
-    // one code paragraph that starts at 0, and eight instructions
-    put_counts(&mut image, &[1, 0, 8])?;
+    // no inspections, one code paragraph that starts at 0, and eight instructions
+    put_counts(&mut image, &[0, 1, 0, 8])?;
     image.extend_from_slice(&[1, 0, 0, 0, 5])?;
     image.extend_from_slice(&[24, 0, 0, 0, 0])?;
     image.extend_from_slice(&[24, 0, 0, 0, 1, 2])?;
