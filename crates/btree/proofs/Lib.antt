@@ -6,6 +6,8 @@ pub mod One
 pub mod Found
 pub mod Descents
 pub mod Searches
+pub mod Answering
+pub mod Descending
 pub mod Firsts
 pub mod TreeNodes
 pub mod Frames
@@ -42,6 +44,5 @@ pub mod Removing
 pub mod Clearing
 pub mod Stays
 pub mod There
-pub mod Lengths
 pub mod Stepping
 mod Examples

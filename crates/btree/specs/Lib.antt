@@ -18,3 +18,4 @@ pub mod Puts
 pub mod Removals
 pub mod Clears
 pub mod Steps
+pub mod Sought

@@ -35,14 +35,15 @@ pub(crate) struct Descent {
 
 /// The page of the leaf that a key leads to, with the steps on the way, and the first key to the right of the leaf.
 #[derive(Drop)]
-struct Way {
-    path: SmallVec<PathStep, LEVELS>,
-    page: u32,
-    right: Option<Key>,
+pub(crate) struct Way {
+    pub path: SmallVec<PathStep, LEVELS>,
+    pub page: u32,
+    pub right: Option<Key>,
 }
 
-/// Goes down from a page to the leaf where the key belongs. Refusals are those of `descend`.
-fn follow<D: Device>(
+/// Goes down from a page to the leaf where the key belongs. `Damaged` tells that the page is no tree's root. `Memory` comes only
+/// where keys are longer than 128 bytes.
+pub(crate) fn follow<D: Device>(
     alloc: Global,
     pages: &mut PageMap,
     device: &mut D,
@@ -83,8 +84,7 @@ fn follow<D: Device>(
     Err(PagesError::Damaged)
 }
 
-/// Goes down from a page to the leaf where the key belongs. `Damaged` tells that the page is no tree's root. `Memory` comes only
-/// where keys are longer than 128 bytes.
+/// Goes down from a page to the leaf where the key belongs, and reads it. Refusals are those of `follow`.
 pub(crate) fn descend<D: Device>(
     alloc: Global,
     pages: &mut PageMap,

@@ -22,6 +22,7 @@ mod remove;
 mod replace;
 mod shrink;
 mod shrink_page;
+mod sought;
 mod split_node;
 mod split_result;
 mod step;

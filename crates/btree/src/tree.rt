@@ -1,23 +1,25 @@
 //! A tree, and what is read of it.
-ghost use Rattle.std.specs.Prelude.{◌≡◌, ◌≤◌, ◌++◌, Err, Some, None, ℕ, List, drop, IfOk, IfErr, IfSome};
+ghost use Rattle.std.specs.Prelude.{◌≡◌, ◌≤◌, ◌++◌, ◌⊎◌, Err, Some, None, ℕ, List, IfOk, IfErr, IfSome};
 ghost use Rattle.station.specs.Calls.{OnlyReads};
 ghost use Rattle.pages.specs.Pages.{sectors_of, Agrees, IsOpen, Unchanged};
 ghost use Rattle.tree_pages.specs.RowLayouts.{IsRowLayout};
-ghost use Rattle.tree_pages.specs.Node.{IsNode};
 ghost use Rattle.btree.specs.Tree.{TreeNode, IsTree, rows_in_order};
 ghost use Rattle.btree.specs.Path.{first_key};
 ghost use Rattle.btree.specs.Entries.{HasLengths, entry_with, first_from, first_after, first_entry, listed};
 ghost use Rattle.btree.specs.Reading.{IsRefusal};
+ghost use Rattle.btree.specs.Sought.{sought_in};
 ghost use Rattle.btree.specs.Calls.{Agreed, OnNoTree, OnPages, AnswersEntry};
 ghost use Rattle.btree.specs.Told.{TellsDamaged, OnlyIfSpent, ExactlyIfSpentAt};
 
-use crate::descend::{Descent, descend};
+use crate::descend::follow;
 use crate::entry::Entry;
+use crate::key::Key;
+use crate::sought::{Sought, entry_at, search};
 use pages::{PageMap, PagesError};
 use station::Device;
 use std::alloc::Global;
 use std::marker::Model;
-use tree_pages::{Kind, MOST_ROW_BYTES, RowLayout};
+use tree_pages::{MOST_ROW_BYTES, RowLayout};
 
 /// A key of zeros, which is below each other one.
 const ZEROS: [u8; MOST_ROW_BYTES] = [0; MOST_ROW_BYTES];
@@ -94,11 +96,20 @@ impl Tree {
         if self.root == 0 {
             return Ok(None);
         }
-        let descent = descend(self.alloc, pages, device, self.layout, self.root, key)?;
-        match descent.leaf.find(key) {
-            Ok(place) => Ok(Some(Entry::at(descent.leaf, place))),
-            Err(_) => Ok(None),
+        let mut entry = Entry::blank();
+        let found = search(
+            pages,
+            device,
+            self.layout,
+            self.root,
+            key,
+            Sought::With,
+            &mut entry,
+        )?;
+        if found {
+            return Ok(Some(entry));
         }
+        Ok(None)
     }
 
     /// The first entry from a key on. Refusals are those of `get`.
@@ -120,15 +131,7 @@ impl Tree {
         ensures lengths { IfOk result (λ entry. IfSome entry (HasLengths self.now.layout)) }
         ensures cause { IfErr result (IsRefusal self.now.layout) }
     {
-        if self.root == 0 {
-            return Ok(None);
-        }
-        let descent = descend(self.alloc, pages, device, self.layout, self.root, key)?;
-        let place = match descent.leaf.find(key) {
-            Ok(place) => place,
-            Err(place) => place,
-        };
-        self.entry_from(pages, device, descent, place)
+        self.search_on(pages, device, key, Sought::From)
     }
 
     /// The first entry after a key, whether or not that key is there. Refusals are those of `get`.
@@ -150,15 +153,7 @@ impl Tree {
         ensures lengths { IfOk result (λ entry. IfSome entry (HasLengths self.now.layout)) }
         ensures cause { IfErr result (IsRefusal self.now.layout) }
     {
-        if self.root == 0 {
-            return Ok(None);
-        }
-        let descent = descend(self.alloc, pages, device, self.layout, self.root, key)?;
-        let place = match descent.leaf.find(key) {
-            Ok(place) => place + 1,
-            Err(place) => place,
-        };
-        self.entry_from(pages, device, descent, place)
+        self.search_on(pages, device, key, Sought::After)
     }
 
     /// The first entry. Refusals are those of `get`.
@@ -182,34 +177,102 @@ impl Tree {
         self.seek(pages, device, &ZEROS[..self.layout.key_length])
     }
 
-    /// The entry from a place of the leaf on that a descent ended at.
-    fn entry_from<D: Device>(
+    /// The entry that is sought by a key, in the leaf where the key belongs or behind it. Refusals are those of `get`.
+    fn search_on<D: Device>(
         &self,
         pages: &mut PageMap,
         device: &mut D,
-        descent: Descent,
-        place: usize,
+        key: &[u8],
+        sought: Sought,
     ) -> Result<Option<Entry>, PagesError>
         requires open { IsOpen pages.old }
         requires sectors { sectors_of pages.old ≤ D.sectors device.old }
-        requires layout { descent.leaf.layout ≡ self.now.layout }
-        requires leaf { IsNode descent.leaf × (descent.leaf.kind ≡ Kind.Leaf) }
+        requires sought { (sought ≡ Sought.From) ⊎ (sought ≡ Sought.After) }
+        ensures only { OnlyReads D.Device (result ≡ Err PagesError.Device) device.old device.new }
+        ensures unchanged { Unchanged pages.old pages.new }
+        ensures agrees { Agreed D.Device pages.old device.old (Agrees pages.new (D.state device.new).disk) }
+        ensures open { IsOpen pages.new }
+        ensures entry { AnswersEntry D.Device self.now pages.old device.old (λ entries. sought_in sought entries key.now) result }
+        ensures damaged { OnNoTree D.Device self.now.layout self.now.root pages.old device.old (TellsDamaged result) }
+        ensures spent { ExactlyIfSpentAt self.now.root pages.old result }
+        ensures lengths { IfOk result (λ entry. IfSome entry (HasLengths self.now.layout)) }
+        ensures cause { IfErr result (IsRefusal self.now.layout) }
+    {
+        if self.root == 0 {
+            return Ok(None);
+        }
+        let mut entry = Entry::blank();
+        let found = search(
+            pages,
+            device,
+            self.layout,
+            self.root,
+            key,
+            sought,
+            &mut entry,
+        )?;
+        if found {
+            return Ok(Some(entry));
+        }
+        self.search_right(pages, device, key, sought)
+    }
+
+    /// The same, by a way that keeps what stands to the right of its leaf. Refusals are those of `get`.
+    #[cold]
+    #[inline(never)]
+    fn search_right<D: Device>(
+        &self,
+        pages: &mut PageMap,
+        device: &mut D,
+        key: &[u8],
+        sought: Sought,
+    ) -> Result<Option<Entry>, PagesError>
+        requires open { IsOpen pages.old }
+        requires sectors { sectors_of pages.old ≤ D.sectors device.old }
+        requires sought { (sought ≡ Sought.From) ⊎ (sought ≡ Sought.After) }
+        ensures only { OnlyReads D.Device (result ≡ Err PagesError.Device) device.old device.new }
+        ensures unchanged { Unchanged pages.old pages.new }
+        ensures agrees { Agreed D.Device pages.old device.old (Agrees pages.new (D.state device.new).disk) }
+        ensures open { IsOpen pages.new }
+        ensures entry { AnswersEntry D.Device self.now pages.old device.old (λ entries. sought_in sought entries key.now) result }
+        ensures damaged { OnNoTree D.Device self.now.layout self.now.root pages.old device.old (TellsDamaged result) }
+        ensures spent { ExactlyIfSpentAt self.now.root pages.old result }
+        ensures lengths { IfOk result (λ entry. IfSome entry (HasLengths self.now.layout)) }
+        ensures cause { IfErr result (IsRefusal self.now.layout) }
+    {
+        if self.root == 0 {
+            return Ok(None);
+        }
+        let way = follow(self.alloc, pages, device, self.layout, self.root, key)?;
+        match entry_at(pages, device, self.layout, way.page, key, sought)? {
+            Some(found) => Ok(Some(found)),
+            None => self.right_entry(pages, device, way.right),
+        }
+    }
+
+    /// The entry to the right of a leaf: that of the first key there, if there is one.
+    #[cold]
+    #[inline(never)]
+    fn right_entry<D: Device>(
+        &self,
+        pages: &mut PageMap,
+        device: &mut D,
+        right: Option<Key>,
+    ) -> Result<Option<Entry>, PagesError>
+        requires open { IsOpen pages.old }
+        requires sectors { sectors_of pages.old ≤ D.sectors device.old }
         ensures only { OnlyReads D.Device (result ≡ Err PagesError.Device) device.old device.new }
         ensures unchanged { Unchanged pages.old pages.new }
         ensures agrees { Agreed D.Device pages.old device.old (Agrees pages.new (D.state device.new).disk) }
         ensures open { IsOpen pages.new }
         ensures entry { OnPages D.Device pages.old device.old
-            (λ before. (levels : List (List TreeNode)) → IsTree self.now.layout before self.now.root levels → (before after : List (List ℕ)) → rows_in_order levels ≡ before ++ (descent.leaf.rows ++ after) → descent.right ≡ first_key self.now.layout after → IfOk result (λ entry. entry ≡ first_entry (listed self.now.layout (drop place descent.leaf.rows ++ after)))) }
+            (λ before. (levels : List (List TreeNode)) → IsTree self.now.layout before self.now.root levels → (passed after : List (List ℕ)) → rows_in_order levels ≡ passed ++ after → right ≡ first_key self.now.layout after → IfOk result (λ entry. entry ≡ first_entry (listed self.now.layout after))) }
         ensures damaged { OnPages D.Device pages.old device.old
-            (λ before. result ≡ Err PagesError.Damaged → (levels : List (List TreeNode)) → IsTree self.now.layout before self.now.root levels → (before after : List (List ℕ)) → rows_in_order levels ≡ before ++ (descent.leaf.rows ++ after) → descent.right ≡ first_key self.now.layout after → ⊥) }
+            (λ before. result ≡ Err PagesError.Damaged → (levels : List (List TreeNode)) → IsTree self.now.layout before self.now.root levels → (passed after : List (List ℕ)) → rows_in_order levels ≡ passed ++ after → right ≡ first_key self.now.layout after → ⊥) }
         ensures spent { OnlyIfSpent pages.old result }
         ensures lengths { IfOk result (λ entry. IfSome entry (HasLengths self.now.layout)) }
         ensures cause { IfErr result (IsRefusal self.now.layout) }
     {
-        let Descent { leaf, right, .. } = descent;
-        if place < leaf.count() {
-            return Ok(Some(Entry::at(leaf, place)));
-        }
         let right = match right {
             Some(right) => right,
             None => return Ok(None),

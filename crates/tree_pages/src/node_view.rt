@@ -88,7 +88,7 @@ impl<'a> NodeView<'a> {
     }
 
     /// The row at this place.
-    fn row(&self, place: usize) -> &'a [u8]
+    pub fn row(&self, place: usize) -> &'a [u8]
         requires { place < length self.now.rows }
         ensures row { result.now ≡ slice_index_or self.now.rows place [] }
         ensures length { length result.now ≡ row_length self.now.layout self.now.kind }

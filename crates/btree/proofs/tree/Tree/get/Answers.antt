@@ -1,36 +1,45 @@
-use Rattle.std.proofs.Common.{◌≡◌, List, ap, subst, ◌∙◌}
-use Rattle.std.specs.Prelude.{Option, Some}
+use Rattle.std.proofs.Common.{◌≡◌, Bool, true, false, List, Err, refl, sym, ap, subst, ◌∙◌}
+use Rattle.std.specs.Prelude.{Option}
+use Rattle.std.proofs.lemmas.Result.{err_from_is_err_and}
 use Rattle.station.specs.Disk.{Sector}
 use Rattle.pages.specs.Pages.{map_now}
+use Rattle.pages.specs.declared.error.PagesError.TheVariants.{Damaged}
+use Rattle.btree.specs.declared.sought.Sought.TheVariants.{With}
 use Rattle.btree.specs.Tree.{IsTree}
-use Rattle.btree.specs.Path.{EndsAt}
 use Rattle.btree.specs.Rooted.{Rooted}
+use Rattle.btree.specs.Entries.{entries_of}
+use Rattle.btree.specs.Sought.{Finds}
 use Rattle.btree.proofs.Frames.{holds_tree}
-use Rattle.btree.proofs.Searches.{leaf_among, got_in, got_none_in}
 use Rattle.btree.proofs.tree.Tree.get.Goals as goal
 
-pub returns-in-Ok-clause-entry : goal.returns-in-Ok-clause-entry
-returns-in-Ok-clause-entry g c = λ honest agrees levels holds.
+pub returns-in_err-found-clause-damaged : goal.returns-in_err-found-clause-damaged
+returns-in_err-found-clause-damaged g c = λ honest agrees told levels holds.
+    let from = err_from_is_err_and c.from_residual.result c.from_residual.ensures.1 in
+    let damaged : c.search.result ≡ Err Damaged = cc in
     let view : Rooted = c.args.self.now in
     let root_is : c.self.inside.root ≡ view.root = ap (λ (t : Rooted). t.root) c.self.view_is in
-    let layout_is : c.self.inside.layout ≡ view.layout = ap (λ (t : Rooted). t.layout) c.self.view_is in
     let pages : List (Option Sector) = (map_now c.args.pages.now (g.D.Device.state c.args.device.now).disk.present).pages in
     let tree : IsTree view.layout pages view.root levels = holds_tree view.layout pages view.root levels holds (λ none. c.if-self-eq0.false (root_is ∙ none)) in
-    let descent = c.in_ok-descent.descent in
-    let W : Rooted → Type 0 = λ t. IsTree t.layout pages t.root levels → EndsAt t.layout c.args.key.now levels descent.path.items descent.page descent.leaf.rows descent.right in
-    let ends : EndsAt view.layout c.args.key.now levels descent.path.items descent.page descent.leaf.rows descent.right = subst W c.self.view_is (c.in_ok-descent.ensures.way honest agrees levels) tree in
-    let leaf = leaf_among view.layout pages view.root c.args.key.now levels descent.path.items descent.page descent.leaf.rows descent.right tree ends in
-    ap Some c.at.ensures.is ∙ got_in view.layout descent.leaf.layout c.args.key.now levels descent.leaf.rows descent.right c.in-Ok.place (c.in_ok-descent.ensures.leaf.0 ∙ layout_is) leaf c.in-Ok.ensures.found.0 c.in-Ok.ensures.found.1 c.in-Ok.ensures.around
+    c.search.ensures.damaged honest agrees damaged levels (subst (λ (t : Rooted). IsTree t.layout pages t.root levels) (sym c.self.view_is) tree)
+
+pub returns-then-found-clause-entry : goal.returns-then-found-clause-entry
+returns-then-found-clause-entry g c = λ honest agrees levels holds.
+    let view : Rooted = c.args.self.now in
+    let root_is : c.self.inside.root ≡ view.root = ap (λ (t : Rooted). t.root) c.self.view_is in
+    let pages : List (Option Sector) = (map_now c.args.pages.now (g.D.Device.state c.args.device.now).disk.present).pages in
+    let tree : IsTree view.layout pages view.root levels = holds_tree view.layout pages view.root levels holds (λ none. c.if-self-eq0.false (root_is ∙ none)) in
+    let F : Bool → Rooted → Type 0 = λ b t. IsTree t.layout pages t.root levels → Finds (entries_of t.layout levels) c.args.key.now With c.search.new.entry b in
+    let finds : F c.in_ok-found.found view = subst (F c.in_ok-found.found) c.self.view_is (c.in_ok-found.ensures.finds honest agrees levels) in
+    let here : F true view = subst (λ (b : Bool). F b view) c.if-found.true finds in
+    here tree
 
 pub returns-clause-entry : goal.returns-clause-entry
 returns-clause-entry g c = λ honest agrees levels holds.
     let view : Rooted = c.args.self.now in
     let root_is : c.self.inside.root ≡ view.root = ap (λ (t : Rooted). t.root) c.self.view_is in
-    let layout_is : c.self.inside.layout ≡ view.layout = ap (λ (t : Rooted). t.layout) c.self.view_is in
     let pages : List (Option Sector) = (map_now c.args.pages.now (g.D.Device.state c.args.device.now).disk.present).pages in
     let tree : IsTree view.layout pages view.root levels = holds_tree view.layout pages view.root levels holds (λ none. c.if-self-eq0.false (root_is ∙ none)) in
-    let descent = c.in_ok-descent.descent in
-    let W : Rooted → Type 0 = λ t. IsTree t.layout pages t.root levels → EndsAt t.layout c.args.key.now levels descent.path.items descent.page descent.leaf.rows descent.right in
-    let ends : EndsAt view.layout c.args.key.now levels descent.path.items descent.page descent.leaf.rows descent.right = subst W c.self.view_is (c.in_ok-descent.ensures.way honest agrees levels) tree in
-    let leaf = leaf_among view.layout pages view.root c.args.key.now levels descent.path.items descent.page descent.leaf.rows descent.right tree ends in
-    got_none_in view.layout descent.leaf.layout c.args.key.now levels descent.leaf.rows descent.right c.in-Err.field-0 (c.in_ok-descent.ensures.leaf.0 ∙ layout_is) leaf c.in-Err.ensures.missing c.in-Err.ensures.around
+    let F : Bool → Rooted → Type 0 = λ b t. IsTree t.layout pages t.root levels → Finds (entries_of t.layout levels) c.args.key.now With c.search.new.entry b in
+    let finds : F c.in_ok-found.found view = subst (F c.in_ok-found.found) c.self.view_is (c.in_ok-found.ensures.finds honest agrees levels) in
+    let here : F false view = subst (λ (b : Bool). F b view) c.if-found.false finds in
+    here tree refl

@@ -1,0 +1,51 @@
+use Rattle.std.proofs.Common.{◌≡◌, List, sym, ap, subst, ◌∙◌}
+use Rattle.std.specs.Prelude.{Option, Some, None, slice_index_or, IfOk}
+use Rattle.station.specs.Disk.{Sector}
+use Rattle.pages.specs.Image.{Map}
+use Rattle.pages.specs.Pages.{map_now, page_of}
+use Rattle.btree.specs.Tree.{Stands}
+use Rattle.btree.specs.Sought.{LooksIn, LooksAt}
+use Rattle.btree.proofs.Frames.{unchanged_on}
+use Rattle.btree.proofs.TreeNodes.{spells_none}
+use Rattle.btree.proofs.Stepping.{if_ok}
+use Rattle.btree.proofs.Answering.{looks_there}
+use Rattle.btree.proofs.sought.look_at.Goals as goal
+
+pub returns-in-Some-clause-look : goal.returns-in-Some-clause-look
+returns-in-Some-clause-look g c = λ honest agrees.
+    let present = (g.D.Device.state c.args.device.now).disk.present in
+    let pages : List (Option Sector) = (map_now c.args.pages.now present).pages in
+    let noted : page_of (map_now c.note_use.new.self present) c.args.page ≡ slice_index_or pages c.args.page None = ap (λ (m : Map). page_of m c.args.page) (c.note_use.ensures.unchanged.map present) in
+    let kept = c.note_use.ensures.keeps.agrees (g.D.Device.state c.args.device.now).disk agrees in
+    let bytes = c.in-Some.bytes.now in
+    let here : slice_index_or pages c.args.page None ≡ Some bytes = sym noted ∙ c.in-Some.ensures.page (g.D.Device.state c.args.device.now).disk kept in
+    if_ok (LooksIn c.args.layout bytes c.args.key.now c.args.sought c.look_in.new.entry) (LooksAt c.args.layout pages c.args.page c.args.key.now c.args.sought c.look_in.new.entry) c.look_in.result
+    (λ look looks. looks_there c.args.layout pages c.args.page bytes c.args.key.now c.args.sought c.look_in.new.entry look here looks) c.look_in.ensures.look
+
+pub returns-in-Some-clause-damaged : goal.returns-in-Some-clause-damaged
+returns-in-Some-clause-damaged g c = λ honest agrees is kind node same stands.
+    let present = (g.D.Device.state c.args.device.now).disk.present in
+    let pages : List (Option Sector) = (map_now c.args.pages.now present).pages in
+    let noted : page_of (map_now c.note_use.new.self present) c.args.page ≡ slice_index_or pages c.args.page None = ap (λ (m : Map). page_of m c.args.page) (c.note_use.ensures.unchanged.map present) in
+    let kept = c.note_use.ensures.keeps.agrees (g.D.Device.state c.args.device.now).disk agrees in
+    let bytes = c.in-Some.bytes.now in
+    let here : slice_index_or pages c.args.page None ≡ Some bytes = sym noted ∙ c.in-Some.ensures.page (g.D.Device.state c.args.device.now).disk kept in
+    spells_none c.args.layout pages c.args.page bytes here (c.look_in.ensures.damaged is) kind node same stands
+
+pub returns-clause-unchanged : goal.returns-clause-unchanged
+returns-clause-unchanged g c =
+    unchanged_on c.args.pages.now c.note_use.new.self c.look_read.new.pages c.note_use.ensures.unchanged c.look_read.ensures.unchanged
+
+pub returns-clause-look : goal.returns-clause-look
+returns-clause-look g c = λ honest agrees.
+    let present = (g.D.Device.state c.args.device.now).disk.present in
+    let noted : (map_now c.note_use.new.self present).pages ≡ (map_now c.args.pages.now present).pages = ap (λ (m : Map). m.pages) (c.note_use.ensures.unchanged.map present) in
+    let kept = c.note_use.ensures.keeps.agrees (g.D.Device.state c.args.device.now).disk agrees in
+    subst (λ (p : List (Option Sector)). IfOk c.look_read.result (LooksAt c.args.layout p c.args.page c.args.key.now c.args.sought c.look_read.new.entry)) noted (c.look_read.ensures.look honest kept)
+
+pub returns-clause-damaged : goal.returns-clause-damaged
+returns-clause-damaged g c = λ honest agrees is kind node same stands.
+    let present = (g.D.Device.state c.args.device.now).disk.present in
+    let noted : (map_now c.note_use.new.self present).pages ≡ (map_now c.args.pages.now present).pages = ap (λ (m : Map). m.pages) (c.note_use.ensures.unchanged.map present) in
+    let kept = c.note_use.ensures.keeps.agrees (g.D.Device.state c.args.device.now).disk agrees in
+    c.look_read.ensures.damaged honest kept is kind node same (subst (λ (p : List (Option Sector)). Stands c.args.layout p kind node) (sym noted) stands)

@@ -1,0 +1,217 @@
+//! What a search finds: the entry in the leaf where a key belongs, read where the pages stand.
+ghost use Rattle.std.specs.Prelude.{◌≡◌, ◌≤◌, Err, List, drop, IfOk, IfErr, IfSome, OnErr, true};
+ghost use Rattle.station.specs.Calls.{OnlyReads};
+ghost use Rattle.pages.specs.Pages.{sectors_of, Agrees, IsOpen, Unchanged};
+ghost use Rattle.tree_pages.specs.RowLayouts.{IsRowLayout};
+ghost use Rattle.tree_pages.specs.Keys.{Ascend, keys_of};
+ghost use Rattle.btree.specs.Tree.{TreeNode, IsTree};
+ghost use Rattle.btree.specs.Entries.{HasLengths, listed, entries_of, first_entry};
+ghost use Rattle.btree.specs.Reading.{IsReadRefusal, SpellsNoNode, NoneStands, NoneOfKind, NoTree};
+ghost use Rattle.btree.specs.Sought.{sought_in, AnswersAt, LooksIn, LooksAt, Finds};
+ghost use Rattle.btree.specs.Calls.{Agreed, OnPages};
+ghost use Rattle.btree.specs.Told.{TellsDamaged, ExactlyIfSpent};
+
+use crate::child::child_place;
+use crate::descend::LEVELS;
+use crate::entry::Entry;
+use crate::node::view_node;
+use pages::{PageMap, PagesError};
+use station::Device;
+use tree_pages::{Kind, NodeView, RowLayout};
+
+/// Which entry a search is for.
+#[derive(Clone, Copy, Debug, PartialEq, Eq)]
+pub(crate) enum Sought {
+    /// The entry of the key.
+    With,
+    /// The first entry from the key on.
+    From,
+    /// The first entry after the key.
+    After,
+}
+
+/// What a page answers a search.
+#[derive(Clone, Copy, Debug, PartialEq, Eq)]
+pub(crate) enum Look {
+    /// A leaf that has the entry.
+    Here,
+    /// A leaf that hasn't it.
+    Missing,
+    /// An inner page: the page of the child that the key leads to.
+    Below(u32),
+}
+
+/// From which place on a page the first entry is the one that is sought, or how many rows there are where the page hasn't it.
+fn sought_place(node: &NodeView, key: &[u8], sought: Sought) -> usize
+    ensures { Ascend (keys_of node.now.layout node.now.rows) →
+        sought_in sought (listed node.now.layout node.now.rows) key.now ≡ first_entry (listed node.now.layout (drop result node.now.rows)) }
+{
+    let count = node.count();
+    match node.find(key) {
+        Ok(place) => match sought {
+            Sought::After => place + 1,
+            _ => place,
+        },
+        Err(place) => match sought {
+            Sought::With => count,
+            _ => place,
+        },
+    }
+}
+
+/// What the page that these bytes spell answers. The entry is put into `entry`. `Damaged` tells that they spell no page of a tree.
+fn look_in(
+    bytes: &[u8; 4096],
+    layout: RowLayout,
+    key: &[u8],
+    sought: Sought,
+    entry: &mut Entry,
+) -> Result<Look, PagesError>
+    requires { IsRowLayout layout }
+    ensures look { IfOk result (LooksIn layout bytes.now key.now sought entry.new) }
+    ensures lengths { IfOk result (λ look. look ≡ Look.Here → HasLengths layout entry.new) }
+    ensures damaged { result ≡ Err PagesError.Damaged → SpellsNoNode layout bytes.now }
+    ensures cause { OnErr result (result ≡ Err PagesError.Damaged) }
+{
+    let node = view_node(bytes, layout)?;
+    if node.kind() == Kind::Inner {
+        let place = child_place(&node, key);
+        let page = node.child(place);
+        return Ok(Look::Below(page));
+    }
+    let place = sought_place(&node, key, sought);
+    if place < node.count() {
+        entry.take_row(&node, place);
+        return Ok(Look::Here);
+    }
+    Ok(Look::Missing)
+}
+
+/// What the page of that number answers, read from the device. Refusals are those of `look_at`.
+#[cold]
+#[inline(never)]
+fn look_read<D: Device>(
+    pages: &mut PageMap,
+    device: &mut D,
+    layout: RowLayout,
+    page: u32,
+    key: &[u8],
+    sought: Sought,
+    entry: &mut Entry,
+) -> Result<Look, PagesError>
+    requires open { IsOpen pages.old }
+    requires sectors { sectors_of pages.old ≤ D.sectors device.old }
+    requires layout { IsRowLayout layout }
+    ensures only { OnlyReads D.Device (result ≡ Err PagesError.Device) device.old device.new }
+    ensures unchanged { Unchanged pages.old pages.new }
+    ensures agrees { Agreed D.Device pages.old device.old (Agrees pages.new (D.state device.new).disk) }
+    ensures open { IsOpen pages.new }
+    ensures look { OnPages D.Device pages.old device.old (λ before. IfOk result (LooksAt layout before page key.now sought entry.new)) }
+    ensures lengths { IfOk result (λ look. look ≡ Look.Here → HasLengths layout entry.new) }
+    ensures damaged { OnPages D.Device pages.old device.old (NoneStands layout page (TellsDamaged result)) }
+    ensures spent { ExactlyIfSpent pages.old result }
+    ensures cause { IfErr result IsReadRefusal }
+{
+    match pages.read(device, page)? {
+        Some(bytes) => look_in(&bytes, layout, key, sought, entry),
+        None => Err(PagesError::Damaged),
+    }
+}
+
+/// What the page of that number answers. The entry is put into `entry`. `Damaged` tells that it is no page of a tree.
+fn look_at<D: Device>(
+    pages: &mut PageMap,
+    device: &mut D,
+    layout: RowLayout,
+    page: u32,
+    key: &[u8],
+    sought: Sought,
+    entry: &mut Entry,
+) -> Result<Look, PagesError>
+    requires open { IsOpen pages.old }
+    requires sectors { sectors_of pages.old ≤ D.sectors device.old }
+    requires layout { IsRowLayout layout }
+    ensures only { OnlyReads D.Device (result ≡ Err PagesError.Device) device.old device.new }
+    ensures unchanged { Unchanged pages.old pages.new }
+    ensures agrees { Agreed D.Device pages.old device.old (Agrees pages.new (D.state device.new).disk) }
+    ensures open { IsOpen pages.new }
+    ensures look { OnPages D.Device pages.old device.old (λ before. IfOk result (LooksAt layout before page key.now sought entry.new)) }
+    ensures lengths { IfOk result (λ look. look ≡ Look.Here → HasLengths layout entry.new) }
+    ensures damaged { OnPages D.Device pages.old device.old (NoneStands layout page (TellsDamaged result)) }
+    ensures spent { ExactlyIfSpent pages.old result }
+    ensures cause { IfErr result IsReadRefusal }
+{
+    pages.note_use(page);
+    if let Some(bytes) = pages.view(page) {
+        return look_in(bytes, layout, key, sought, entry);
+    }
+    look_read(pages, device, layout, page, key, sought, entry)
+}
+
+/// The entry that is sought, in the leaf of that page number. `Damaged` tells that the page is no leaf of a tree.
+pub(crate) fn entry_at<D: Device>(
+    pages: &mut PageMap,
+    device: &mut D,
+    layout: RowLayout,
+    page: u32,
+    key: &[u8],
+    sought: Sought,
+) -> Result<Option<Entry>, PagesError>
+    requires open { IsOpen pages.old }
+    requires sectors { sectors_of pages.old ≤ D.sectors device.old }
+    requires layout { IsRowLayout layout }
+    ensures only { OnlyReads D.Device (result ≡ Err PagesError.Device) device.old device.new }
+    ensures unchanged { Unchanged pages.old pages.new }
+    ensures agrees { Agreed D.Device pages.old device.old (Agrees pages.new (D.state device.new).disk) }
+    ensures open { IsOpen pages.new }
+    ensures entry { OnPages D.Device pages.old device.old (λ before. IfOk result (AnswersAt layout before page key.now sought)) }
+    ensures lengths { IfOk result (λ entry. IfSome entry (HasLengths layout)) }
+    ensures damaged { OnPages D.Device pages.old device.old (NoneOfKind layout Kind.Leaf page (TellsDamaged result)) }
+    ensures spent { ExactlyIfSpent pages.old result }
+    ensures cause { IfErr result IsReadRefusal }
+{
+    let mut entry = Entry::blank();
+    match look_at(pages, device, layout, page, key, sought, &mut entry)? {
+        Look::Here => Ok(Some(entry)),
+        Look::Missing => Ok(None),
+        Look::Below(_) => Err(PagesError::Damaged),
+    }
+}
+
+/// Goes down from a page to the leaf where the key belongs, and tells whether it has the entry that is sought, which is put into
+/// `entry`. Nothing is kept of the way. `Damaged` tells that the page is no tree's root.
+pub(crate) fn search<D: Device>(
+    pages: &mut PageMap,
+    device: &mut D,
+    layout: RowLayout,
+    root: u32,
+    key: &[u8],
+    sought: Sought,
+    entry: &mut Entry,
+) -> Result<bool, PagesError>
+    requires open { IsOpen pages.old }
+    requires sectors { sectors_of pages.old ≤ D.sectors device.old }
+    requires layout { IsRowLayout layout }
+    ensures only { OnlyReads D.Device (result ≡ Err PagesError.Device) device.old device.new }
+    ensures unchanged { Unchanged pages.old pages.new }
+    ensures agrees { Agreed D.Device pages.old device.old (Agrees pages.new (D.state device.new).disk) }
+    ensures open { IsOpen pages.new }
+    ensures finds { OnPages D.Device pages.old device.old
+        (λ before. (levels : List (List TreeNode)) → IsTree layout before root levels → IfOk result (Finds (entries_of layout levels) key.now sought entry.new)) }
+    ensures lengths { IfOk result (λ found. found ≡ true → HasLengths layout entry.new) }
+    ensures damaged { OnPages D.Device pages.old device.old (NoTree layout root (TellsDamaged result)) }
+    ensures spent { ExactlyIfSpent pages.old result }
+    ensures cause { IfErr result IsReadRefusal }
+{
+    // How many page numbers there are is needed below.
+    let _page_count = pages.page_count();
+    let mut page = root;
+    for _depth in 0..LEVELS {
+        match look_at(pages, device, layout, page, key, sought, entry)? {
+            Look::Below(child) => page = child,
+            Look::Here => return Ok(true),
+            Look::Missing => return Ok(false),
+        }
+    }
+    Err(PagesError::Damaged)
+}
