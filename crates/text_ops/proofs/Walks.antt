@@ -89,7 +89,7 @@ fitted_is texts active at rest fitted are some e =
     let fit = sizes texts p p.entry.fit at rest entry.fit some (right_true (leb (at + fit_length p.entry.fit) p.limit) (stands texts p p.entry.fit at rest) one.fits) in
     record { number = one.number; entry = entry; at = one.place; some = fit.0; within = fit.1 }
 
-entry_stays : (p : Progress) (what : Fit) (at : ℕ) → (passed p what at).entry ≡ p.entry
+pub entry_stays : (p : Progress) (what : Fit) (at : ℕ) → (passed p what at).entry ≡ p.entry
 entry_stays p f.Characters at = refl
 entry_stays p (f.All text) at = refl
 entry_stays p (f.Leading text) at = refl

@@ -5,6 +5,7 @@ ghost use Rattle.text_ops.specs.Entries.{AreWithin, IsEntry, fit_length};
 ghost use Rattle.text_ops.specs.Walk.{AreActive, walk};
 ghost use Rattle.text_ops.specs.Inspect as spec;
 
+use crate::beginnings::beginnings;
 use crate::entry::Entry;
 use crate::progress::{Progress, begin, step};
 
@@ -26,10 +27,11 @@ fn replace_fits(texts: &[u8], active: &mut [Progress], subject: &mut [u8])
     ensures { subject.new
         ≡ spec.with_each texts.now (walk (length subject.old) texts.now active.old 0 subject.old) subject.old }
 {
+    let marks = beginnings(texts, active);
     let mut at = 0;
     while at < subject.len() {
         let (_, rest) = subject.split_at(at);
-        match step(texts, active, at, rest) {
+        match step(texts, &marks, active, at, rest) {
             Some(fitted) => {
                 let entry = fitted.progress.entry;
                 put_replacement(texts, entry, at, subject);

@@ -5,6 +5,7 @@ ghost use Rattle.text_ops.specs.Entries.{AreWithin};
 ghost use Rattle.text_ops.specs.Walk.{AreActive, walk};
 ghost use Rattle.text_ops.specs.Inspect as spec;
 
+use crate::beginnings::beginnings;
 use crate::entry::Entry;
 use crate::progress::{Progress, begin, step};
 
@@ -17,10 +18,11 @@ fn count_fits(texts: &[u8], active: &mut [Progress], subject: &[u8], counts: &mu
         → slice_index counts.new k
         ≡ spec.count_of k (walk (length subject.now) texts.now active.old 0 subject.now) }
 {
+    let marks = beginnings(texts, active);
     let mut at = 0;
     while at < subject.len() {
         let (_, rest) = subject.split_at(at);
-        match step(texts, active, at, rest) {
+        match step(texts, &marks, active, at, rest) {
             Some(fitted) => {
                 counts[fitted.number] += 1;
                 at += fitted.progress.entry.fit.size();

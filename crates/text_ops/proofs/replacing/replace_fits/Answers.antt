@@ -11,6 +11,7 @@ pub loop-at-init : goal.loop-at-init
 loop-at-init c = record {
   bound = omega arith;
   within = c.requires;
+  marked = c.beginnings-marks.ensures;
   all = walk (length c.args.subject.now) c.args.texts.now c.args.active.now 0 c.args.subject.now;
   goes = goes_from c.args.texts.now c.args.active.now 0 c.args.subject.now;
   written = refl;
@@ -30,6 +31,7 @@ loop-at-preserved-in-Some c =
     record {
       bound = omega (arith, is.within, c.size-at.ensures, c.split_at.ensures.back_len);
       within = c.in-Some.ensures.within;
+      marked = c.in-Some.ensures.marked;
       all = past.0;
       goes = subst P (sym rest) past.2;
       written = ap (with_each c.args.texts.now past.0) c.put_replacement.ensures ∙ ap (λ place. with_each c.args.texts.now past.0 (written place (replacement c.args.texts.now entry.by) c.loop-at.subject)) (sym is.at) ∙ ap (λ all. with_each c.args.texts.now all c.loop-at.subject) (sym past.1) ∙ inv.written;
@@ -41,6 +43,7 @@ loop-at-preserved c =
     record {
       bound = omega arith;
       within = c.step.ensures.within;
+      marked = c.step.ensures.marked;
       all = inv.all;
       goes = past_place c.args.texts.now c.loop-at.active c.step.new.active c.loop-at.at c.loop-at.subject c.split_at.result.1.now inv.all inv.goes c.loop-at-test.true c.split_at.ensures.back c.in-None.ensures.fit c.in-None.ensures.after;
       written = inv.written;

@@ -10,6 +10,7 @@ pub loop-at-init : goal.loop-at-init
 loop-at-init c = record {
   bound = omega arith;
   within = c.requires.within;
+  marked = c.beginnings-marks.ensures;
   sizes = c.requires.counts;
   small = λ k l. omega (arith, c.requires.zero k l);
   all = walk (length c.args.subject.now) c.args.texts.now c.args.active.now 0 c.args.subject.now;
@@ -29,6 +30,7 @@ loop-at-preserved-in-Some c =
     record {
       bound = omega (arith, is.within, c.size-at.ensures, c.split_at.ensures.back_len);
       within = c.in-Some.ensures.within;
+      marked = c.in-Some.ensures.marked;
       sizes = omega (arith, one-more, inv.sizes);
       small = small_more c.loop-at.counts fitted.number c.loop-at.at c.size-at.result number (omega (arith, is.some, c.size-at.ensures)) inv.small;
       all = past.0;
@@ -42,6 +44,7 @@ loop-at-preserved c =
     record {
       bound = omega arith;
       within = c.step.ensures.within;
+      marked = c.step.ensures.marked;
       sizes = omega (arith, inv.sizes);
       small = λ k l. omega (arith, inv.small k l);
       all = inv.all;

@@ -2,6 +2,7 @@ use Rattle.std.proofs.Common.{◌≡◌, ◌<◌, ◌≤◌, ◌+◌, ◌-◌, �
 use Rattle.text_ops.specs.declared.progress.Fitted.{Fitted}
 use Rattle.text_ops.specs.Walk.{AreActive, walk}
 use Rattle.text_ops.specs.Inspect.{count_of}
+use Rattle.text_ops.specs.Beginnings.{AreMarked}
 use Rattle.text_ops.proofs.Walks.{Goes}
 use Rattle.text_ops.proofs.tallying.count_fits.Given as goal
 
@@ -9,6 +10,7 @@ abbrev pub invariant-loop-at : goal.invariant-loop-at
 invariant-loop-at l = record {
   bound : l.at ≤ length l.fn.subject;
   within : AreActive l.active (length l.fn.texts);
+  marked : AreMarked l.fn.texts l.marks l.active;
   sizes : length l.counts ≡ length l.active;
   small : (k : ℕ) → k < length l.counts → slice_index l.counts k ≤ l.at;
   all : List Fitted;
