@@ -22,3 +22,15 @@ pub mod Fresh
 pub mod Placing
 pub mod Walks
 pub mod Pairing
+pub mod RowEdits
+pub mod PairEdits
+pub mod RowValues
+pub mod FileTrees
+pub mod InsertRow
+pub mod RemoveRow
+pub mod ReplaceRow
+pub mod Numbered
+pub mod Rooting
+pub mod Bytes
+pub mod FoundRow
+pub mod Preparing

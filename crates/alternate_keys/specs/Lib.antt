@@ -10,3 +10,5 @@ pub mod Calls
 pub mod Placed
 pub mod Held
 pub mod Settles
+pub mod Moved
+pub mod Turned
