@@ -9,8 +9,10 @@ use Rattle.byteorder.specs.Endian.{big_number}
 use Rattle.pages.specs.Image.{Map}
 use Rattle.btree.specs.Rooted.{Rooted}
 use Rattle.btree.specs.Entries.{Entry, entries_of}
+use Rattle.records.specs.declared.key.KeyOfReference.{KeyOfReference}
 use Rattle.records.specs.declared.key.KeyOfReference.TheVariants.{Prime, Alternate}
-use Rattle.records.specs.Spec.{Spec}
+use Rattle.records.specs.Spec.{Spec, is_spec}
+use Rattle.records.specs.Stores.{IsKey}
 use Rattle.records.specs.Rows.{Row}
 use Rattle.records.specs.Files.{File, Named, IsNamed, IsFile, IsRow, IsArrival}
 use Rattle.records.specs.Laws.{RowsAscend}
@@ -23,6 +25,7 @@ use Rattle.file_trees.specs.Volume.{Kept, IsIndex, trees_of, listing_of, no_tree
 use Rattle.file_trees.proofs.Forests.{all_left, all_right}
 use Rattle.file_trees.proofs.Keeping.{rows_fit}
 use Rattle.file_trees.proofs.Listings.{next_read}
+use Rattle.alternate_keys.specs.Created.{HasStored}
 use Rattle.alternate_keys.specs.Listed.{IsFound, root_in}
 use Rattle.alternate_keys.specs.Moved.{IsRowOf}
 use Rattle.alternate_keys.specs.Placed.{HasTrees, HasIndexes, HasAllPairs, listed_tree}
@@ -121,3 +124,18 @@ module _ (spec : Spec) (named : Named) (generation : ℕ) (pages : List (Option 
         indexes = λ i low. subst (λ (f : File). IsIndex f i (slice_index_or kept_in.alternates i no_tree)) file_is (has.placed.is.indexes i (fits i low));
         roots = λ i low. let inside = fits i low in sym (root_is the_map (Some kept_in.named.file) kept_in (Alternate i) found has.small (omega (arith, inside))) ∙ ap (root_in (Alternate i)) (sym has.placed.says);
       }
+
+  -- its trees, as the catalog says them
+  told_tree : (key : KeyOfReference) → IsKey kept_in.named.file.spec key → (tree_under key kept_in).tree ≡ record { layout = layout_under kept_in.named.file.spec key; root = root_in key listing }
+  told_tree key within =
+      let own : Rooted = record { layout = layout_under kept_in.named.file.spec key; root = root_in key listing } in
+      sym (tree_is the_map (Some kept_in.named.file) kept_in kept_in.named.file.spec key (record { key = []; value = listing }) own found has.small refl within has.placed.says refl refl)
+
+  pub prime_told : kept_in.prime.tree ≡ record { layout = layout_under kept_in.named.file.spec Prime; root = root_in Prime listing }
+  prime_told = told_tree Prime (omega arith)
+
+  pub good_spec : is_spec kept_in.named.file.spec ≡ true
+  good_spec = found.named.file.spec
+
+  pub all_stored : HasStored listing kept_in
+  all_stored = record { good = good_spec; says = has.placed.says; count = has.placed.is.count; trees = λ i within. told_tree (Alternate i) (omega (arith, within)) }

@@ -34,3 +34,10 @@ pub mod Rooting
 pub mod Bytes
 pub mod FoundRow
 pub mod Preparing
+pub mod Turning
+pub mod WriteCalls
+pub mod Heads
+pub mod Empties
+pub mod Counted
+pub mod Added
+pub mod MadeFile

@@ -19,7 +19,7 @@ use Rattle.alternate_keys.specs.Placed.{HasIndexes, Become, listed_tree, roots_o
 use Rattle.alternate_keys.proofs.Among.{grows}
 use Rattle.alternate_keys.proofs.Keeping.{same_tree}
 
-rest_of : {X : Type 0} (xs : List X) (k : ℕ) (d : X) → k < length xs → drop k xs ≡ slice_index_or xs k d ∷ drop (k + 1) xs
+pub rest_of : {X : Type 0} (xs : List X) (k : ℕ) (d : X) → k < length xs → drop k xs ≡ slice_index_or xs k d ∷ drop (k + 1) xs
 rest_of [] k d low = absurd (omega (arith, low))
 rest_of (x ∷ xs) zero d low = refl
 rest_of (x ∷ xs) (suc k) d low = rest_of xs k d (omega (arith, low)) ∙ ap (λ n. slice_index_or xs k d ∷ drop n (x ∷ xs)) (let e : suc (k + 1) ≡ suc k + 1 = omega arith in e)

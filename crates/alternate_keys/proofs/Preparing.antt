@@ -36,11 +36,10 @@ some_clash : (x : Option Entry) (e : Entry) → x ≡ Some e → x ≡ None → 
 some_clash x e some none = cc
 
 -- the map after it, in the next generation
-map_with : ℕ → ℕ → List (Option Sector) → Map
+abbrev pub map_with : ℕ → ℕ → List (Option Sector) → Map
 map_with generation catalog pages = record { generation = generation; catalog = catalog; pages = pages }
 
 next_map : (p q : PageMap) (image : List Sector) → SameCommitted p q → catalog_of q ≡ catalog_of p → map_with ((map_now p image).generation + 1) (map_now p image).catalog (map_now q image).pages ≡ advanced (map_now q image)
-unfolding map_with
 next_map p q image same catalog =
     ap (λ v. map_with (v.generation + 1) (map_now p image).catalog (map_now q image).pages) (sym same.volume)
     ∙ ap (λ (n : ℕ). map_with ((map_now q image).generation + 1) n (map_now q image).pages) (sym catalog)
@@ -82,7 +81,6 @@ module _ (m : Map) (files : Files) (holds : MapHolds m files) (name : List ℕ) 
 
     pub holds_after : (pages : List (Option Sector)) (catalog : ℕ) → StandsAmong pages [] around (catalog_at catalog) (with_value (map catalog_entry holds.kept) (record { key = padded name; value = listing })) →
         is_change changed.outcome ≡ true → AreFiles (files_after name files changed) → MapHolds (map_with (m.generation + 1) catalog pages) (files_after name files changed)
-    unfolding map_with
     holds_after pages catalog stands change are =
         let after : files_after name files changed ≡ with_file name changed.file files = ap (λ (b : Bool). if b then with_file name changed.file files else files) change in
         subst (λ (l : Files). MapHolds (map_with (m.generation + 1) catalog pages) l) (sym after)

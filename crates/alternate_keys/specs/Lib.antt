@@ -12,3 +12,4 @@ pub mod Held
 pub mod Settles
 pub mod Moved
 pub mod Turned
+pub mod Created

@@ -17,7 +17,7 @@ use crate::listing::{find_listing, replace_listing};
 use crate::row_changes::change_trees;
 use crate::row_verb::RowVerb;
 use crate::settling::{finish, is_done};
-use pages::{PageMap, map_bounds};
+use pages::{PageMap, few_needed, map_bounds};
 use records::{FileSpec, Outcome, StoreFault};
 use station::Device;
 use std::alloc::Global;
@@ -87,6 +87,8 @@ pub(crate) fn change_in<D: Device>(
     ensures spent { result ≡ Err StoreFault.Spent → is_spent pages.old ≡ true }
     ensures cause { IfErr result IsWriteFault }
 {
+    // How many sectors a commit needs.
+    few_needed();
     let outcome = prepare(alloc, pages, device, file, verb, number, bytes)?;
     finish(pages, device, outcome)
 }

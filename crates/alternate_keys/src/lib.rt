@@ -6,6 +6,9 @@
 mod aim;
 mod aiming;
 mod changing;
+mod clearing;
+mod counting;
+mod creating;
 mod enter;
 mod fault;
 mod file_tree;
@@ -21,6 +24,7 @@ mod old_row;
 mod opening;
 mod repeats;
 mod row_bytes;
+mod row_calls;
 mod row_changes;
 mod row_trees;
 mod row_turn;
@@ -29,6 +33,7 @@ mod seek;
 mod seeking;
 mod settling;
 mod store;
+mod stored;
 mod tell;
 mod values;
 

@@ -7,10 +7,10 @@ use Rattle.pages.specs.Use.{free_count}
 use Rattle.pages.specs.Pages.{map_now, committed_of}
 use Rattle.btree.specs.Rooted.{Rooted}
 use Rattle.btree.specs.Entries.{Entry, entry_with, with_entry}
-use Rattle.btree.proofs.Frames.{same_pages}
+use Rattle.btree.proofs.Frames.{same_pages, unchanged_on}
 use Rattle.records.specs.declared.answer.Outcome.{Outcome}
 use Rattle.records.specs.declared.answer.Outcome.TheVariants.{Taken}
-use Rattle.records.specs.declared.fault.StoreFault.TheVariants.{Full, Damaged}
+use Rattle.records.specs.declared.fault.StoreFault.TheVariants.{Device, Full, Damaged}
 use Rattle.records.specs.declared.key.KeyOfReference.TheVariants.{Prime}
 use Rattle.records.specs.Spec.{Spec}
 use Rattle.records.specs.Rows.{Row}
@@ -25,6 +25,7 @@ use Rattle.alternate_keys.specs.Moved.{Moving, named_after}
 use Rattle.alternate_keys.specs.NewRow.{row_with, named_with}
 use Rattle.alternate_keys.specs.Placed.{Placed, HasTrees}
 use Rattle.alternate_keys.proofs.Bytes.{all_bytes}
+use Rattle.alternate_keys.proofs.Calling.{looks_edits, edits_blamed, edits_last}
 use Rattle.alternate_keys.proofs.FileTrees.{kept_in, arrival_few, arrival_is, prime_stands, all_pairs}
 use Rattle.alternate_keys.proofs.InsertRow.{inserted_there, inserted_taken, inserted_done, own_row, prime_there, pairs_may, insert_moving, look_free, look_done, look_full, look_taken}
 use Rattle.alternate_keys.proofs.Still.{same_volume}
@@ -144,7 +145,7 @@ returns-then-not-branch-clause-outcome g c = λ honest agrees named generation l
     let own : IsSome (entry_with entries (entry_under spec Prime (made (new_number spec.organization c.args.number arrival))).key) =
     subst (λ (n : ℕ). IsSome (entry_with entries (entry_under spec Prime (made n)).key)) own_is some in
     let prime = prime_there spec named generation there left right listing has_then c.args.number arrival bytes same c.args.file.now.sound c.requires.bytes all c.requires.number in
-    c.none.ensures ∙ sym (ap (λ (ch : Changed). ch.outcome) (inserted_there c.args.number bytes named.file (sym prime ∙ own)))
+    c.none-then-not-branch.ensures ∙ sym (ap (λ (ch : Changed). ch.outcome) (inserted_there c.args.number bytes named.file (sym prime ∙ own)))
 
 pub returns-in_err-listing-clause-room : goal.returns-in_err-listing-clause-room
 returns-in_err-listing-clause-room g c = λ honest agrees named generation left right has full.
@@ -347,4 +348,42 @@ returns-clause-few g c = λ honest agrees named generation left right has.
     let more = c.in_ok-listing.ensures.few honest_put agrees_put named (named_with new named) generation left right moving in
     let changed = ap (λ (l : List ℕ). length l) looks.unchanged.changed_pages in
     omega (arith, few, more, changed)
+
+pub returns-in_err-outcome-clause-edits : goal.returns-in_err-outcome-clause-edits
+returns-in_err-outcome-clause-edits g c =
+    edits_blamed g.D.Device (c.look_at_values.result ≡ Err Device) _ c.args.pages.now c.look_at_values.new.pages c.args.device.now c.look_at_values.new.device (λ is. let from = rw is at c.from_residual.ensures.1 in let fault : c.in_err-outcome.field-0.0 ≡ Device = sym from in let told : c.look_at_values.result ≡ Err Device = c.in_err-outcome.was ∙ ap Err fault in told) (looks_edits g.D.Device (c.look_at_values.result ≡ Err Device) c.args.pages.now c.look_at_values.new.pages c.args.device.now c.look_at_values.new.device c.look_at_values.ensures.looks)
+
+pub returns-then-not-is_done-clause-edits : goal.returns-then-not-is_done-clause-edits
+returns-then-not-is_done-clause-edits g c =
+    edits_blamed g.D.Device (c.look_at_values.result ≡ Err Device) _ c.args.pages.now c.look_at_values.new.pages c.args.device.now c.look_at_values.new.device (λ is. absurd cc) (looks_edits g.D.Device (c.look_at_values.result ≡ Err Device) c.args.pages.now c.look_at_values.new.pages c.args.device.now c.look_at_values.new.device c.look_at_values.ensures.looks)
+
+pub returns-then-arrival-clause-edits : goal.returns-then-arrival-clause-edits
+returns-then-arrival-clause-edits g c =
+    edits_blamed g.D.Device (c.look_at_values.result ≡ Err Device) _ c.args.pages.now c.look_at_values.new.pages c.args.device.now c.look_at_values.new.device (λ is. absurd cc) (looks_edits g.D.Device (c.look_at_values.result ≡ Err Device) c.args.pages.now c.look_at_values.new.pages c.args.device.now c.look_at_values.new.device c.look_at_values.ensures.looks)
+
+pub returns-in_err-insert_row-clause-edits : goal.returns-in_err-insert_row-clause-edits
+returns-in_err-insert_row-clause-edits g c =
+    let e0 = looks_edits g.D.Device (c.look_at_values.result ≡ Err Device) c.args.pages.now c.look_at_values.new.pages c.args.device.now c.look_at_values.new.device c.look_at_values.ensures.looks in
+    edits_last g.D.Device (c.look_at_values.result ≡ Err Device) (c.insert_row.result ≡ Err Device) _ c.args.pages.now c.look_at_values.new.pages c.insert_row.new.pages c.args.device.now c.look_at_values.new.device c.insert_row.new.device (λ is. let from = rw is at c.from_residual-in_err-insert_row.ensures.1 in let fault : c.in_err-insert_row.field-0.0 ≡ Device = sym from in let told : c.insert_row.result ≡ Err Device = c.in_err-insert_row.was ∙ ap Err fault in told) e0 (record { only = c.insert_row.ensures.only; committed = c.insert_row.ensures.committed; catalog = c.insert_row.ensures.catalog; agrees = c.insert_row.ensures.agrees; is_open = c.insert_row.ensures.open })
+
+pub returns-then-not-branch-clause-edits : goal.returns-then-not-branch-clause-edits
+returns-then-not-branch-clause-edits g c =
+    let e0 = looks_edits g.D.Device (c.look_at_values.result ≡ Err Device) c.args.pages.now c.look_at_values.new.pages c.args.device.now c.look_at_values.new.device c.look_at_values.ensures.looks in
+    edits_last g.D.Device (c.look_at_values.result ≡ Err Device) (c.insert_row.result ≡ Err Device) _ c.args.pages.now c.look_at_values.new.pages c.insert_row.new.pages c.args.device.now c.look_at_values.new.device c.insert_row.new.device (λ is. absurd cc) e0 (record { only = c.insert_row.ensures.only; committed = c.insert_row.ensures.committed; catalog = c.insert_row.ensures.catalog; agrees = c.insert_row.ensures.agrees; is_open = c.insert_row.ensures.open })
+
+pub returns-in_err-listing-clause-edits : goal.returns-in_err-listing-clause-edits
+returns-in_err-listing-clause-edits g c =
+    let e0 = looks_edits g.D.Device (c.look_at_values.result ≡ Err Device) c.args.pages.now c.look_at_values.new.pages c.args.device.now c.look_at_values.new.device c.look_at_values.ensures.looks in
+    let e1 = edits_last g.D.Device (c.look_at_values.result ≡ Err Device) (c.insert_row.result ≡ Err Device) (c.insert_row.result ≡ Err Device) c.args.pages.now c.look_at_values.new.pages c.insert_row.new.pages c.args.device.now c.look_at_values.new.device c.insert_row.new.device (λ is. is) e0 (record { only = c.insert_row.ensures.only; committed = c.insert_row.ensures.committed; catalog = c.insert_row.ensures.catalog; agrees = c.insert_row.ensures.agrees; is_open = c.insert_row.ensures.open }) in
+    edits_last g.D.Device (c.insert_row.result ≡ Err Device) (c.move_row.result ≡ Err Device) _ c.args.pages.now c.insert_row.new.pages c.move_row.new.pages c.args.device.now c.insert_row.new.device c.move_row.new.device (λ is. let from = rw is at c.from_residual-in_err-listing.ensures.1 in let fault : c.in_err-listing.field-0.0 ≡ Device = sym from in let told : c.move_row.result ≡ Err Device = c.in_err-listing.was ∙ ap Err fault in told) e1 c.move_row.ensures.edits
+
+pub returns-clause-edits : goal.returns-clause-edits
+returns-clause-edits g c =
+    let e0 = looks_edits g.D.Device (c.look_at_values.result ≡ Err Device) c.args.pages.now c.look_at_values.new.pages c.args.device.now c.look_at_values.new.device c.look_at_values.ensures.looks in
+    let e1 = edits_last g.D.Device (c.look_at_values.result ≡ Err Device) (c.insert_row.result ≡ Err Device) (c.insert_row.result ≡ Err Device) c.args.pages.now c.look_at_values.new.pages c.insert_row.new.pages c.args.device.now c.look_at_values.new.device c.insert_row.new.device (λ is. is) e0 (record { only = c.insert_row.ensures.only; committed = c.insert_row.ensures.committed; catalog = c.insert_row.ensures.catalog; agrees = c.insert_row.ensures.agrees; is_open = c.insert_row.ensures.open }) in
+    edits_last g.D.Device (c.insert_row.result ≡ Err Device) (c.move_row.result ≡ Err Device) _ c.args.pages.now c.insert_row.new.pages c.move_row.new.pages c.args.device.now c.insert_row.new.device c.move_row.new.device (λ is. absurd cc) e1 c.move_row.ensures.edits
+
+pub returns-then-not-branch-clause-same : goal.returns-then-not-branch-clause-same
+returns-then-not-branch-clause-same g c =
+    λ none. unchanged_on c.args.pages.now c.look_at_values.new.pages c.insert_row.new.pages c.look_at_values.ensures.looks.unchanged (c.in_ok-insert_row.ensures.same (ap Ok c.if-not-branch.true))
 

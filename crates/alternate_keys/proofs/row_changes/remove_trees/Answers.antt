@@ -8,7 +8,7 @@ use Rattle.tree_pages.specs.declared.row_layout.RowLayout.{RowLayout}
 use Rattle.btree.specs.Rooted.{Rooted}
 use Rattle.btree.specs.Entries.{Entry, HasLengths, entry_with, without}
 use Rattle.btree.proofs.Frames.{same_pages}
-use Rattle.records.specs.declared.fault.StoreFault.TheVariants.{Full, Damaged}
+use Rattle.records.specs.declared.fault.StoreFault.TheVariants.{Device, Full, Damaged}
 use Rattle.records.specs.declared.key.KeyOfReference.TheVariants.{Prime}
 use Rattle.records.specs.Spec.{Spec}
 use Rattle.records.specs.Rows.{Pair}
@@ -21,6 +21,7 @@ use Rattle.file_trees.specs.Grows.{StandsAmong}
 use Rattle.alternate_keys.specs.declared.row_verb.RowVerb.TheVariants.{Remove}
 use Rattle.alternate_keys.specs.Moved.{Moving, PairsMayMove, named_after}
 use Rattle.alternate_keys.specs.Placed.{Placed, HasTrees}
+use Rattle.alternate_keys.proofs.Calling.{looks_edits, edits_blamed, edits_last}
 use Rattle.alternate_keys.proofs.FileTrees.{kept_in, arrival_is, prime_stands, prime_rows}
 use Rattle.alternate_keys.proofs.FoundRow.{none_at, found_at}
 use Rattle.alternate_keys.proofs.RemoveRow.{some_by, removed_missing, removed_done, named_without, removed_may, remove_moving}
@@ -258,4 +259,29 @@ move_row-requires-clause-values g c =
     let some : IfSome c.in_ok-row.field-0 (HasLengths c.file_tree-prime.result.layout) = c.in_ok-row.ensures.lengths in
     let own : HasLengths c.file_tree-prime.result.layout c.in-Some.row = subst (λ (o : Option Entry). IfSome o (HasLengths c.file_tree-prime.result.layout)) c.in-Some.is some in
     ap (λ (l : List ℕ). length l) c.value.ensures ∙ own.1 ∙ ap (λ (l : RowLayout). l.value_length) c.file_tree-prime.ensures.layout
+
+pub returns-in_err-row-clause-edits : goal.returns-in_err-row-clause-edits
+returns-in_err-row-clause-edits g c =
+    edits_blamed g.D.Device (c.find_row.result ≡ Err Device) _ c.args.pages.now c.find_row.new.pages c.args.device.now c.find_row.new.device (λ is. let from = rw is at c.from_residual.ensures.1 in let fault : c.in_err-row.field-0.0 ≡ Device = sym from in let told : c.find_row.result ≡ Err Device = c.in_err-row.was ∙ ap Err fault in told) (looks_edits g.D.Device (c.find_row.result ≡ Err Device) c.args.pages.now c.find_row.new.pages c.args.device.now c.find_row.new.device c.find_row.ensures.looks)
+
+pub returns-in-None-clause-edits : goal.returns-in-None-clause-edits
+returns-in-None-clause-edits g c =
+    edits_blamed g.D.Device (c.find_row.result ≡ Err Device) _ c.args.pages.now c.find_row.new.pages c.args.device.now c.find_row.new.device (λ is. absurd cc) (looks_edits g.D.Device (c.find_row.result ≡ Err Device) c.args.pages.now c.find_row.new.pages c.args.device.now c.find_row.new.device c.find_row.ensures.looks)
+
+pub returns-in_err-remove_among-clause-edits : goal.returns-in_err-remove_among-clause-edits
+returns-in_err-remove_among-clause-edits g c =
+    let e0 = looks_edits g.D.Device (c.find_row.result ≡ Err Device) c.args.pages.now c.find_row.new.pages c.args.device.now c.find_row.new.device c.find_row.ensures.looks in
+    edits_last g.D.Device (c.find_row.result ≡ Err Device) (c.remove_among.result ≡ Err Device) _ c.args.pages.now c.find_row.new.pages c.remove_among.new.pages c.args.device.now c.find_row.new.device c.remove_among.new.device (λ is. let from = rw is at c.from_residual-in_err-remove_among.ensures.1 in let fault : c.in_err-remove_among.field-0.0 ≡ Device = sym from in let told : c.remove_among.result ≡ Err Device = c.in_err-remove_among.was ∙ ap Err fault in told) e0 c.remove_among.ensures.edits
+
+pub returns-in_err-listing-clause-edits : goal.returns-in_err-listing-clause-edits
+returns-in_err-listing-clause-edits g c =
+    let e0 = looks_edits g.D.Device (c.find_row.result ≡ Err Device) c.args.pages.now c.find_row.new.pages c.args.device.now c.find_row.new.device c.find_row.ensures.looks in
+    let e1 = edits_last g.D.Device (c.find_row.result ≡ Err Device) (c.remove_among.result ≡ Err Device) (c.remove_among.result ≡ Err Device) c.args.pages.now c.find_row.new.pages c.remove_among.new.pages c.args.device.now c.find_row.new.device c.remove_among.new.device (λ is. is) e0 c.remove_among.ensures.edits in
+    edits_last g.D.Device (c.remove_among.result ≡ Err Device) (c.move_row.result ≡ Err Device) _ c.args.pages.now c.remove_among.new.pages c.move_row.new.pages c.args.device.now c.remove_among.new.device c.move_row.new.device (λ is. let from = rw is at c.from_residual-in_err-listing.ensures.1 in let fault : c.in_err-listing.field-0.0 ≡ Device = sym from in let told : c.move_row.result ≡ Err Device = c.in_err-listing.was ∙ ap Err fault in told) e1 c.move_row.ensures.edits
+
+pub returns-clause-edits : goal.returns-clause-edits
+returns-clause-edits g c =
+    let e0 = looks_edits g.D.Device (c.find_row.result ≡ Err Device) c.args.pages.now c.find_row.new.pages c.args.device.now c.find_row.new.device c.find_row.ensures.looks in
+    let e1 = edits_last g.D.Device (c.find_row.result ≡ Err Device) (c.remove_among.result ≡ Err Device) (c.remove_among.result ≡ Err Device) c.args.pages.now c.find_row.new.pages c.remove_among.new.pages c.args.device.now c.find_row.new.device c.remove_among.new.device (λ is. is) e0 c.remove_among.ensures.edits in
+    edits_last g.D.Device (c.remove_among.result ≡ Err Device) (c.move_row.result ≡ Err Device) _ c.args.pages.now c.remove_among.new.pages c.move_row.new.pages c.args.device.now c.remove_among.new.device c.move_row.new.device (λ is. absurd cc) e1 c.move_row.ensures.edits
 

@@ -8,9 +8,9 @@ use Rattle.pages.specs.Pages.{map_now, committed_of}
 use Rattle.tree_pages.specs.declared.row_layout.RowLayout.{RowLayout}
 use Rattle.btree.specs.Rooted.{Rooted}
 use Rattle.btree.specs.Entries.{Entry, HasLengths, entry_with, with_value}
-use Rattle.btree.proofs.Frames.{same_pages}
+use Rattle.btree.proofs.Frames.{same_pages, unchanged_on}
 use Rattle.records.specs.declared.answer.Outcome.TheVariants.{Taken}
-use Rattle.records.specs.declared.fault.StoreFault.TheVariants.{Full, Damaged}
+use Rattle.records.specs.declared.fault.StoreFault.TheVariants.{Device, Full, Damaged}
 use Rattle.records.specs.declared.file_spec.KeyPlace.{KeyPlace}
 use Rattle.records.specs.declared.key.KeyOfReference.TheVariants.{Prime}
 use Rattle.records.specs.Spec.{Spec}
@@ -25,6 +25,8 @@ use Rattle.file_trees.specs.Grows.{StandsAmong}
 use Rattle.alternate_keys.specs.declared.row_verb.RowVerb.TheVariants.{Replace}
 use Rattle.alternate_keys.specs.Moved.{Moving, PairsMayMove, is_new, named_after}
 use Rattle.alternate_keys.specs.Placed.{Placed, HasTrees}
+use Rattle.alternate_keys.proofs.Faults.{never_device}
+use Rattle.alternate_keys.proofs.Calling.{looks_edits, edits_blamed, edits_last}
 use Rattle.alternate_keys.proofs.FileTrees.{kept_in, arrival_few, arrival_is, prime_stands, prime_rows, all_pairs}
 use Rattle.alternate_keys.proofs.FoundRow.{none_at, found_at}
 use Rattle.alternate_keys.proofs.Numbered.{named_here}
@@ -500,14 +502,6 @@ value_after-requires-clause-old g c =
     ap (λ (l : List ℕ). length l) c.value-old.ensures ∙ own.1 ∙ ap (λ (l : RowLayout). l.value_length) c.file_tree-prime.ensures.layout in
     long
 
-pub arrival_next-requires-clause-old : goal.arrival_next-requires-clause-old
-arrival_next-requires-clause-old g c =
-    let some : IfSome c.in_ok-row.field-0 (HasLengths c.file_tree-prime.result.layout) = c.in_ok-row.ensures.lengths in
-    let own : HasLengths c.file_tree-prime.result.layout c.in-Some.row = subst (λ (o : Option Entry). IfSome o (HasLengths c.file_tree-prime.result.layout)) c.in-Some.is some in
-    let long : length c.value-old.result.now ≡ c.args.file.now.record_length + 8 * length c.args.file.now.alternates.items =
-    ap (λ (l : List ℕ). length l) c.value-old.ensures ∙ own.1 ∙ ap (λ (l : RowLayout). l.value_length) c.file_tree-prime.ensures.layout in
-    omega (arith, long)
-
 pub move_row-requires-clause-values : goal.move_row-requires-clause-values
 move_row-requires-clause-values g c =
     let some : IfSome c.in_ok-row.field-0 (HasLengths c.file_tree-prime.result.layout) = c.in_ok-row.ensures.lengths in
@@ -515,4 +509,56 @@ move_row-requires-clause-values g c =
     let long : length c.value-old.result.now ≡ c.args.file.now.record_length + 8 * length c.args.file.now.alternates.items =
     ap (λ (l : List ℕ). length l) c.value-old.ensures ∙ own.1 ∙ ap (λ (l : RowLayout). l.value_length) c.file_tree-prime.ensures.layout in
     (long, c.requires.bytes)
+
+pub returns-in_err-row-clause-edits : goal.returns-in_err-row-clause-edits
+returns-in_err-row-clause-edits g c =
+    edits_blamed g.D.Device (c.find_row.result ≡ Err Device) _ c.args.pages.now c.find_row.new.pages c.args.device.now c.find_row.new.device (λ is. let from = rw is at c.from_residual.ensures.1 in let fault : c.in_err-row.field-0.0 ≡ Device = sym from in let told : c.find_row.result ≡ Err Device = c.in_err-row.was ∙ ap Err fault in told) (looks_edits g.D.Device (c.find_row.result ≡ Err Device) c.args.pages.now c.find_row.new.pages c.args.device.now c.find_row.new.device c.find_row.ensures.looks)
+
+pub returns-in-None-clause-edits : goal.returns-in-None-clause-edits
+returns-in-None-clause-edits g c =
+    edits_blamed g.D.Device (c.find_row.result ≡ Err Device) _ c.args.pages.now c.find_row.new.pages c.args.device.now c.find_row.new.device (λ is. absurd cc) (looks_edits g.D.Device (c.find_row.result ≡ Err Device) c.args.pages.now c.find_row.new.pages c.args.device.now c.find_row.new.device c.find_row.ensures.looks)
+
+pub returns-in_err-outcome-clause-edits : goal.returns-in_err-outcome-clause-edits
+returns-in_err-outcome-clause-edits g c =
+    let e0 = looks_edits g.D.Device (c.find_row.result ≡ Err Device) c.args.pages.now c.find_row.new.pages c.args.device.now c.find_row.new.device c.find_row.ensures.looks in
+    edits_last g.D.Device (c.find_row.result ≡ Err Device) (c.look_at_values.result ≡ Err Device) _ c.args.pages.now c.find_row.new.pages c.look_at_values.new.pages c.args.device.now c.find_row.new.device c.look_at_values.new.device (λ is. let from = rw is at c.from_residual-in_err-outcome.ensures.1 in let fault : c.in_err-outcome.field-0.0 ≡ Device = sym from in let told : c.look_at_values.result ≡ Err Device = c.in_err-outcome.was ∙ ap Err fault in told) e0 (looks_edits g.D.Device (c.look_at_values.result ≡ Err Device) c.find_row.new.pages c.look_at_values.new.pages c.find_row.new.device c.look_at_values.new.device c.look_at_values.ensures.looks)
+
+pub returns-then-not-is_done-clause-edits : goal.returns-then-not-is_done-clause-edits
+returns-then-not-is_done-clause-edits g c =
+    let e0 = looks_edits g.D.Device (c.find_row.result ≡ Err Device) c.args.pages.now c.find_row.new.pages c.args.device.now c.find_row.new.device c.find_row.ensures.looks in
+    edits_last g.D.Device (c.find_row.result ≡ Err Device) (c.look_at_values.result ≡ Err Device) _ c.args.pages.now c.find_row.new.pages c.look_at_values.new.pages c.args.device.now c.find_row.new.device c.look_at_values.new.device (λ is. absurd cc) e0 (looks_edits g.D.Device (c.look_at_values.result ≡ Err Device) c.find_row.new.pages c.look_at_values.new.pages c.find_row.new.device c.look_at_values.new.device c.look_at_values.ensures.looks)
+
+pub returns-then-arrival-clause-edits : goal.returns-then-arrival-clause-edits
+returns-then-arrival-clause-edits g c =
+    let e0 = looks_edits g.D.Device (c.find_row.result ≡ Err Device) c.args.pages.now c.find_row.new.pages c.args.device.now c.find_row.new.device c.find_row.ensures.looks in
+    edits_last g.D.Device (c.find_row.result ≡ Err Device) (c.look_at_values.result ≡ Err Device) _ c.args.pages.now c.find_row.new.pages c.look_at_values.new.pages c.args.device.now c.find_row.new.device c.look_at_values.new.device (λ is. absurd cc) e0 (looks_edits g.D.Device (c.look_at_values.result ≡ Err Device) c.find_row.new.pages c.look_at_values.new.pages c.find_row.new.device c.look_at_values.new.device c.look_at_values.ensures.looks)
+
+pub returns-in_err-value-clause-edits : goal.returns-in_err-value-clause-edits
+returns-in_err-value-clause-edits g c =
+    let e0 = looks_edits g.D.Device (c.find_row.result ≡ Err Device) c.args.pages.now c.find_row.new.pages c.args.device.now c.find_row.new.device c.find_row.ensures.looks in
+    edits_last g.D.Device (c.find_row.result ≡ Err Device) (c.look_at_values.result ≡ Err Device) _ c.args.pages.now c.find_row.new.pages c.look_at_values.new.pages c.args.device.now c.find_row.new.device c.look_at_values.new.device (λ is. absurd (never_device c.value_after.result c.value_after.ensures.memory (let from = rw is at c.from_residual-in_err-value.ensures.1 in let fault : c.in_err-value.field-0.0 ≡ Device = sym from in let told : c.value_after.result ≡ Err Device = c.in_err-value.was ∙ ap Err fault in told))) e0 (looks_edits g.D.Device (c.look_at_values.result ≡ Err Device) c.find_row.new.pages c.look_at_values.new.pages c.find_row.new.device c.look_at_values.new.device c.look_at_values.ensures.looks)
+
+pub returns-in_err-replace_among-clause-edits : goal.returns-in_err-replace_among-clause-edits
+returns-in_err-replace_among-clause-edits g c =
+    let e0 = looks_edits g.D.Device (c.find_row.result ≡ Err Device) c.args.pages.now c.find_row.new.pages c.args.device.now c.find_row.new.device c.find_row.ensures.looks in
+    let e1 = edits_last g.D.Device (c.find_row.result ≡ Err Device) (c.look_at_values.result ≡ Err Device) (c.look_at_values.result ≡ Err Device) c.args.pages.now c.find_row.new.pages c.look_at_values.new.pages c.args.device.now c.find_row.new.device c.look_at_values.new.device (λ is. is) e0 (looks_edits g.D.Device (c.look_at_values.result ≡ Err Device) c.find_row.new.pages c.look_at_values.new.pages c.find_row.new.device c.look_at_values.new.device c.look_at_values.ensures.looks) in
+    edits_last g.D.Device (c.look_at_values.result ≡ Err Device) (c.replace_among.result ≡ Err Device) _ c.args.pages.now c.look_at_values.new.pages c.replace_among.new.pages c.args.device.now c.look_at_values.new.device c.replace_among.new.device (λ is. let from = rw is at c.from_residual-in_err-replace_among.ensures.1 in let fault : c.in_err-replace_among.field-0.0 ≡ Device = sym from in let told : c.replace_among.result ≡ Err Device = c.in_err-replace_among.was ∙ ap Err fault in told) e1 c.replace_among.ensures.edits
+
+pub returns-in_err-listing-clause-edits : goal.returns-in_err-listing-clause-edits
+returns-in_err-listing-clause-edits g c =
+    let e0 = looks_edits g.D.Device (c.find_row.result ≡ Err Device) c.args.pages.now c.find_row.new.pages c.args.device.now c.find_row.new.device c.find_row.ensures.looks in
+    let e1 = edits_last g.D.Device (c.find_row.result ≡ Err Device) (c.look_at_values.result ≡ Err Device) (c.look_at_values.result ≡ Err Device) c.args.pages.now c.find_row.new.pages c.look_at_values.new.pages c.args.device.now c.find_row.new.device c.look_at_values.new.device (λ is. is) e0 (looks_edits g.D.Device (c.look_at_values.result ≡ Err Device) c.find_row.new.pages c.look_at_values.new.pages c.find_row.new.device c.look_at_values.new.device c.look_at_values.ensures.looks) in
+    let e2 = edits_last g.D.Device (c.look_at_values.result ≡ Err Device) (c.replace_among.result ≡ Err Device) (c.replace_among.result ≡ Err Device) c.args.pages.now c.look_at_values.new.pages c.replace_among.new.pages c.args.device.now c.look_at_values.new.device c.replace_among.new.device (λ is. is) e1 c.replace_among.ensures.edits in
+    edits_last g.D.Device (c.replace_among.result ≡ Err Device) (c.move_row.result ≡ Err Device) _ c.args.pages.now c.replace_among.new.pages c.move_row.new.pages c.args.device.now c.replace_among.new.device c.move_row.new.device (λ is. let from = rw is at c.from_residual-in_err-listing.ensures.1 in let fault : c.in_err-listing.field-0.0 ≡ Device = sym from in let told : c.move_row.result ≡ Err Device = c.in_err-listing.was ∙ ap Err fault in told) e2 c.move_row.ensures.edits
+
+pub returns-clause-edits : goal.returns-clause-edits
+returns-clause-edits g c =
+    let e0 = looks_edits g.D.Device (c.find_row.result ≡ Err Device) c.args.pages.now c.find_row.new.pages c.args.device.now c.find_row.new.device c.find_row.ensures.looks in
+    let e1 = edits_last g.D.Device (c.find_row.result ≡ Err Device) (c.look_at_values.result ≡ Err Device) (c.look_at_values.result ≡ Err Device) c.args.pages.now c.find_row.new.pages c.look_at_values.new.pages c.args.device.now c.find_row.new.device c.look_at_values.new.device (λ is. is) e0 (looks_edits g.D.Device (c.look_at_values.result ≡ Err Device) c.find_row.new.pages c.look_at_values.new.pages c.find_row.new.device c.look_at_values.new.device c.look_at_values.ensures.looks) in
+    let e2 = edits_last g.D.Device (c.look_at_values.result ≡ Err Device) (c.replace_among.result ≡ Err Device) (c.replace_among.result ≡ Err Device) c.args.pages.now c.look_at_values.new.pages c.replace_among.new.pages c.args.device.now c.look_at_values.new.device c.replace_among.new.device (λ is. is) e1 c.replace_among.ensures.edits in
+    edits_last g.D.Device (c.replace_among.result ≡ Err Device) (c.move_row.result ≡ Err Device) _ c.args.pages.now c.replace_among.new.pages c.move_row.new.pages c.args.device.now c.replace_among.new.device c.move_row.new.device (λ is. absurd cc) e2 c.move_row.ensures.edits
+
+pub returns-then-not-is_done-clause-same : goal.returns-then-not-is_done-clause-same
+returns-then-not-is_done-clause-same g c =
+    λ none. unchanged_on c.args.pages.now c.find_row.new.pages c.look_at_values.new.pages c.find_row.ensures.looks.unchanged c.look_at_values.ensures.looks.unchanged
 
