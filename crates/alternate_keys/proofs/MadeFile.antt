@@ -16,7 +16,7 @@ use Rattle.alternate_keys.proofs.Splits.{Split, Found, named_of, put_at}
 use Rattle.alternate_keys.proofs.Still.{same_volume}
 
 -- the same files of the same map
-pub holds_at : (m n : Map) (files : Files) → n ≡ m → MapHolds m files → MapHolds n files
+abbrev pub holds_at : (m n : Map) (files : Files) → n ≡ m → MapHolds m files → MapHolds n files
 holds_at m n files same holds = record { kept = holds.kept; keeps = subst (λ (x : Map). Keeps x holds.kept) (sym same) holds.keeps; named = holds.named; are = holds.are }
 
 -- in place of another file there are as many

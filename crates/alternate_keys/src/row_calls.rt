@@ -1,4 +1,4 @@
-//! The store's calls that change rows.
+//! The call of the store that changes a row.
 ghost use Rattle.std.specs.Prelude.{◌≡◌, ◌≤◌, false, length, IfOk};
 ghost use Rattle.records.specs.Changes.{inserted, replaced, removed};
 ghost use Rattle.records.specs.Files.{File, Files};
@@ -14,7 +14,7 @@ use station::Device;
 
 impl PagedStore {
     /// Changes a row of a file. The bytes are a record, or the prime key of a row that leaves.
-    fn change<D: Device>(
+    pub(crate) fn change<D: Device>(
         &mut self,
         device: &mut D,
         file: &FileSpec,
@@ -42,69 +42,5 @@ impl PagedStore {
                 Err(fault)
             }
         }
-    }
-
-    /// Puts a new row into a file. A relative file takes its number, another one makes its own.
-    pub fn insert<D: Device>(
-        &mut self,
-        device: &mut D,
-        file: &FileSpec,
-        number: u64,
-        bytes: &[u8],
-    ) -> Result<Outcome, StoreFault>
-        requires device { ⟦<PagedStore as Keeps>⟧.needs self.old ≤ D.sectors device.old }
-        requires number { IsNumber file.now.organization number }
-        requires bytes { length bytes.now ≡ file.now.record_length }
-        ensures changes { Changes ⟦<PagedStore as Keeps>⟧ D.Device result self.old device.old self.new device.new }
-        ensures spends { Spends ⟦<PagedStore as Keeps>⟧ result self.old self.new }
-        ensures outcome { (files : Files) (held : File) → StandsFor ⟦<PagedStore as Keeps>⟧ D.Device self.old device.old files → Has files file.now held →
-            IfOk result (λ outcome. outcome ≡ (inserted number bytes.now held).outcome) }
-        ensures turns { (files : Files) (held : File) → StandsFor ⟦<PagedStore as Keeps>⟧ D.Device self.old device.old files → Has files file.now held →
-            Turns ⟦<PagedStore as Keeps>⟧ D.Device result false file.now.name.items files (files_after file.now.name.items files (inserted number bytes.now held)) self.old device.old self.new device.new }
-        ensures idle { D.is_honest device.old → IfOk result (λ outcome. is_change outcome ≡ false → D.state device.new ≡ D.state device.old) }
-    {
-        self.change(device, file, RowVerb::Insert, number, bytes)
-    }
-
-    /// Gives a row another record: the row of the record's prime key, or of that number where the file has none.
-    pub fn replace<D: Device>(
-        &mut self,
-        device: &mut D,
-        file: &FileSpec,
-        number: u64,
-        bytes: &[u8],
-    ) -> Result<Outcome, StoreFault>
-        requires device { ⟦<PagedStore as Keeps>⟧.needs self.old ≤ D.sectors device.old }
-        requires bytes { length bytes.now ≡ file.now.record_length }
-        ensures changes { Changes ⟦<PagedStore as Keeps>⟧ D.Device result self.old device.old self.new device.new }
-        ensures spends { Spends ⟦<PagedStore as Keeps>⟧ result self.old self.new }
-        ensures outcome { (files : Files) (held : File) → StandsFor ⟦<PagedStore as Keeps>⟧ D.Device self.old device.old files → Has files file.now held →
-            IfOk result (λ outcome. outcome ≡ (replaced number bytes.now held).outcome) }
-        ensures turns { (files : Files) (held : File) → StandsFor ⟦<PagedStore as Keeps>⟧ D.Device self.old device.old files → Has files file.now held →
-            Turns ⟦<PagedStore as Keeps>⟧ D.Device result false file.now.name.items files (files_after file.now.name.items files (replaced number bytes.now held)) self.old device.old self.new device.new }
-        ensures idle { D.is_honest device.old → IfOk result (λ outcome. is_change outcome ≡ false → D.state device.new ≡ D.state device.old) }
-    {
-        self.change(device, file, RowVerb::Replace, number, bytes)
-    }
-
-    /// Takes a row out of a file: the row of this prime key, or of this number where the file has none.
-    pub fn remove<D: Device>(
-        &mut self,
-        device: &mut D,
-        file: &FileSpec,
-        number: u64,
-        key: &[u8],
-    ) -> Result<Outcome, StoreFault>
-        requires device { ⟦<PagedStore as Keeps>⟧.needs self.old ≤ D.sectors device.old }
-        requires key { length key.now ≡ key_length (spec_of file.now) KeyOfReference.Prime }
-        ensures changes { Changes ⟦<PagedStore as Keeps>⟧ D.Device result self.old device.old self.new device.new }
-        ensures spends { Spends ⟦<PagedStore as Keeps>⟧ result self.old self.new }
-        ensures outcome { (files : Files) (held : File) → StandsFor ⟦<PagedStore as Keeps>⟧ D.Device self.old device.old files → Has files file.now held →
-            IfOk result (λ outcome. outcome ≡ (removed (pair_of file.now.organization key.now number) held).outcome) }
-        ensures turns { (files : Files) (held : File) → StandsFor ⟦<PagedStore as Keeps>⟧ D.Device self.old device.old files → Has files file.now held →
-            Turns ⟦<PagedStore as Keeps>⟧ D.Device result false file.now.name.items files (files_after file.now.name.items files (removed (pair_of file.now.organization key.now number) held)) self.old device.old self.new device.new }
-        ensures idle { D.is_honest device.old → IfOk result (λ outcome. is_change outcome ≡ false → D.state device.new ≡ D.state device.old) }
-    {
-        self.change(device, file, RowVerb::Remove, number, key)
     }
 }

@@ -1,4 +1,4 @@
-use Rattle.std.proofs.Common.{◌≡◌, ◌≤◌, ◌<◌, ◌+◌, ℕ, suc, List, length, Err, refl, sym, ap, subst, ◌∙◌, arith}
+use Rattle.std.proofs.Common.{◌≡◌, ◌≤◌, ◌<◌, ◌+◌, inr, ℕ, suc, List, length, Err, refl, sym, ap, subst, ◌∙◌, arith}
 use Rattle.std.specs.Prelude.{map, Option, Some, None}
 use Rattle.std.proofs.lemmas.List.{length-map}
 use Rattle.station.specs.Disk.{Sector}
@@ -51,7 +51,7 @@ loop-turn-preserved g c = record {
       let there_now = subst (λ (p : List (Option Sector)). Holds tree.layout p tree.root holds.keeps.catalog) (sym same) there in
       let is : entry_at loop.turn entries ≡ Some c.in-Some.entry = sym (loop.invariant.next_is honest agrees files holds) ∙ c.in-Some.is in
       let ascend = subst (λ (es : List Entry). Ascend (keys_listed es)) listed (tree_ascends tree.layout m.pages tree.root holds.keeps.catalog there) in
-      c.in_ok-next_in.ensures.entry (looks.only.honest.0 honest) (looks.agrees honest agrees) holds.keeps.catalog there_now ∙ ap (λ (es : List Entry). first_after es c.in-Some.entry.key) listed
+      c.in_ok-next-in-Some.ensures.entry (looks.only.honest.0 honest) (looks.agrees honest agrees) holds.keeps.catalog there_now ∙ ap (λ (es : List Entry). first_after es c.in-Some.entry.key) listed
       ∙ next_at entries loop.turn c.in-Some.entry ascend is ∙ ap (λ (n : ℕ). entry_at n entries) (let e : suc loop.turn ≡ loop.turn + 1 = omega arith in e);
   some = λ honest agrees files holds.
       let m : Map = map_now c.args.pages.now (g.D.Device.state c.args.device.now).disk.present in
@@ -95,3 +95,24 @@ returns-in_err-next-clause-damaged g c = λ honest agrees files holds refused.
     let tree : Rooted = c.catalog_tree-catalog.result in
     let there = catalog_holds m files holds tree c.catalog_tree-catalog.ensures.layout (c.catalog_tree-catalog.ensures.root ∙ c.catalog.ensures) in
     c.first_in.ensures.damaged honest agrees holds.keeps.catalog there told
+
+pub returns-in_err-next-in-Some-clause-looks : goal.returns-in_err-next-in-Some-clause-looks
+returns-in_err-next-in-Some-clause-looks g c =
+    let loop = c.loop-turn in
+    looks_then g.D.Device ⊥ (c.next_in.result ≡ Err Device) _ c.args.pages.now loop.pages c.next_in.new.pages c.args.device.now loop.device c.next_in.new.device
+    (λ is. let from = rw is at c.from_residual-in_err-next-in-Some.ensures.1 in let fault : c.in_err-next-in-Some.field-0.0 ≡ Device = sym from in let told : c.next_in.result ≡ Err Device = c.in_err-next-in-Some.was ∙ ap Err fault in inr told)
+    loop.invariant.looks c.next_in.ensures.looks
+
+pub returns-in_err-next-in-Some-clause-damaged : goal.returns-in_err-next-in-Some-clause-damaged
+returns-in_err-next-in-Some-clause-damaged g c = λ honest agrees files holds refused.
+    let from = rw refused at c.from_residual-in_err-next-in-Some.ensures.1 in
+    let fault : c.in_err-next-in-Some.field-0.0 ≡ Damaged = sym from in
+    let told : c.next_in.result ≡ Err Damaged = c.in_err-next-in-Some.was ∙ ap Err fault in
+    let m : Map = map_now c.args.pages.now (g.D.Device.state c.args.device.now).disk.present in
+    let tree : Rooted = c.catalog_tree-catalog.result in
+    let loop = c.loop-turn in
+    let looks = loop.invariant.looks in
+    let there = catalog_holds m files holds tree c.catalog_tree-catalog.ensures.layout (c.catalog_tree-catalog.ensures.root ∙ c.catalog.ensures) in
+    let same = same_pages c.args.pages.now loop.pages (g.D.Device.state c.args.device.now) (g.D.Device.state loop.device) looks.unchanged (looks.only.state honest) in
+    let there_now = subst (λ (p : List (Option Sector)). Holds tree.layout p tree.root holds.keeps.catalog) (sym same) there in
+    c.next_in.ensures.damaged (looks.only.honest.0 honest) (looks.agrees honest agrees) holds.keeps.catalog there_now told

@@ -5,7 +5,7 @@ use Rattle.alternate_keys.specs.Opened.{Opened}
 use Rattle.alternate_keys.specs.Stands.{Stands}
 use Rattle.alternate_keys.specs.contracts.keeps.PagedStoreKeeps.TheImpl.{ghosts}
 use Rattle.alternate_keys.proofs.ReadCalls.{opened, reads_of}
-use Rattle.alternate_keys.proofs.store.PagedStore.seek.Goals as goal
+use Rattle.alternate_keys.proofs.keeps.PagedStoreStore.seek.Goals as goal
 
 pub returns-clause-reads : goal.returns-clause-reads
 returns-clause-reads g c =
