@@ -1,13 +1,15 @@
 -- Calls on pages, one after the other.
-use Rattle.std.proofs.Common.{◌≤◌, ◌⊎◌, ◌∙◌, [], ap, arith}
+use Rattle.std.proofs.Common.{◌≤◌, ◌⊎◌, inr, ◌∙◌, [], ap, arith}
 use Rattle.station.specs.Calls.{OnlyReads}
 use Rattle.station.specs.declared.device.Device.{Ghosts as Devices}
 use Rattle.station.proofs.Calls.{reads_nothing, reads_then}
 use Rattle.pages.specs.Image.{Map, Volume}
-use Rattle.pages.specs.Pages.{sectors_of, IsOpen}
+use Rattle.station.specs.Disk.{Disk}
+use Rattle.pages.specs.Pages.{sectors_of, Agrees, IsOpen, SameCommitted}
 use Rattle.pages.specs.declared.page_map.PageMap.{PageMap}
 use Rattle.btree.proofs.Frames.{unchanged_still, unchanged_on}
 use Rattle.alternate_keys.specs.Calls.{LooksAt, Edits}
+use Rattle.alternate_keys.specs.Created.{Prepares}
 use Rattle.alternate_keys.proofs.Still.{same_volume}
 
 reads_blamed : {D : Type 0} (d : Devices D) (A B : Type 0) (a b : D) → (B → A) → OnlyReads d A a b → OnlyReads d B a b
@@ -64,3 +66,27 @@ module _ {D : Type 0} (d : Devices D) where
       let same = ap (λ (v : Volume). v.root.sectors) (same_volume p q edits.committed) in
       let many = edits.only.sectors in
       omega (arith, same, many, fits)
+
+  -- the last call alone is to blame
+  pub edits_last : (A B C : Type 0) (p q r : PageMap) (a b c : D) → (C → B) → Edits d A p a q b → Edits d B q b r c → Edits d C p a r c
+  edits_last A B C p q r a b c from first second = edits_then A B C p q r a b c (λ is. inr (from is)) first second
+
+  -- and where the root of the catalog may be another
+  pub prepares_of : (A : Type 0) (p q : PageMap) (a b : D) → Edits d A p a q b → Prepares d A p a q b
+  prepares_of A p q a b edits = record { only = edits.only; committed = edits.committed; agrees = edits.agrees; is_open = edits.is_open }
+
+  pub prepares_then : (A B C : Type 0) (p q r : PageMap) (a b c : D) → (C → B) → Edits d A p a q b → Prepares d B q b r c → Prepares d C p a r c
+  prepares_then A B C p q r a b c from first second = record {
+    only = reads_then d A B C a b c (λ is. inr (from is)) first.only second.only;
+    committed = record { volume = second.committed.volume ∙ first.committed.volume; spent = second.committed.spent ∙ first.committed.spent };
+    agrees = λ honest agrees. second.agrees (first.only.honest.0 honest) (first.agrees honest agrees);
+    is_open = second.is_open;
+  }
+
+  pub prepares_set : (A B : Type 0) (p q r : PageMap) (a b : D) → (B → A) → Edits d A p a q b → SameCommitted q r → ((disk : Disk) → Agrees q disk → Agrees r disk) → IsOpen r → Prepares d B p a r b
+  prepares_set A B p q r a b from edits same agrees is_open = record {
+    only = reads_blamed d A B a b from edits.only;
+    committed = record { volume = same.volume ∙ edits.committed.volume; spent = same.spent ∙ edits.committed.spent };
+    agrees = λ honest was. agrees (d.state b).disk (edits.agrees honest was);
+    is_open = is_open;
+  }

@@ -1,5 +1,7 @@
 -- Which refusal of the pages was told.
-use Rattle.std.proofs.Common.{◌≡◌, ◌⊎◌, inl, inr, refl, sym, ap, ◌∙◌}
+use Rattle.std.proofs.Common.{◌≡◌, ◌⊎◌, inl, inr, Result, Err, IfErr, refl, sym, ap, subst, ◌∙◌}
+use Rattle.std.specs.Prelude.{IsOkUnless}
+use Rattle.records.specs.declared.fault.StoreFault.{StoreFault}
 use Rattle.pages.specs.declared.error.PagesError.{PagesError}
 use Rattle.pages.specs.declared.error.PagesError.TheVariants as pages
 use Rattle.records.specs.declared.fault.StoreFault.TheVariants.{Device, Full, Damaged, Memory, Spent}
@@ -27,3 +29,7 @@ commit_sound error (inl is) told = let clash : Device ≡ Damaged = sym (ap faul
 commit_sound error (inr (inl is)) told = let clash : Full ≡ Damaged = sym (ap fault_of is) ∙ told in cc
 commit_sound error (inr (inr (inl is))) told = let clash : Memory ≡ Damaged = sym (ap fault_of is) ∙ told in cc
 commit_sound error (inr (inr (inr is))) told = let clash : Spent ≡ Damaged = sym (ap fault_of is) ∙ told in cc
+
+-- where memory alone may be wanting the device isn't to blame
+pub never_device : {T : Type 0} (result : Result T StoreFault) → IsOkUnless result Memory → result ≡ Err Device → ⊥
+never_device result only is = let clash : Device ≡ Memory = subst (λ r. IfErr r (λ x. x ≡ Memory)) is only in cc

@@ -1,24 +1,25 @@
--- A new row's pairs come to the trees of the alternate keys, one after the other.
+-- The trees of the alternate keys become others, one after the other.
 use Rattle.std.proofs.Common.{◌≡◌, ◌<◌, ◌+◌, ◌++◌, ⊎_elim, ◌⊎◌, inl, inr, ℕ, zero, suc, List, [], ◌∷◌, length, refl, sym, ap, subst, ◌∙◌, append_assoc, arith}
 use Rattle.std.specs.Prelude.{drop, slice_index_or, Option}
 use Rattle.std.proofs.lemmas.List.{length-append}
 use Rattle.station.specs.Disk.{Sector}
+use Rattle.tree_pages.specs.Keys.{Ascend}
 use Rattle.btree.specs.Rooted.{Rooted}
-use Rattle.btree.specs.Entries.{Entry, entries_of, with_entry}
+use Rattle.btree.specs.Entries.{Entry, entries_of}
+use Rattle.btree.specs.Laws.{keys_listed}
+use Rattle.btree.proofs.There.{tree_ascends}
 use Rattle.records.specs.declared.key.KeyOfReference.TheVariants.{Alternate}
-use Rattle.records.specs.Rows.{Row}
-use Rattle.records.specs.Changes.{with_row}
+use Rattle.records.specs.Spec.{Spec}
 use Rattle.records.specs.Files.{File}
-use Rattle.file_trees.specs.Trees.{entry_under, layout_under, AreOf}
+use Rattle.file_trees.specs.Trees.{layout_under, AreOf}
 use Rattle.file_trees.specs.Forest.{Planted, IsForest}
 use Rattle.file_trees.specs.Grows.{StandsAmong}
 use Rattle.file_trees.specs.Volume.{IsIndex, no_tree, planted}
-use Rattle.file_trees.proofs.Comes.{pair_comes}
-use Rattle.alternate_keys.specs.NewRow.{file_with}
 use Rattle.alternate_keys.specs.Placed.{HasIndexes, Become, listed_tree, roots_of}
+use Rattle.alternate_keys.proofs.Among.{grows}
 use Rattle.alternate_keys.proofs.Keeping.{same_tree}
 
-rest_of : {X : Type 0} (xs : List X) (k : ℕ) (d : X) → k < length xs → drop k xs ≡ slice_index_or xs k d ∷ drop (k + 1) xs
+pub rest_of : {X : Type 0} (xs : List X) (k : ℕ) (d : X) → k < length xs → drop k xs ≡ slice_index_or xs k d ∷ drop (k + 1) xs
 rest_of [] k d low = absurd (omega (arith, low))
 rest_of (x ∷ xs) zero d low = refl
 rest_of (x ∷ xs) (suc k) d low = rest_of xs k d (omega (arith, low)) ∙ ap (λ n. slice_index_or xs k d ∷ drop n (x ∷ xs)) (let e : suc (k + 1) ≡ suc k + 1 = omega arith in e)
@@ -64,26 +65,16 @@ stands_next held new before pages left right trees listing i roots has become lo
     ap (λ (l : List Planted). left ++ (become.done ++ l)) rest ∙ sym (append_assoc left become.done (planted tree t.levels ∷ (drop (i + 1) trees ++ right))) in
     record { levels = t.levels; forest = subst (λ (ts : List Planted). IsForest pages ts) parted become.forest; listed = refl }
 
-index_with : (held : File) (row : Row) (i : ℕ) (tree : Rooted) (entries : List Entry) (new : Planted) → AreOf held.spec (Alternate i) held.rows entries → new.tree.layout ≡ layout_under held.spec (Alternate i) →
-    entries_of new.tree.layout new.levels ≡ with_entry entries (entry_under held.spec (Alternate i) row) → IsIndex (file_with row held) i new
-index_with held row i tree entries new are layout listed = record {
-  layout = layout;
-  pairs = subst (λ (es : List Entry). AreOf held.spec (Alternate i) (with_row held.spec.organization row held.rows) es) (sym listed) (pair_comes held.spec (Alternate i) held.rows entries row are);
-}
-
 -- and has become another
-pub become_next : (held : File) (row : Row) (before pages after : List (Option Sector)) (left right trees : List Planted) (listing : List ℕ) (i : ℕ) (roots : List ℕ) → HasIndexes held before left right trees listing →
-    (become : Become (file_with row held) pages left right trees i roots) → i < length held.spec.alternates → (tree new : Rooted) → tree ≡ listed_tree held.spec i listing → new.layout ≡ tree.layout →
-    StandsAmong after (left ++ become.done) (drop (i + 1) trees ++ right) new (with_entry (entries_of tree.layout (slice_index_or trees i no_tree).levels) (entry_under held.spec (Alternate i) row)) →
-    Become (file_with row held) after left right trees (i + 1) (roots ++ new.root ∷ [])
-become_next held row before pages after left right trees listing i roots has become low tree new is layout stands =
-    let t : Planted = slice_index_or trees i no_tree in
+pub become_next : (held after : File) (before pages later : List (Option Sector)) (left right trees : List Planted) (listing : List ℕ) (i : ℕ) (roots : List ℕ) → HasIndexes held before left right trees listing →
+    (become : Become after pages left right trees i roots) → i < length held.spec.alternates → (tree new : Rooted) (entries : List Entry) → tree ≡ listed_tree held.spec i listing → new.layout ≡ tree.layout → after.spec ≡ held.spec →
+    AreOf after.spec (Alternate i) after.rows entries → StandsAmong later (left ++ become.done) (drop (i + 1) trees ++ right) new entries → Become after later left right trees (i + 1) (roots ++ new.root ∷ [])
+become_next held after before pages later left right trees listing i roots has become low tree new entries is layout spec are stands =
     let x : Planted = planted new stands.levels in
-    let index = has.indexes i low in
-    let same : tree ≡ t.tree = is ∙ sym (same_tree t.tree (listed_tree held.spec i listing) index.layout (has.roots i low)) in
-    let are : AreOf held.spec (Alternate i) held.rows (entries_of tree.layout t.levels) =
-    subst (λ (r : Rooted). AreOf held.spec (Alternate i) held.rows (entries_of r.layout t.levels)) (sym same) index.pairs in
-    let own : IsIndex (file_with row held) i x = index_with held row i tree (entries_of tree.layout t.levels) x are (layout ∙ ap (λ (r : Rooted). r.layout) is) stands.listed in
+    let own : IsIndex after i x = record {
+      layout = layout ∙ ap (λ (r : Rooted). r.layout) is ∙ ap (λ (s : Spec). layout_under s (Alternate i)) (sym spec);
+      pairs = subst (λ (es : List Entry). AreOf after.spec (Alternate i) after.rows es) (sym stands.listed) are;
+    } in
     let count = become.count in
     let many = length-append become.done (x ∷ []) in
     let parted : (left ++ become.done) ++ (x ∷ (drop (i + 1) trees ++ right)) ≡ left ++ ((become.done ++ x ∷ []) ++ (drop (i + 1) trees ++ right)) =
@@ -91,17 +82,28 @@ become_next held row before pages after left right trees listing i roots has bec
     record {
       done = become.done ++ x ∷ [];
       count = omega (arith, count, many);
-      forest = subst (λ (ts : List Planted). IsForest after ts) parted stands.forest;
-      indexes = λ k less. by k (cases k less) become.indexes become.count own;
+      forest = subst (λ (ts : List Planted). IsForest later ts) parted stands.forest;
+      indexes = λ k less. by k (below_or_at k i (omega (arith, less))) become.indexes become.count own;
       roots_are = roots_more become.done x ∙ ap (λ (l : List ℕ). l ++ new.root ∷ []) become.roots_are;
     }
   where
-    cases : (k : ℕ) → k < i + 1 → (k < i) ⊎ (k ≡ i)
-    cases k less = below_or_at k i (omega (arith, less))
-
-    by : (k : ℕ) → (k < i) ⊎ (k ≡ i) → ((k : ℕ) → k < i → IsIndex (file_with row held) k (slice_index_or become.done k no_tree)) → length become.done ≡ i → IsIndex (file_with row held) i (planted new stands.levels) →
-        IsIndex (file_with row held) k (slice_index_or (become.done ++ planted new stands.levels ∷ []) k no_tree)
-    by k (inl less) all count own = subst (λ (p : Planted). IsIndex (file_with row held) k p) (sym (at_first become.done (planted new stands.levels) no_tree k (omega (arith, less, count)))) (all k less)
+    by : (k : ℕ) → (k < i) ⊎ (k ≡ i) → ((k : ℕ) → k < i → IsIndex after k (slice_index_or become.done k no_tree)) → length become.done ≡ i → IsIndex after i (planted new stands.levels) →
+        IsIndex after k (slice_index_or (become.done ++ planted new stands.levels ∷ []) k no_tree)
+    by k (inl less) all count own = subst (λ (p : Planted). IsIndex after k p) (sym (at_first become.done (planted new stands.levels) no_tree k (omega (arith, less, count)))) (all k less)
     by k (inr is) all count own =
-        subst (λ (p : Planted). IsIndex (file_with row held) k p) (sym (at_end become.done (planted new stands.levels) no_tree k (is ∙ sym count)))
-        (subst (λ (n : ℕ). IsIndex (file_with row held) n (planted new stands.levels)) (sym is) own)
+        subst (λ (p : Planted). IsIndex after k p) (sym (at_end become.done (planted new stands.levels) no_tree k (is ∙ sym count)))
+        (subst (λ (n : ℕ). IsIndex after n (planted new stands.levels)) (sym is) own)
+
+-- the entries of a tree that stands among others ascend
+pub entries_ascend : (pages : List (Option Sector)) (left right : List Planted) (tree : Rooted) (entries : List Entry) → StandsAmong pages left right tree entries → Ascend (keys_listed entries)
+entries_ascend pages left right tree entries stands =
+    subst (λ (es : List Entry). Ascend (keys_listed es)) stands.listed (tree_ascends tree.layout pages tree.root stands.levels (grows pages left right tree entries stands))
+
+-- the next tree has the pairs of the rows
+pub pairs_next : (held : File) (before : List (Option Sector)) (left right trees : List Planted) (listing : List ℕ) (i : ℕ) → (has : HasIndexes held before left right trees listing) → i < length held.spec.alternates →
+    (tree : Rooted) → tree ≡ listed_tree held.spec i listing → AreOf held.spec (Alternate i) held.rows (entries_of tree.layout (slice_index_or trees i no_tree).levels)
+pairs_next held before left right trees listing i has low tree is =
+    let t : Planted = slice_index_or trees i no_tree in
+    let index = has.indexes i low in
+    let same : t.tree ≡ tree = same_tree t.tree (listed_tree held.spec i listing) index.layout (has.roots i low) ∙ sym is in
+    subst (λ (r : Rooted). AreOf held.spec (Alternate i) held.rows (entries_of r.layout t.levels)) same index.pairs

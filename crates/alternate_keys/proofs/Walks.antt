@@ -1,6 +1,6 @@
 -- Going through the alternate keys of a file.
 use Rattle.std.proofs.Common.{◌≡◌, ◌<◌, ◌+◌, ◌&&◌, ◌||◌, Bool, true, false, not, ℕ, zero, suc, List, [], ◌∷◌, ◌++◌, length, take, refl, sym, ap, ◌∙◌, arith}
-use Rattle.std.specs.Prelude.{slice_index_or}
+use Rattle.std.specs.Prelude.{filter, slice_index_or, if◌then◌else◌}
 use Rattle.std.specs.List.{list_any}
 
 any_append : {X : Type 0} (f : X → Bool) (xs ys : List X) → list_any f (xs ++ ys) ≡ (list_any f xs || list_any f ys)
@@ -50,3 +50,14 @@ any_at f (x ∷ xs) (suc k) d low is = or_second (f x) (list_any f xs) (any_at f
 pub allowed : (duplicates repeated : Bool) → (not duplicates && repeated) ≡ false → (duplicates && repeated) ≡ repeated
 allowed true repeated is = refl
 allowed false repeated is = sym is
+
+-- those that a filter leaves, among all
+pub any_filtered : {X : Type 0} (n a r : X → Bool) (xs : List X) → list_any (λ x. a x && r x) (filter n xs) ≡ list_any (λ x. a x && (n x && r x)) xs
+any_filtered n a r [] = refl
+any_filtered n a r (x ∷ xs) = by (n x) (a x) (r x) refl refl refl (any_filtered n a r xs)
+  where
+    by : (b c d : Bool) → n x ≡ b → a x ≡ c → r x ≡ d → list_any (λ y. a y && r y) (filter n xs) ≡ list_any (λ y. a y && (n y && r y)) xs →
+        list_any (λ y. a y && r y) (if b then x ∷ filter n xs else filter n xs) ≡ ((a x && (b && r x)) || list_any (λ y. a y && (n y && r y)) xs)
+    by true c d is first second rest = ap (λ (e : Bool). (a x && r x) || e) rest
+    by false true d is first second rest = rest ∙ sym (ap (λ (e : Bool). (e && false) || list_any (λ y. a y && (n y && r y)) xs) first)
+    by false false d is first second rest = rest ∙ sym (ap (λ (e : Bool). (e && false) || list_any (λ y. a y && (n y && r y)) xs) first)

@@ -10,3 +10,6 @@ pub mod Calls
 pub mod Placed
 pub mod Held
 pub mod Settles
+pub mod Moved
+pub mod Turned
+pub mod Created

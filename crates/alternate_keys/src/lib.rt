@@ -5,22 +5,35 @@
 
 mod aim;
 mod aiming;
+mod changing;
+mod clearing;
+mod counting;
+mod creating;
 mod enter;
 mod fault;
 mod file_tree;
 mod finding;
+mod finding_row;
 mod keeps;
+mod leave;
 mod listing;
 mod look;
-mod new_pairs;
+mod move_pairs;
 mod new_row;
+mod old_row;
 mod opening;
 mod repeats;
 mod row_bytes;
+mod row_calls;
+mod row_changes;
+mod row_trees;
+mod row_turn;
+mod row_verb;
 mod seek;
 mod seeking;
 mod settling;
 mod store;
+mod stored;
 mod tell;
 mod values;
 

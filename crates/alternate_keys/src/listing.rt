@@ -4,7 +4,7 @@ ghost use Rattle.station.specs.Calls.{OnlyReads};
 ghost use Rattle.pages.specs.Pages.{map_now, is_spent, catalog_of, sectors_of, Agrees, IsOpen, Unchanged};
 ghost use Rattle.btree.specs.Calls.{Agreed, pages_on};
 ghost use Rattle.btree.specs.Entries.{entry_with, with_value};
-ghost use Rattle.btree.specs.Told.{FewChanged};
+ghost use Rattle.btree.specs.Told.{FewChanged, FewFilled};
 ghost use Rattle.records.specs.Spec.{is_name};
 ghost use Rattle.records.specs.Files.{Files, file_at};
 ghost use Rattle.file_trees.specs.Catalog.{padded, catalog_layout};
@@ -25,7 +25,7 @@ use std::alloc::Global;
 use tree_pages::RowLayout;
 
 /// The tree of the catalog.
-fn catalog_tree(alloc: Global, root: u32) -> Tree
+pub(crate) fn catalog_tree(alloc: Global, root: u32) -> Tree
     ensures layout { result.layout ≡ catalog_layout }
     ensures root { result.root ≡ root }
 {
@@ -83,6 +83,7 @@ pub(crate) fn replace_listing<D: Device>(
         OnOk result (StandsAmong (pages_on D.Device pages.new device.old) left right (catalog_at (catalog_of pages.old)) (with_value entries (record { key = padded name.now; value = listing.now })))) }
     ensures damaged { OnAmong D.Device (catalog_at (catalog_of pages.old)) pages.old device.old (λ left right entries. IsSome (entry_with entries (padded name.now)) → result ≡ Err StoreFault.Damaged → ⊥) }
     ensures few { FewChanged 1 pages.old pages.new }
+    ensures filled { FewFilled 1 pages.old pages.new }
     ensures spent { result ≡ Err StoreFault.Spent → is_spent pages.old ≡ true }
     ensures cause { IfErr result IsReadFault }
 {

@@ -1,21 +1,20 @@
-//! A new row comes to the trees of its file.
-ghost use Rattle.std.specs.Prelude.{◌≡◌, ◌≤◌, ◌<◌, ◌+◌, true, false, ℕ, Ok, Err, None, IsSome, length, IfErr};
+//! A new row comes to the tree of rows.
+ghost use Rattle.std.specs.Prelude.{◌≡◌, ◌≤◌, ◌<◌, ◌+◌, true, false, Ok, Err, None, IsSome, length, IfErr};
 ghost use Rattle.station.specs.Calls.{OnlyReads};
 ghost use Rattle.pages.specs.Pages.{is_spent, catalog_of, committed_of, sectors_of, changed_pages_of, Agrees, IsOpen, SameCommitted, Unchanged};
 ghost use Rattle.pages.specs.Use.{free_count};
 ghost use Rattle.btree.specs.Calls.{Agreed, pages_on};
 ghost use Rattle.btree.specs.Entries.{entry_with, with_entry};
 ghost use Rattle.btree.specs.Told.{FewChanged};
-ghost use Rattle.records.specs.Stores.{spec_of, IsKey};
+ghost use Rattle.records.specs.Stores.{spec_of};
 ghost use Rattle.file_trees.specs.Grows.{StandsAmong};
 ghost use Rattle.file_trees.specs.Trees.{entry_under, layout_under};
 ghost use Rattle.alternate_keys.specs.Among.{OnAmong};
 ghost use Rattle.alternate_keys.specs.Faults.{IsWriteFault};
 ghost use Rattle.alternate_keys.specs.NewRow.{row_with};
 
-use crate::aiming::pair_bytes;
 use crate::enter::insert_among;
-use crate::row_bytes::{new_value, part_of, row_key};
+use crate::row_bytes::{new_value, row_key};
 use btree::Tree;
 use pages::PageMap;
 use records::{FileSpec, KeyOfReference, StoreFault};
@@ -59,45 +58,4 @@ pub(crate) fn insert_row<D: Device>(
     let key = row_key(alloc, file, number, bytes)?;
     let value = new_value(alloc, file, arrival, bytes)?;
     insert_among(prime, pages, device, &key, &value)
-}
-
-/// Puts the pair of a new row into the tree of an alternate key, beside which others stay. `false` tells that it is there, and then
-/// nothing was changed.
-pub(crate) fn insert_pair<D: Device>(
-    alloc: Global,
-    tree: &mut Tree,
-    pages: &mut PageMap,
-    device: &mut D,
-    file: &FileSpec,
-    key: u8,
-    arrival: u64,
-    bytes: &[u8],
-) -> Result<bool, StoreFault>
-    requires open { IsOpen pages.old }
-    requires sectors { sectors_of pages.old ≤ D.sectors device.old }
-    requires key { IsKey (spec_of file.now) (KeyOfReference.Alternate key) }
-    requires layout { tree.old.layout ≡ layout_under (spec_of file.now) (KeyOfReference.Alternate key) }
-    requires bytes { length bytes.now ≡ file.now.record_length }
-    ensures only { OnlyReads D.Device (result ≡ Err StoreFault.Device) device.old device.new }
-    ensures inserted { OnAmong D.Device tree.old pages.old device.old (λ left right entries. (number : ℕ) → result ≡ Ok true →
-        (entry_with entries (entry_under (spec_of file.now) (KeyOfReference.Alternate key) (row_with (spec_of file.now) number arrival bytes.now)).key ≡ None)
-        × StandsAmong (pages_on D.Device pages.new device.old) left right tree.new (with_entry entries (entry_under (spec_of file.now) (KeyOfReference.Alternate key) (row_with (spec_of file.now) number arrival bytes.now)))) }
-    ensures there { OnAmong D.Device tree.old pages.old device.old (λ left right entries. (number : ℕ) → result ≡ Ok false →
-        IsSome (entry_with entries (entry_under (spec_of file.now) (KeyOfReference.Alternate key) (row_with (spec_of file.now) number arrival bytes.now)).key)) }
-    ensures same { result ≡ Ok false → Unchanged pages.old pages.new }
-    ensures damaged { OnAmong D.Device tree.old pages.old device.old (λ left right entries. result ≡ Err StoreFault.Damaged → ⊥) }
-    ensures changed_pages { OnAmong D.Device tree.old pages.old device.old (λ left right entries. FewChanged 42 pages.old pages.new) }
-    ensures room { OnAmong D.Device tree.old pages.old device.old (λ left right entries. result ≡ Err StoreFault.Full → free_count (committed_of pages.old) < length (changed_pages_of pages.old) + 42) }
-    ensures layout { tree.new.layout ≡ tree.old.layout }
-    ensures committed { SameCommitted pages.old pages.new }
-    ensures catalog { catalog_of pages.new ≡ catalog_of pages.old }
-    ensures agrees { Agreed D.Device pages.old device.old (Agrees pages.new (D.state device.new).disk) }
-    ensures open { IsOpen pages.new }
-    ensures spent { result ≡ Err StoreFault.Spent → is_spent pages.old ≡ true }
-    ensures cause { IfErr result IsWriteFault }
-{
-    let place = file.key_place(KeyOfReference::Alternate(key));
-    let at = pair_bytes(alloc, part_of(place, bytes), arrival)?;
-    let prime = file.key_place(KeyOfReference::Prime);
-    insert_among(tree, pages, device, &at, part_of(prime, bytes))
 }

@@ -20,7 +20,7 @@ pub(crate) fn part_of(place: KeyPlace, bytes: &[u8]) -> &[u8]
 }
 
 /// A copy of these bytes.
-fn copy_of(alloc: Global, bytes: &[u8]) -> Result<Vec<u8>, StoreFault>
+pub(crate) fn copy_of(alloc: Global, bytes: &[u8]) -> Result<Vec<u8>, StoreFault>
     ensures bytes { IfOk result (λ copy. copy.items ≡ bytes.now) }
     ensures memory { IsOkUnless result StoreFault.Memory }
 {

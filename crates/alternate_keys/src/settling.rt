@@ -34,7 +34,7 @@ pub(crate) fn settle<D: Device>(pages: &mut PageMap, device: &mut D) -> Result<(
 }
 
 /// Whether an outcome tells of a change.
-fn is_done(outcome: Outcome) -> bool
+pub(crate) fn is_done(outcome: Outcome) -> bool
     ensures { result ≡ is_change outcome }
 {
     match outcome {

@@ -1,5 +1,5 @@
 //! Which values of a new record are there already.
-ghost use Rattle.std.specs.Prelude.{◌≡◌, ◌≤◌, ◌&&◌, ◌||◌, not, true, List, Err, length, if◌then◌else◌, slice_index_or, IfOk, IfErr};
+ghost use Rattle.std.specs.Prelude.{◌≡◌, ◌≤◌, ◌&&◌, ◌||◌, not, true, List, Err, length, take, filter, if◌then◌else◌, slice_index_or, IfOk, IfErr};
 ghost use Rattle.pages.specs.Pages.{is_spent, sectors_of, IsOpen};
 ghost use Rattle.btree.specs.Calls.{Agreed, pages_on};
 ghost use Rattle.records.specs.Rows.{Row, no_key};
@@ -7,18 +7,34 @@ ghost use Rattle.records.specs.Changes.{repeats, is_taken, is_duplicate, done};
 ghost use Rattle.records.specs.Stores.{spec_of, IsKey};
 ghost use Rattle.alternate_keys.specs.Calls.{LooksAt};
 ghost use Rattle.alternate_keys.specs.Faults.{IsReadFault};
+ghost use Rattle.alternate_keys.specs.Moved.{HasValues, is_new};
 ghost use Rattle.alternate_keys.specs.Placed.{HasAllPairs, listed_tree};
 ghost use Rattle.alternate_keys.specs.Seen.{HasPairs};
 
 use crate::file_tree::file_tree;
+use crate::old_row::is_changed;
 use crate::repeats::is_value_there;
 use crate::row_bytes::part_of;
+use crate::row_verb::RowVerb;
 use pages::PageMap;
 use records::{FileSpec, KeyOfReference, Outcome, StoreFault};
 use station::Device;
 use std::alloc::Global;
 
-/// Whether a row has the value that a record has of an alternate key.
+/// Whether a row comes to its value of an alternate key by this change.
+fn is_new_value(verb: RowVerb, file: &FileSpec, key: u8, old: &[u8], bytes: &[u8]) -> bool
+    requires key { IsKey (spec_of file.now) (KeyOfReference.Alternate key) }
+    requires values { HasValues verb (spec_of file.now) old.now bytes.now }
+    ensures { result ≡ is_new verb (take file.now.record_length old.now) bytes.now (slice_index_or (spec_of file.now).alternates key no_key) }
+{
+    match verb {
+        RowVerb::Insert => true,
+        RowVerb::Replace => is_changed(file, key, old, bytes),
+        RowVerb::Remove => true,
+    }
+}
+
+/// Whether a record comes to a value of an alternate key that a row has.
 pub(crate) fn is_repeated<D: Device>(
     alloc: Global,
     pages: &mut PageMap,
@@ -26,21 +42,27 @@ pub(crate) fn is_repeated<D: Device>(
     file: &FileSpec,
     key: u8,
     listing: &[u8],
+    verb: RowVerb,
+    old: &[u8],
     bytes: &[u8],
 ) -> Result<bool, StoreFault>
     requires open { IsOpen pages.old }
     requires sectors { sectors_of pages.old ≤ D.sectors device.old }
     requires key { IsKey (spec_of file.now) (KeyOfReference.Alternate key) }
     requires listing { length listing.now ≡ 83 }
+    requires values { HasValues verb (spec_of file.now) old.now bytes.now }
     requires bytes { length bytes.now ≡ file.now.record_length }
     ensures looks { LooksAt D.Device (result ≡ Err StoreFault.Device) pages.old device.old pages.new device.new }
     ensures repeated { Agreed D.Device pages.old device.old ((rows : List Row) → HasPairs (spec_of file.now) (KeyOfReference.Alternate key) (pages_on D.Device pages.old device.old) rows (listed_tree (spec_of file.now) key listing.now) →
-        IfOk result (λ repeated. repeated ≡ repeats rows bytes.now (slice_index_or (spec_of file.now).alternates key no_key))) }
+        IfOk result (λ repeated. repeated ≡ (is_new verb (take file.now.record_length old.now) bytes.now (slice_index_or (spec_of file.now).alternates key no_key) && repeats rows bytes.now (slice_index_or (spec_of file.now).alternates key no_key)))) }
     ensures damaged { Agreed D.Device pages.old device.old ((rows : List Row) → HasPairs (spec_of file.now) (KeyOfReference.Alternate key) (pages_on D.Device pages.old device.old) rows (listed_tree (spec_of file.now) key listing.now) →
         result ≡ Err StoreFault.Damaged → ⊥) }
     ensures spent { result ≡ Err StoreFault.Spent → is_spent pages.old ≡ true }
     ensures cause { IfErr result IsReadFault }
 {
+    if !is_new_value(verb, file, key, old, bytes) {
+        return Ok(false);
+    }
     let tree = file_tree(alloc, file, KeyOfReference::Alternate(key), listing);
     let place = file.key_place(KeyOfReference::Alternate(key));
     is_value_there(alloc, &tree, pages, device, part_of(place, bytes))
@@ -60,23 +82,27 @@ fn either(one: bool, two: bool) -> bool
     if one { true } else { two }
 }
 
-/// What a new record comes to by its values of the alternate keys: `Taken` where a row has its value of one without DUPLICATES,
-/// `Duplicate` where a row has its value of one with them, or `Done`.
+/// What a record comes to by its values of the alternate keys, or of those of which it has another value than the row had: `Taken`
+/// where a row has its value of one without DUPLICATES, `Duplicate` where a row has its value of one with them, or `Done`.
 pub(crate) fn look_at_values<D: Device>(
     alloc: Global,
     pages: &mut PageMap,
     device: &mut D,
     file: &FileSpec,
     listing: &[u8],
+    verb: RowVerb,
+    old: &[u8],
     bytes: &[u8],
 ) -> Result<Outcome, StoreFault>
     requires open { IsOpen pages.old }
     requires sectors { sectors_of pages.old ≤ D.sectors device.old }
     requires listing { length listing.now ≡ 83 }
+    requires values { HasValues verb (spec_of file.now) old.now bytes.now }
     requires bytes { length bytes.now ≡ file.now.record_length }
     ensures looks { LooksAt D.Device (result ≡ Err StoreFault.Device) pages.old device.old pages.new device.new }
     ensures told { Agreed D.Device pages.old device.old ((rows : List Row) → HasAllPairs (spec_of file.now) (pages_on D.Device pages.old device.old) rows listing.now →
-        IfOk result (λ outcome. outcome ≡ (if is_taken (spec_of file.now).alternates rows bytes.now then Outcome.Taken else done (is_duplicate (spec_of file.now).alternates rows bytes.now)))) }
+        IfOk result (λ outcome. outcome ≡ (if is_taken (filter (is_new verb (take file.now.record_length old.now) bytes.now) (spec_of file.now).alternates) rows bytes.now then Outcome.Taken else
+            done (is_duplicate (filter (is_new verb (take file.now.record_length old.now) bytes.now) (spec_of file.now).alternates) rows bytes.now)))) }
     ensures damaged { Agreed D.Device pages.old device.old ((rows : List Row) → HasAllPairs (spec_of file.now) (pages_on D.Device pages.old device.old) rows listing.now → result ≡ Err StoreFault.Damaged → ⊥) }
     ensures spent { result ≡ Err StoreFault.Spent → is_spent pages.old ≡ true }
     ensures cause { IfErr result IsReadFault }
@@ -84,7 +110,7 @@ pub(crate) fn look_at_values<D: Device>(
     let count = file.alternates.len() as u8;
     let mut duplicate = false;
     for key in 0..count {
-        let repeated = is_repeated(alloc, pages, device, file, key, listing, bytes)?;
+        let repeated = is_repeated(alloc, pages, device, file, key, listing, verb, old, bytes)?;
         if is_barred(file.alternates[key as usize].duplicates, repeated) {
             return Ok(Outcome::Taken);
         }

@@ -1,0 +1,50 @@
+-- A call of the store that may change files.
+use Rattle.std.proofs.Common.{◌≡◌, inl, refl, Bool, true, false, ℕ, List, Result, Ok, Err, IfErr, OnOk, sym, ap, subst, ◌∙◌}
+use Rattle.station.specs.Calls.{OnlyWrites}
+use Rattle.station.specs.declared.device.Device.{Ghosts as Devices}
+use Rattle.station.proofs.Spans.{stays}
+use Rattle.pages.specs.Pages.{sectors_of}
+use Rattle.pages.specs.declared.page_map.PageMap.{PageMap}
+use Rattle.records.specs.Calls.{StandsFor, Changes, Turns}
+use Rattle.records.specs.declared.fault.StoreFault.{StoreFault}
+use Rattle.records.specs.declared.fault.StoreFault.TheVariants.{Device, Spent, Layout}
+use Rattle.records.specs.Files.{Files}
+use Rattle.alternate_keys.specs.Faults.{IsWriteFault}
+use Rattle.alternate_keys.specs.Held.{held_law}
+use Rattle.alternate_keys.specs.Turned.{Turned}
+use Rattle.alternate_keys.specs.contracts.keeps.PagedStoreKeeps.TheImpl.{ghosts}
+use Rattle.alternate_keys.proofs.ReadCalls.{opened}
+
+pub changes_of : {D : Type 0} (d : Devices D) {T : Type 0} (result : Result T StoreFault) (old new : PageMap) (spent spent' : Bool) (device device' : D) →
+    OnlyWrites d (result ≡ Err Device) device device' → sectors_of new ≡ sectors_of old → OnOk result (spent' ≡ spent) → (result ≡ Err Spent → spent ≡ true) → IfErr result IsWriteFault →
+    Changes ghosts d result (opened old spent) device (opened new spent') device'
+changes_of d result old new spent spent' device device' only sectors same told cause = record {
+  only = only;
+  needs = sectors;
+  same = same;
+  spent = told;
+  own_layout = λ is. subst (λ r. IfErr r IsWriteFault) is cause;
+}
+
+ok_then : {T E : Type 0} (A B : Type 0) (result : Result T E) → (A → B) → OnOk result A → OnOk result B
+ok_then A B (Ok x) from is = from is
+ok_then A B (Err e) from is = is
+
+pub turns_of : {D : Type 0} (d : Devices D) {T : Type 0} (result : Result T StoreFault) (is_new : Bool) (name : List ℕ) (before after : Files) (old new : PageMap) (spent spent' : Bool) (device device' : D) →
+    d.is_honest device' → Turned d result is_new name before after old device new device' → Turns ghosts d result is_new name before after (opened old spent) device (opened new spent') device'
+turns_of d result is_new name before after old new spent spent' device device' honest turned = record {
+  there = ok_then _ _ result (λ stands. record { honest = honest; there = stands }) turned.stands;
+  moments = turned.moments;
+  sound = turned.sound;
+  room = turned.room;
+}
+
+-- a spent store
+pub rests_of : {D : Type 0} (d : Devices D) {T : Type 0} (is_new : Bool) (name : List ℕ) (before after : Files) (old : PageMap) (spent : Bool) (device : D) → StandsFor ghosts d (opened old spent) device before →
+    Turns ghosts d (Err {T = T} Spent) is_new name before after (opened old spent) device (opened old spent) device
+rests_of d is_new name before after old spent device stands = record {
+  there = tt;
+  moments = stays (d.history device) (d.state device) _ (record { events = refl; images = λ image crash. inl (held_law old (d.state device).disk image before stands.there crash) });
+  sound = λ is. cc;
+  room = λ is. cc;
+}

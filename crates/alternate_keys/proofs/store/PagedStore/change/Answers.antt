@@ -1,0 +1,33 @@
+use Rattle.std.proofs.Common.{◌≡◌, inl, false, refl, sym, subst}
+use Rattle.station.proofs.Spans.{stays}
+use Rattle.pages.specs.Pages.{committed_of}
+use Rattle.records.specs.Files.{Files}
+use Rattle.records.specs.Stores.{files_after}
+use Rattle.alternate_keys.specs.Held.{held_law}
+use Rattle.alternate_keys.specs.Moved.{changed_by}
+use Rattle.alternate_keys.specs.Opened.{Opened}
+use Rattle.alternate_keys.specs.Stands.{Stands, LacksRoom}
+use Rattle.alternate_keys.proofs.store.PagedStore.change.Goals as goal
+
+pub returns-then-self-clause-turns : goal.returns-then-self-clause-turns
+returns-then-self-clause-turns g c = λ files held stands has.
+    let old = g.D.Device.state c.args.device.now in
+    record {
+      there = tt;
+      moments = stays (g.D.Device.history c.args.device.now) old _ (record { events = refl; images = λ image crash. inl (held_law c.args.self.now.pages old.disk image files stands.there crash) });
+      sound = λ e. absurd cc;
+      room = λ e. absurd cc;
+    }
+
+pub returns-in-Err-clause-turns : goal.returns-in-Err-clause-turns
+returns-in-Err-clause-turns g c = λ files held stands has.
+    let name = c.args.file.now.name.items in
+    let after : Files = files_after name files (changed_by c.args.verb c.args.file.now.organization c.args.number c.args.bytes.now held) in
+    let there = subst (λ (s : Opened). Stands s.pages (g.D.Device.state c.args.device.now).disk files) (sym c.self.view_is) stands.there in
+    let turned = c.in-Err.ensures.turned stands.honest files held there has in
+    record {
+      there = tt;
+      moments = turned.moments;
+      sound = turned.sound;
+      room = λ is. subst (λ (s : Opened). LacksRoom (committed_of s.pages) false name after) c.self.view_is (turned.room is);
+    }

@@ -1,0 +1,106 @@
+//! The trees of a file give up their pages.
+ghost use Rattle.std.specs.Prelude.{◌≡◌, ◌≤◌, ◌++◌, true, Err, length, OnOk, IfErr};
+ghost use Rattle.pages.specs.Pages.{is_spent, sectors_of, filled_of, IsOpen};
+ghost use Rattle.btree.specs.Calls.{pages_on};
+ghost use Rattle.records.specs.Stores.{key_count};
+ghost use Rattle.file_trees.specs.Forest.{IsForest};
+ghost use Rattle.alternate_keys.specs.Calls.{Edits};
+ghost use Rattle.alternate_keys.specs.Created.{OnForest, OnStored, OnAlternates, OnListed};
+ghost use Rattle.alternate_keys.specs.Faults.{IsReadFault};
+
+use crate::fault::to_fault;
+use crate::stored::{stored_count, stored_tree};
+use btree::Tree;
+use pages::PageMap;
+use records::{KeyOfReference, StoreFault};
+use station::Device;
+use std::alloc::Global;
+
+/// Gives up all pages of a tree, beside which others stay.
+fn clear_among<D: Device>(
+    tree: &mut Tree,
+    pages: &mut PageMap,
+    device: &mut D,
+) -> Result<(), StoreFault>
+    requires open { IsOpen pages.old }
+    requires sectors { sectors_of pages.old ≤ D.sectors device.old }
+    ensures edits { Edits D.Device (result ≡ Err StoreFault.Device) pages.old device.old pages.new device.new }
+    ensures cleared { OnForest D.Device tree.old pages.old device.old (λ left right. OnOk result (IsForest (pages_on D.Device pages.new device.old) (left ++ right))) }
+    ensures damaged { OnForest D.Device tree.old pages.old device.old (λ left right. result ≡ Err StoreFault.Damaged → ⊥) }
+    ensures filled { filled_of pages.new ≤ filled_of pages.old }
+    ensures spent { result ≡ Err StoreFault.Spent → is_spent pages.old ≡ true }
+    ensures cause { IfErr result IsReadFault }
+{
+    match tree.clear(pages, device) {
+        Ok(()) => Ok(()),
+        Err(error) => Err(to_fault(error)),
+    }
+}
+
+/// Gives up all pages of the tree of a key, as a value of the catalog says it.
+fn clear_tree<D: Device>(
+    alloc: Global,
+    pages: &mut PageMap,
+    device: &mut D,
+    value: &[u8],
+    key: KeyOfReference,
+) -> Result<(), StoreFault>
+    requires open { IsOpen pages.old }
+    requires sectors { sectors_of pages.old ≤ D.sectors device.old }
+    requires value { length value.now ≡ 83 }
+    requires key { key_count key ≤ 7 }
+    ensures edits { Edits D.Device (result ≡ Err StoreFault.Device) pages.old device.old pages.new device.new }
+    ensures cleared { OnStored D.Device value.now key pages.old device.old (λ left right. OnOk result (IsForest (pages_on D.Device pages.new device.old) (left ++ right))) }
+    ensures damaged { OnStored D.Device value.now key pages.old device.old (λ left right. result ≡ Err StoreFault.Damaged → ⊥) }
+    ensures filled { filled_of pages.new ≤ filled_of pages.old }
+    ensures spent { result ≡ Err StoreFault.Spent → is_spent pages.old ≡ true }
+    ensures cause { IfErr result IsReadFault }
+{
+    let mut tree = stored_tree(alloc, value, key)?;
+    clear_among(&mut tree, pages, device)
+}
+
+/// Gives up all pages of the trees of a file's alternate keys, as a value of the catalog says them.
+fn clear_alternates<D: Device>(
+    alloc: Global,
+    pages: &mut PageMap,
+    device: &mut D,
+    value: &[u8],
+) -> Result<(), StoreFault>
+    requires open { IsOpen pages.old }
+    requires sectors { sectors_of pages.old ≤ D.sectors device.old }
+    requires value { length value.now ≡ 83 }
+    ensures edits { Edits D.Device (result ≡ Err StoreFault.Device) pages.old device.old pages.new device.new }
+    ensures cleared { OnAlternates D.Device pages.old device.old value.now (λ left right. OnOk result (IsForest (pages_on D.Device pages.new device.old) (left ++ right))) }
+    ensures damaged { OnAlternates D.Device pages.old device.old value.now (λ left right. result ≡ Err StoreFault.Damaged → ⊥) }
+    ensures filled { filled_of pages.new ≤ filled_of pages.old }
+    ensures spent { result ≡ Err StoreFault.Spent → is_spent pages.old ≡ true }
+    ensures cause { IfErr result IsReadFault }
+{
+    let count = stored_count(value);
+    for key in 0..count {
+        clear_tree(alloc, pages, device, value, KeyOfReference::Alternate(key))?;
+    }
+    Ok(())
+}
+
+/// Gives up all pages of the trees of a file, as a value of the catalog says them.
+pub(crate) fn clear_trees<D: Device>(
+    alloc: Global,
+    pages: &mut PageMap,
+    device: &mut D,
+    value: &[u8],
+) -> Result<(), StoreFault>
+    requires open { IsOpen pages.old }
+    requires sectors { sectors_of pages.old ≤ D.sectors device.old }
+    requires value { length value.now ≡ 83 }
+    ensures edits { Edits D.Device (result ≡ Err StoreFault.Device) pages.old device.old pages.new device.new }
+    ensures cleared { OnListed D.Device pages.old device.old value.now (λ left right. OnOk result (IsForest (pages_on D.Device pages.new device.old) (left ++ right))) }
+    ensures damaged { OnListed D.Device pages.old device.old value.now (λ left right. result ≡ Err StoreFault.Damaged → ⊥) }
+    ensures filled { filled_of pages.new ≤ filled_of pages.old }
+    ensures spent { result ≡ Err StoreFault.Spent → is_spent pages.old ≡ true }
+    ensures cause { IfErr result IsReadFault }
+{
+    clear_tree(alloc, pages, device, value, KeyOfReference::Prime)?;
+    clear_alternates(alloc, pages, device, value)
+}

@@ -1,0 +1,202 @@
+//! A row comes to the trees of its file, gets another record there, or leaves them. The catalog doesn't say so yet.
+ghost use Rattle.std.specs.Prelude.{◌≡◌, ◌≤◌, ◌<◌, ◌+◌, ◌*◌, true, false, Err, length, OnOk, IfOk, IfErr};
+ghost use Rattle.pages.specs.Pages.{is_spent, committed_of, sectors_of, changed_pages_of, IsOpen, Unchanged};
+ghost use Rattle.pages.specs.Use.{free_count};
+ghost use Rattle.btree.specs.Calls.{pages_on};
+ghost use Rattle.btree.specs.Told.{FewChanged};
+ghost use Rattle.records.specs.Changes.{inserted, replaced, removed};
+ghost use Rattle.records.specs.Stores.{spec_of, key_length, pair_of, IsNumber, is_change};
+ghost use Rattle.alternate_keys.specs.Calls.{Edits};
+ghost use Rattle.alternate_keys.specs.Faults.{IsWriteFault};
+ghost use Rattle.alternate_keys.specs.Moved.{named_after, changed_by, IsAsked};
+ghost use Rattle.alternate_keys.specs.Placed.{OnTrees, Placed};
+
+use crate::file_tree::file_tree;
+use crate::finding_row::find_row;
+use crate::leave::{remove_among, replace_among};
+use crate::new_row::insert_row;
+use crate::old_row::{arrival_next, value_after};
+use crate::row_bytes::{number_for, part_of};
+use crate::row_trees::move_row;
+use crate::row_turn::RowTurn;
+use crate::row_verb::RowVerb;
+use crate::settling::is_done;
+use crate::values::look_at_values;
+use file_trees::next_arrival;
+use pages::PageMap;
+use records::{FileSpec, KeyOfReference, Outcome, StoreFault};
+use station::Device;
+use std::alloc::Global;
+
+/// A new row comes.
+fn insert_trees<D: Device>(
+    alloc: Global,
+    pages: &mut PageMap,
+    device: &mut D,
+    file: &FileSpec,
+    listing: &[u8],
+    number: u64,
+    bytes: &[u8],
+) -> Result<RowTurn, StoreFault>
+    requires open { IsOpen pages.old }
+    requires sectors { sectors_of pages.old ≤ D.sectors device.old }
+    requires listing { length listing.now ≡ 83 }
+    requires number { IsNumber file.now.organization number }
+    requires bytes { length bytes.now ≡ file.now.record_length }
+    ensures edits { Edits D.Device (result ≡ Err StoreFault.Device) pages.old device.old pages.new device.new }
+    ensures outcome { OnTrees D.Device (spec_of file.now) pages.old device.old listing.now (λ named generation left right. IfOk result (λ turn. turn.outcome ≡ (inserted number bytes.now named.file).outcome)) }
+    ensures placed { OnTrees D.Device (spec_of file.now) pages.old device.old listing.now (λ named generation left right. IfOk result (λ turn. is_change turn.outcome ≡ true →
+        Placed (named_after named (inserted number bytes.now named.file)) (generation + 1) (pages_on D.Device pages.new device.old) left right turn.listing.items)) }
+    ensures few { OnTrees D.Device (spec_of file.now) pages.old device.old listing.now (λ named generation left right. OnOk result (FewChanged (84 * length file.now.alternates.items + 42) pages.old pages.new)) }
+    ensures room { OnTrees D.Device (spec_of file.now) pages.old device.old listing.now (λ named generation left right. result ≡ Err StoreFault.Full →
+        free_count (committed_of pages.old) < length (changed_pages_of pages.old) + (84 * length file.now.alternates.items + 42)) }
+    ensures damaged { OnTrees D.Device (spec_of file.now) pages.old device.old listing.now (λ named generation left right. result ≡ Err StoreFault.Damaged → ⊥) }
+    ensures same { IfOk result (λ turn. is_change turn.outcome ≡ false → Unchanged pages.old pages.new) }
+    ensures long { IfOk result (λ turn. is_change turn.outcome ≡ true → length turn.listing.items ≡ 83) }
+    ensures spent { result ≡ Err StoreFault.Spent → is_spent pages.old ≡ true }
+    ensures cause { IfErr result IsWriteFault }
+{
+    let outcome = look_at_values(alloc, pages, device, file, listing, RowVerb::Insert, &[], bytes)?;
+    if !is_done(outcome) {
+        return Ok(RowTurn::none(alloc, outcome));
+    }
+    let arrival = next_arrival(listing);
+    if arrival == u64::MAX {
+        return Err(StoreFault::Damaged);
+    }
+    let mut prime = file_tree(alloc, file, KeyOfReference::Prime, listing);
+    let own = number_for(file.organization, number, arrival);
+    if !insert_row(alloc, &mut prime, pages, device, file, own, arrival, bytes)? {
+        return Ok(RowTurn::none(alloc, Outcome::Taken));
+    }
+    let root = prime.root();
+    let listing = move_row(alloc, pages, device, file, listing, RowVerb::Insert, &[], arrival, bytes, root, arrival + 1)?;
+    Ok(RowTurn { outcome, listing })
+}
+
+/// A row gets another record.
+fn replace_trees<D: Device>(
+    alloc: Global,
+    pages: &mut PageMap,
+    device: &mut D,
+    file: &FileSpec,
+    listing: &[u8],
+    number: u64,
+    bytes: &[u8],
+) -> Result<RowTurn, StoreFault>
+    requires open { IsOpen pages.old }
+    requires sectors { sectors_of pages.old ≤ D.sectors device.old }
+    requires listing { length listing.now ≡ 83 }
+    requires bytes { length bytes.now ≡ file.now.record_length }
+    ensures edits { Edits D.Device (result ≡ Err StoreFault.Device) pages.old device.old pages.new device.new }
+    ensures outcome { OnTrees D.Device (spec_of file.now) pages.old device.old listing.now (λ named generation left right. IfOk result (λ turn. turn.outcome ≡ (replaced number bytes.now named.file).outcome)) }
+    ensures placed { OnTrees D.Device (spec_of file.now) pages.old device.old listing.now (λ named generation left right. IfOk result (λ turn. is_change turn.outcome ≡ true →
+        Placed (named_after named (replaced number bytes.now named.file)) (generation + 1) (pages_on D.Device pages.new device.old) left right turn.listing.items)) }
+    ensures few { OnTrees D.Device (spec_of file.now) pages.old device.old listing.now (λ named generation left right. OnOk result (FewChanged (84 * length file.now.alternates.items + 42) pages.old pages.new)) }
+    ensures room { OnTrees D.Device (spec_of file.now) pages.old device.old listing.now (λ named generation left right. result ≡ Err StoreFault.Full →
+        free_count (committed_of pages.old) < length (changed_pages_of pages.old) + (84 * length file.now.alternates.items + 42)) }
+    ensures damaged { OnTrees D.Device (spec_of file.now) pages.old device.old listing.now (λ named generation left right. result ≡ Err StoreFault.Damaged → ⊥) }
+    ensures same { IfOk result (λ turn. is_change turn.outcome ≡ false → Unchanged pages.old pages.new) }
+    ensures long { IfOk result (λ turn. is_change turn.outcome ≡ true → length turn.listing.items ≡ 83) }
+    ensures spent { result ≡ Err StoreFault.Spent → is_spent pages.old ≡ true }
+    ensures cause { IfErr result IsWriteFault }
+{
+    let mut prime = file_tree(alloc, file, KeyOfReference::Prime, listing);
+    let place = file.key_place(KeyOfReference::Prime);
+    let row = match find_row(alloc, &prime, pages, device, file, number, part_of(place, bytes))? {
+        Some(row) => row,
+        None => return Ok(RowTurn::none(alloc, Outcome::Missing)),
+    };
+    let old = row.value();
+    let outcome = look_at_values(alloc, pages, device, file, listing, RowVerb::Replace, old, bytes)?;
+    if !is_done(outcome) {
+        return Ok(RowTurn::none(alloc, outcome));
+    }
+    let arrival = next_arrival(listing);
+    if arrival == u64::MAX {
+        return Err(StoreFault::Damaged);
+    }
+    let value = value_after(alloc, file, old, bytes, arrival)?;
+    replace_among(&mut prime, pages, device, row.key(), &value)?;
+    let next = arrival_next(file, old, bytes, arrival);
+    let root = prime.root();
+    let listing = move_row(alloc, pages, device, file, listing, RowVerb::Replace, old, arrival, bytes, root, next)?;
+    Ok(RowTurn { outcome, listing })
+}
+
+/// A row leaves.
+fn remove_trees<D: Device>(
+    alloc: Global,
+    pages: &mut PageMap,
+    device: &mut D,
+    file: &FileSpec,
+    listing: &[u8],
+    number: u64,
+    key: &[u8],
+) -> Result<RowTurn, StoreFault>
+    requires open { IsOpen pages.old }
+    requires sectors { sectors_of pages.old ≤ D.sectors device.old }
+    requires listing { length listing.now ≡ 83 }
+    requires key { length key.now ≡ key_length (spec_of file.now) KeyOfReference.Prime }
+    ensures edits { Edits D.Device (result ≡ Err StoreFault.Device) pages.old device.old pages.new device.new }
+    ensures outcome { OnTrees D.Device (spec_of file.now) pages.old device.old listing.now (λ named generation left right. IfOk result (λ turn. turn.outcome ≡ (removed (pair_of file.now.organization key.now number) named.file).outcome)) }
+    ensures placed { OnTrees D.Device (spec_of file.now) pages.old device.old listing.now (λ named generation left right. IfOk result (λ turn. is_change turn.outcome ≡ true →
+        Placed (named_after named (removed (pair_of file.now.organization key.now number) named.file)) (generation + 1) (pages_on D.Device pages.new device.old) left right turn.listing.items)) }
+    ensures few { OnTrees D.Device (spec_of file.now) pages.old device.old listing.now (λ named generation left right. OnOk result (FewChanged (84 * length file.now.alternates.items + 42) pages.old pages.new)) }
+    ensures room { OnTrees D.Device (spec_of file.now) pages.old device.old listing.now (λ named generation left right. result ≡ Err StoreFault.Full →
+        free_count (committed_of pages.old) < length (changed_pages_of pages.old) + (84 * length file.now.alternates.items + 42)) }
+    ensures damaged { OnTrees D.Device (spec_of file.now) pages.old device.old listing.now (λ named generation left right. result ≡ Err StoreFault.Damaged → ⊥) }
+    ensures same { IfOk result (λ turn. is_change turn.outcome ≡ false → Unchanged pages.old pages.new) }
+    ensures long { IfOk result (λ turn. is_change turn.outcome ≡ true → length turn.listing.items ≡ 83) }
+    ensures spent { result ≡ Err StoreFault.Spent → is_spent pages.old ≡ true }
+    ensures cause { IfErr result IsWriteFault }
+{
+    let mut prime = file_tree(alloc, file, KeyOfReference::Prime, listing);
+    let row = match find_row(alloc, &prime, pages, device, file, number, key)? {
+        Some(row) => row,
+        None => return Ok(RowTurn::none(alloc, Outcome::Missing)),
+    };
+    remove_among(&mut prime, pages, device, row.key())?;
+    let next = next_arrival(listing);
+    let root = prime.root();
+    let listing = move_row(alloc, pages, device, file, listing, RowVerb::Remove, row.value(), next, &[], root, next)?;
+    Ok(RowTurn {
+        outcome: Outcome::Done,
+        listing,
+    })
+}
+
+/// A row of a file changes. The bytes are a record, or the prime key of a row that leaves.
+pub(crate) fn change_trees<D: Device>(
+    alloc: Global,
+    pages: &mut PageMap,
+    device: &mut D,
+    file: &FileSpec,
+    listing: &[u8],
+    verb: RowVerb,
+    number: u64,
+    bytes: &[u8],
+) -> Result<RowTurn, StoreFault>
+    requires open { IsOpen pages.old }
+    requires sectors { sectors_of pages.old ≤ D.sectors device.old }
+    requires listing { length listing.now ≡ 83 }
+    requires asked { IsAsked verb (spec_of file.now) number bytes.now }
+    ensures edits { Edits D.Device (result ≡ Err StoreFault.Device) pages.old device.old pages.new device.new }
+    ensures outcome { OnTrees D.Device (spec_of file.now) pages.old device.old listing.now (λ named generation left right. IfOk result (λ turn. turn.outcome ≡ (changed_by verb file.now.organization number bytes.now named.file).outcome)) }
+    ensures placed { OnTrees D.Device (spec_of file.now) pages.old device.old listing.now (λ named generation left right. IfOk result (λ turn. is_change turn.outcome ≡ true →
+        Placed (named_after named (changed_by verb file.now.organization number bytes.now named.file)) (generation + 1) (pages_on D.Device pages.new device.old) left right turn.listing.items)) }
+    ensures few { OnTrees D.Device (spec_of file.now) pages.old device.old listing.now (λ named generation left right. OnOk result (FewChanged (84 * length file.now.alternates.items + 42) pages.old pages.new)) }
+    ensures room { OnTrees D.Device (spec_of file.now) pages.old device.old listing.now (λ named generation left right. result ≡ Err StoreFault.Full →
+        free_count (committed_of pages.old) < length (changed_pages_of pages.old) + (84 * length file.now.alternates.items + 42)) }
+    ensures damaged { OnTrees D.Device (spec_of file.now) pages.old device.old listing.now (λ named generation left right. result ≡ Err StoreFault.Damaged → ⊥) }
+    ensures same { IfOk result (λ turn. is_change turn.outcome ≡ false → Unchanged pages.old pages.new) }
+    ensures long { IfOk result (λ turn. is_change turn.outcome ≡ true → length turn.listing.items ≡ 83) }
+    ensures spent { result ≡ Err StoreFault.Spent → is_spent pages.old ≡ true }
+    ensures cause { IfErr result IsWriteFault }
+{
+    match verb {
+        RowVerb::Insert => insert_trees(alloc, pages, device, file, listing, number, bytes),
+        RowVerb::Replace => replace_trees(alloc, pages, device, file, listing, number, bytes),
+        RowVerb::Remove => remove_trees(alloc, pages, device, file, listing, number, bytes),
+    }
+}
