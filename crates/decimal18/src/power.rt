@@ -3,7 +3,7 @@ ghost use Rattle.std.specs.Prelude.{◌≡◌, ◌<◌, ◌≤◌, ◌^◌, pos}
 /// Powers of ten in the table.
 const COUNT: usize = 39;
 
-const POWERS: [u128; COUNT] = [
+static POWERS: [u128; COUNT] = [
     1,
     10,
     100,
@@ -58,7 +58,7 @@ pub fn power_of_ten(exponent: u8) -> u128
 /// Powers of ten that fit 64 bits.
 const SHORT_COUNT: usize = 20;
 
-const SHORT_POWERS: [u64; SHORT_COUNT] = [
+static SHORT_POWERS: [u64; SHORT_COUNT] = [
     1,
     10,
     100,

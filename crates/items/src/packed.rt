@@ -21,7 +21,7 @@ const UNSIGNED: u8 = 0xF;
 const COUNT: usize = 100;
 
 /// Two digits in the halves of a byte.
-const PAIRS: [u8; COUNT] = [
+static PAIRS: [u8; COUNT] = [
     0x00, 0x01, 0x02, 0x03, 0x04, 0x05, 0x06, 0x07, 0x08, 0x09, 0x10, 0x11, 0x12, 0x13, 0x14, 0x15,
     0x16, 0x17, 0x18, 0x19, 0x20, 0x21, 0x22, 0x23, 0x24, 0x25, 0x26, 0x27, 0x28, 0x29, 0x30, 0x31,
     0x32, 0x33, 0x34, 0x35, 0x36, 0x37, 0x38, 0x39, 0x40, 0x41, 0x42, 0x43, 0x44, 0x45, 0x46, 0x47,
@@ -35,7 +35,7 @@ const PAIRS: [u8; COUNT] = [
 const BYTES: usize = 256;
 
 /// The number of the two digits in the halves of a byte, or 255 where they aren't digits.
-const NUMBERS: [u8; BYTES] = [
+static NUMBERS: [u8; BYTES] = [
     0, 1, 2, 3, 4, 5, 6, 7, 8, 9, 255, 255, 255, 255, 255, 255, 10, 11, 12, 13, 14, 15, 16, 17, 18,
     19, 255, 255, 255, 255, 255, 255, 20, 21, 22, 23, 24, 25, 26, 27, 28, 29, 255, 255, 255, 255,
     255, 255, 30, 31, 32, 33, 34, 35, 36, 37, 38, 39, 255, 255, 255, 255, 255, 255, 40, 41, 42, 43,
