@@ -38,13 +38,3 @@ turns_of d result is_new name before after old new spent spent' device device' h
   sound = turned.sound;
   room = turned.room;
 }
-
--- a spent store
-pub rests_of : {D : Type 0} (d : Devices D) {T : Type 0} (is_new : Bool) (name : List ℕ) (before after : Files) (old : PageMap) (spent : Bool) (device : D) → StandsFor ghosts d (opened old spent) device before →
-    Turns ghosts d (Err {T = T} Spent) is_new name before after (opened old spent) device (opened old spent) device
-rests_of d is_new name before after old spent device stands = record {
-  there = tt;
-  moments = stays (d.history device) (d.state device) _ (record { events = refl; images = λ image crash. inl (held_law old (d.state device).disk image before stands.there crash) });
-  sound = λ is. cc;
-  room = λ is. cc;
-}

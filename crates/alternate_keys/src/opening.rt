@@ -75,6 +75,13 @@ impl PagedStore {
         }
     }
 
+    /// How many sectors the volume has.
+    pub fn sectors(&self) -> u32
+        ensures { result ≡ sectors_of self.now.pages }
+    {
+        self.pages.sectors()
+    }
+
     /// How many sectors neither the root of the last commit nor its maps use.
     pub fn free_sectors(&self) -> u32
         ensures { self.now.spent ≡ false → result ≡ free_count (committed_of self.now.pages) }
