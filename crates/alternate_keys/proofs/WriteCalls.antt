@@ -1,16 +1,14 @@
 -- A call of the store that may change files.
-use Rattle.std.proofs.Common.{◌≡◌, inl, refl, Bool, true, false, ℕ, List, Result, Ok, Err, IfErr, OnOk, sym, ap, subst, ◌∙◌}
+use Rattle.std.proofs.Common.{◌≡◌, Bool, true, ℕ, List, Result, Ok, Err, IfErr, OnOk, subst}
 use Rattle.station.specs.Calls.{OnlyWrites}
 use Rattle.station.specs.declared.device.Device.{Ghosts as Devices}
-use Rattle.station.proofs.Spans.{stays}
 use Rattle.pages.specs.Pages.{sectors_of}
 use Rattle.pages.specs.declared.page_map.PageMap.{PageMap}
-use Rattle.records.specs.Calls.{StandsFor, Changes, Turns}
+use Rattle.records.specs.Calls.{Changes, Turns}
 use Rattle.records.specs.declared.fault.StoreFault.{StoreFault}
-use Rattle.records.specs.declared.fault.StoreFault.TheVariants.{Device, Spent, Layout}
+use Rattle.records.specs.declared.fault.StoreFault.TheVariants.{Device, Spent}
 use Rattle.records.specs.Files.{Files}
 use Rattle.alternate_keys.specs.Faults.{IsWriteFault}
-use Rattle.alternate_keys.specs.Held.{held_law}
 use Rattle.alternate_keys.specs.Turned.{Turned}
 use Rattle.alternate_keys.specs.contracts.keeps.PagedStoreKeeps.TheImpl.{ghosts}
 use Rattle.alternate_keys.proofs.ReadCalls.{opened}
