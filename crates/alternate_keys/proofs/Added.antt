@@ -1,24 +1,23 @@
 -- A new name among those that are kept.
-use Rattle.std.proofs.Common.{◌≡◌, ◌<◌, ◌≤◌, ◌+◌, ◌++◌, Bool, true, false, ℕ, List, [], ◌∷◌, length, refl, sym, ap, subst, ◌∙◌, arith}
+use Rattle.std.proofs.Common.{◌≡◌, ◌+◌, ◌++◌, true, ℕ, List, [], ◌∷◌, length, refl, sym, ap, subst, ◌∙◌, arith}
 use Rattle.std.specs.Prelude.{map, replicate, Option, Some, None, if◌then◌else◌}
 use Rattle.std.specs.List.{All, AllByRecursion, flat_map}
 use Rattle.std.specs.Ordering.{is_eq, is_lt}
 use Rattle.std.specs.declared.cmp.Ordering.{Ordering}
 use Rattle.std.specs.declared.cmp.Ordering.TheVariants.{Less, Equal, Greater}
 use Rattle.std.proofs.lemmas.Grind.{flat_map-append}
-use Rattle.std.proofs.lemmas.List.{length-append, length-map}
 use Rattle.std.proofs.lemmas.List.Elements.{All-append, All-cons, All-weaker}
 use Rattle.station.specs.Disk.{Sector}
 use Rattle.pages.specs.Image.{Map}
 use Rattle.tree_pages.specs.Keys.{key_cmp}
 use Rattle.btree.specs.Entries.{Entry, with_entry}
 use Rattle.records.specs.Spec.{Spec, is_name}
-use Rattle.records.specs.Rows.{bytes_cmp, same_bytes}
+use Rattle.records.specs.Rows.{bytes_cmp}
 use Rattle.records.specs.Files.{File, Files, Named, IsNamed, AreFiles, empty_file, file_at, with_file}
 use Rattle.file_trees.specs.Catalog.{padded, spelled}
 use Rattle.file_trees.specs.Forest.{Planted, IsForest}
 use Rattle.file_trees.specs.Grows.{StandsAmong}
-use Rattle.file_trees.specs.Volume.{Kept, IsKept, MapHolds, trees_of, catalog_entry, listing_of, planted}
+use Rattle.file_trees.specs.Volume.{Kept, IsKept, MapHolds, trees_of, catalog_entry, planted}
 use Rattle.file_trees.proofs.Forests.{all_left, all_right}
 use Rattle.file_trees.proofs.Names.{names_in_order}
 use Rattle.alternate_keys.specs.Created.{empty_kept}

@@ -1,6 +1,6 @@
 -- Trees without entries, and a file without rows.
-use Rattle.std.proofs.Common.{◌≡◌, ◌<◌, ◌≤◌, ◌+◌, ◌++◌, inl, ℕ, zero, suc, List, [], ◌∷◌, length, refl, sym, ap, subst, ◌∙◌, arith}
-use Rattle.std.specs.Prelude.{map, replicate, slice_index_or, Contains, Option, None}
+use Rattle.std.proofs.Common.{◌≡◌, ◌<◌, ◌+◌, ◌++◌, inl, ℕ, zero, suc, List, [], ◌∷◌, length, refl, sym, ap, subst, ◌∙◌, arith}
+use Rattle.std.specs.Prelude.{map, replicate, slice_index_or, Contains, Option}
 use Rattle.std.specs.List.{All}
 use Rattle.std.proofs.lemmas.Grind.{flat_map-append}
 use Rattle.std.proofs.lemmas.List.Elements.{All-nil, All-cons, All-tail, All-append}
@@ -11,7 +11,7 @@ use Rattle.records.specs.declared.key.KeyOfReference.TheVariants.{Prime, Alterna
 use Rattle.records.specs.Spec.{Spec}
 use Rattle.records.specs.Files.{empty_file}
 use Rattle.file_trees.specs.Catalog.{Listing, spelled}
-use Rattle.file_trees.specs.Trees.{layout_under, AreOf}
+use Rattle.file_trees.specs.Trees.{AreOf}
 use Rattle.file_trees.specs.Forest.{Planted, IsForest, Grows, pages_under, pages_within}
 use Rattle.file_trees.specs.Volume.{IsKept, IsIndex, trees_of, listing_of, no_tree}
 use Rattle.file_trees.proofs.Forests.{all_left, all_right}

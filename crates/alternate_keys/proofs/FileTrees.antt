@@ -1,7 +1,7 @@
 -- The trees of a file that stand among others.
-use Rattle.std.proofs.Common.{◌≡◌, ◌<◌, ◌≤◌, ◌+◌, ◌^◌, ◌++◌, ℕ, Bool, true, List, [], ◌∷◌, length, refl, sym, ap, subst, ◌∙◌, append_assoc, arith}
+use Rattle.std.proofs.Common.{◌≡◌, ◌<◌, ◌≤◌, ◌^◌, ◌++◌, ℕ, true, List, [], ◌∷◌, length, refl, sym, ap, subst, ◌∙◌, append_assoc, arith}
 use Rattle.std.specs.Prelude.{map, drop, slice_index_or, Contains, Option, Some}
-use Rattle.std.specs.List.{All, AllByRecursion}
+use Rattle.std.specs.List.{All}
 use Rattle.std.proofs.lemmas.List.{length-map}
 use Rattle.std.proofs.lemmas.List.Elements.{All-from_recursion, All-contains}
 use Rattle.station.specs.Disk.{Sector}
@@ -14,9 +14,8 @@ use Rattle.records.specs.declared.key.KeyOfReference.TheVariants.{Prime, Alterna
 use Rattle.records.specs.Spec.{Spec, is_spec}
 use Rattle.records.specs.Stores.{IsKey}
 use Rattle.records.specs.Rows.{Row}
-use Rattle.records.specs.Files.{File, Named, IsNamed, IsFile, IsRow, IsArrival}
+use Rattle.records.specs.Files.{File, Named, IsNamed, IsRow, IsArrival}
 use Rattle.records.specs.Laws.{RowsAscend}
-use Rattle.file_trees.specs.Catalog.{Listing, spelled}
 use Rattle.file_trees.specs.Trees.{entry_under, layout_under}
 use Rattle.file_trees.specs.Pairs.{IsUnder}
 use Rattle.file_trees.specs.Forest.{Planted, Grows, IsForest}

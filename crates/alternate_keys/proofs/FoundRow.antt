@@ -1,8 +1,7 @@
 -- The row that was found in the tree of rows.
-use Rattle.std.proofs.Common.{◌≡◌, ◌+◌, ◌*◌, ◌++◌, ℕ, List, length, refl, sym, ap, subst, ◌∙◌, arith}
+use Rattle.std.proofs.Common.{◌≡◌, ℕ, List, refl, sym, ap, subst, ◌∙◌}
 use Rattle.std.specs.Prelude.{map, Option, Some, None}
 use Rattle.std.specs.Option.{option_map}
-use Rattle.std.specs.List.{All}
 use Rattle.std.proofs.lemmas.List.Elements.{All-contains}
 use Rattle.station.specs.Disk.{Sector}
 use Rattle.btree.specs.Entries.{Entry, entry_with}
@@ -12,14 +11,13 @@ use Rattle.records.specs.Rows.{Row, Pair, prime_pair}
 use Rattle.records.specs.Changes.{row_at}
 use Rattle.records.specs.Files.{Named}
 use Rattle.records.proofs.Changed.{pair_same}
-use Rattle.file_trees.specs.Trees.{entry_under, key_under, row_value}
+use Rattle.file_trees.specs.Trees.{entry_under, key_under}
 use Rattle.file_trees.specs.Pairs.{IsPair, IsUnder}
 use Rattle.file_trees.specs.Forest.{Planted}
 use Rattle.alternate_keys.specs.Moved.{IsRowOf}
 use Rattle.alternate_keys.specs.Placed.{HasTrees}
 use Rattle.alternate_keys.proofs.FileTrees.{rows_under, is_row_of}
 use Rattle.alternate_keys.proofs.RowEdits.{row_there, row_found}
-use Rattle.alternate_keys.proofs.RowValues.{value_count}
 
 none_of : (spec : Spec) (found : Option Row) → None ≡ option_map (entry_under spec Prime) found → found ≡ None
 none_of spec None is = refl

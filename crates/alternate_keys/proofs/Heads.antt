@@ -1,5 +1,5 @@
 -- What a file is, read from its places in a value of the catalog.
-use Rattle.std.proofs.Common.{◌≡◌, ◌<◌, ◌≤◌, ◌+◌, ◌-◌, ◌*◌, ◌^◌, ◌++◌, ◌==◌, true, ℕ, zero, suc, List, [], ◌∷◌, length, drop, refl, sym, ap, ◌∙◌, arith}
+use Rattle.std.proofs.Common.{◌≡◌, ◌<◌, ◌+◌, ◌-◌, ◌*◌, ◌^◌, ◌++◌, ◌==◌, true, ℕ, zero, suc, List, [], ◌∷◌, length, drop, refl, sym, ap, ◌∙◌, arith}
 use Rattle.std.specs.Prelude.{slice_index, slice_index_or, replicate, if◌then◌else◌}
 use Rattle.std.specs.List.{flat_map}
 use Rattle.std.proofs.lemmas.List.{drop-drop, append_assoc}
@@ -10,9 +10,9 @@ use Rattle.tree_pages.specs.declared.row_layout.RowLayout.{RowLayout}
 use Rattle.records.specs.declared.file_spec.Organization.{Organization}
 use Rattle.records.specs.declared.file_spec.Organization.TheVariants.{Sequential, Relative, Indexed}
 use Rattle.records.specs.declared.key.KeyOfReference.TheVariants.{Prime, Alternate}
-use Rattle.records.specs.Spec.{Spec, is_spec}
+use Rattle.records.specs.Spec.{is_spec}
 use Rattle.records.specs.Rows.{prime_place, no_key}
-use Rattle.file_trees.specs.Catalog.{Listing, spelled, spec_bytes, spec_head, key_bytes, filled_to, organization_byte, place_bytes}
+use Rattle.file_trees.specs.Catalog.{Listing, spelled, spec_bytes, key_bytes, filled_to, organization_byte}
 use Rattle.file_trees.specs.Trees.{prime_key_length}
 use Rattle.file_trees.proofs.Places.{place_within}
 use Rattle.file_trees.proofs.Small.{short_record}

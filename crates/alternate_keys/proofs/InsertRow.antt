@@ -1,5 +1,5 @@
 -- A new row comes to the trees of its file.
-use Rattle.std.proofs.Common.{◌≡◌, ◌<◌, ◌≤◌, ◌+◌, ◌^◌, ◌++◌, ◌||◌, ℕ, Bool, true, false, not, List, [], ◌∷◌, length, refl, sym, ap, subst, ◌∙◌, arith}
+use Rattle.std.proofs.Common.{◌≡◌, ◌<◌, ◌+◌, ◌^◌, ◌++◌, ◌||◌, ℕ, Bool, true, false, not, List, [], ◌∷◌, length, refl, sym, ap, subst, ◌∙◌, arith}
 use Rattle.std.specs.Prelude.{map, filter, Option, Some, None, IsSome, is_some, if◌then◌else◌}
 use Rattle.std.specs.List.{All, list_any}
 use Rattle.station.specs.Disk.{Sector}
@@ -7,7 +7,7 @@ use Rattle.byteorder.specs.Endian.{big_bytes}
 use Rattle.btree.specs.Rooted.{Rooted}
 use Rattle.btree.specs.Entries.{Entry, entry_with, with_entry}
 use Rattle.records.specs.declared.answer.Outcome.{Outcome}
-use Rattle.records.specs.declared.answer.Outcome.TheVariants.{Missing, Taken, Done, Duplicate}
+use Rattle.records.specs.declared.answer.Outcome.TheVariants.{Taken}
 use Rattle.records.specs.declared.file_spec.AlternateKey.{AlternateKey}
 use Rattle.records.specs.declared.key.KeyOfReference.TheVariants.{Prime, Alternate}
 use Rattle.records.specs.Spec.{Spec, is_spec}

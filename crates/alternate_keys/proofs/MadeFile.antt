@@ -1,6 +1,5 @@
 -- A file that is made, on the disk.
-use Rattle.std.proofs.Common.{◌≡◌, ◌⊎◌, inl, inr, ⊎_elim, ◌<◌, ◌≤◌, ◌+◌, ◌*◌, ◌^◌, ◌++◌, true, ℕ, List, [], ◌∷◌, length, refl, sym, ap, subst, ◌∙◌, arith}
-use Rattle.std.specs.Prelude.{map, Option, Some, None}
+use Rattle.std.proofs.Common.{◌≡◌, ◌⊎◌, inl, inr, ⊎_elim, ◌<◌, ◌≤◌, ◌+◌, ◌*◌, ◌^◌, ◌++◌, true, ℕ, List, ◌∷◌, length, refl, sym, ap, subst, ◌∙◌, arith}
 use Rattle.std.proofs.lemmas.List.{length-append, length-map}
 use Rattle.station.specs.Disk.{Sector}
 use Rattle.pages.specs.Image.{Map, Volume}
@@ -8,11 +7,11 @@ use Rattle.pages.specs.Layout.{map_count}
 use Rattle.pages.specs.Use.{free_count}
 use Rattle.pages.specs.Pages.{map_now, catalog_of, committed_of, changed_pages_of, filled_of, sectors_of, generation_of, needed_of, advanced, IsFull, SameCommitted}
 use Rattle.pages.specs.declared.page_map.PageMap.{PageMap}
-use Rattle.records.specs.Files.{File, Files, file_at, with_file}
+use Rattle.records.specs.Files.{File, Files, with_file}
 use Rattle.file_trees.specs.Volume.{Kept, Keeps, MapHolds}
 use Rattle.alternate_keys.specs.Stands.{LacksRoom}
 use Rattle.alternate_keys.proofs.Preparing.{map_with}
-use Rattle.alternate_keys.proofs.Splits.{Split, Found, named_of, put_at}
+use Rattle.alternate_keys.proofs.Splits.{Found, named_of, put_at}
 use Rattle.alternate_keys.proofs.Still.{same_volume}
 
 -- the same files of the same map

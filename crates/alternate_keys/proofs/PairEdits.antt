@@ -1,6 +1,6 @@
 -- What a row that leaves, or gets another record, does to the tree of an alternate key.
 use Rattle.std.proofs.Common.{◌≡◌, ◌⊎◌, inl, inr, ⊎_elim, ℕ, Bool, true, false, List, [], ◌∷◌, refl, sym, ap, subst, ◌∙◌}
-use Rattle.std.specs.Prelude.{Contains, Option, Some, None, IsSome, if◌then◌else◌}
+use Rattle.std.specs.Prelude.{Contains, Some, if◌then◌else◌}
 use Rattle.std.specs.List.{AllByRecursion}
 use Rattle.std.specs.Ordering.{is_eq, ordering_reverse}
 use Rattle.std.specs.declared.cmp.Ordering.{Ordering}

@@ -1,5 +1,5 @@
 -- A file of a map before and after a change of a row.
-use Rattle.std.proofs.Common.{◌≡◌, ◌<◌, ◌≤◌, ◌+◌, ◌^◌, ◌++◌, Bool, true, false, ℕ, List, [], ◌∷◌, length, refl, sym, ap, subst, ◌∙◌, arith}
+use Rattle.std.proofs.Common.{◌≡◌, ◌<◌, ◌≤◌, ◌+◌, ◌^◌, ◌++◌, Bool, true, ℕ, List, [], length, sym, ap, subst, ◌∙◌, arith}
 use Rattle.std.specs.Prelude.{map, Option, Some, None, IsSome, is_some, if◌then◌else◌}
 use Rattle.std.specs.List.{AllByRecursion, flat_map}
 use Rattle.station.specs.Disk.{Sector}
@@ -7,16 +7,15 @@ use Rattle.pages.specs.Image.{Map}
 use Rattle.pages.specs.Pages.{map_now, catalog_of, advanced, SameCommitted}
 use Rattle.pages.specs.declared.page_map.PageMap.{PageMap}
 use Rattle.btree.specs.Entries.{Entry, entry_with, with_value}
-use Rattle.records.specs.declared.file_spec.Organization.{Organization}
 use Rattle.records.specs.Spec.{Spec, is_name}
 use Rattle.records.specs.Changes.{Changed}
 use Rattle.records.specs.Files.{File, Files, Named, AreFiles, IsByte, file_at, with_file}
 use Rattle.records.specs.Stores.{is_change, files_after, pair_of}
 use Rattle.records.proofs.Changed.{inserted_are_files, replaced_are_files, removed_are_files}
-use Rattle.file_trees.specs.Catalog.{padded, spelled}
+use Rattle.file_trees.specs.Catalog.{padded}
 use Rattle.file_trees.specs.Forest.{Planted}
 use Rattle.file_trees.specs.Grows.{StandsAmong}
-use Rattle.file_trees.specs.Volume.{Kept, MapHolds, trees_of, catalog_entry, listing_of}
+use Rattle.file_trees.specs.Volume.{MapHolds, trees_of, catalog_entry}
 use Rattle.alternate_keys.specs.declared.row_verb.RowVerb.{RowVerb}
 use Rattle.alternate_keys.specs.declared.row_verb.RowVerb.TheVariants.{Insert, Replace, Remove}
 use Rattle.alternate_keys.specs.Listed.{catalog_at}

@@ -1,16 +1,12 @@
 -- A row leaves the trees of its file.
-use Rattle.std.proofs.Common.{◌≡◌, ◌<◌, ◌≤◌, ◌+◌, ◌*◌, ◌^◌, ◌++◌, ℕ, Bool, true, false, List, [], ◌∷◌, length, refl, sym, ap, subst, ◌∙◌, arith}
+use Rattle.std.proofs.Common.{◌≡◌, ◌<◌, ◌++◌, ℕ, true, List, length, refl, sym, ap, subst, ◌∙◌, arith}
 use Rattle.std.specs.Prelude.{map, Option, Some, None, IsSome, is_some}
-use Rattle.std.specs.List.{flat_map}
-use Rattle.std.proofs.lemmas.Bool.{eqb-true}
 use Rattle.station.specs.Disk.{Sector}
-use Rattle.byteorder.specs.Endian.{big_bytes}
 use Rattle.btree.specs.Rooted.{Rooted}
 use Rattle.btree.specs.Entries.{Entry, entry_with, without}
 use Rattle.records.specs.declared.answer.Outcome.TheVariants.{Missing, Done}
 use Rattle.records.specs.declared.file_spec.KeyPlace.{KeyPlace}
-use Rattle.records.specs.declared.file_spec.Organization.{Organization}
-use Rattle.records.specs.declared.file_spec.Organization.TheVariants.{Sequential, Relative, Indexed}
+use Rattle.records.specs.declared.file_spec.Organization.TheVariants.{Indexed}
 use Rattle.records.specs.declared.key.KeyOfReference.TheVariants.{Prime, Alternate}
 use Rattle.records.specs.Spec.{Spec, is_spec}
 use Rattle.records.specs.Rows.{Row, Pair}
@@ -18,9 +14,8 @@ use Rattle.records.specs.Changes as rows
 use Rattle.records.specs.Changes.{Changed, row_at, removed, removed_row, unchanged}
 use Rattle.records.specs.Files.{File, Named}
 use Rattle.records.specs.Laws.{RowsAscend}
-use Rattle.records.specs.Stores.{pair_of, key_length}
 use Rattle.file_trees.specs.Trees.{entry_under, key_under, layout_under, row_value, AreOf}
-use Rattle.file_trees.specs.Pairs.{IsPair, IsPrimePair}
+use Rattle.file_trees.specs.Pairs.{IsPair}
 use Rattle.file_trees.specs.Forest.{Planted}
 use Rattle.file_trees.specs.Grows.{StandsAmong}
 use Rattle.file_trees.specs.Volume.{planted}

@@ -1,7 +1,7 @@
 -- A row of a file gets another record.
-use Rattle.std.proofs.Common.{◌≡◌, ◌⊎◌, inl, inr, ◌<◌, ◌≤◌, ◌+◌, ◌*◌, ◌^◌, ◌++◌, ◌&&◌, ◌||◌, ℕ, Bool, true, false, not, List, [], ◌∷◌, length, take, refl, sym, ap, subst, ◌∙◌, arith}
+use Rattle.std.proofs.Common.{◌≡◌, ◌<◌, ◌≤◌, ◌+◌, ◌++◌, ◌&&◌, ◌||◌, ℕ, Bool, true, false, not, List, [], ◌∷◌, length, take, refl, sym, ap, subst, ◌∙◌, arith}
 use Rattle.std.specs.Prelude.{map, filter, Contains, Option, Some, None, IsSome, slice_index_or, if◌then◌else◌}
-use Rattle.std.specs.List.{All, AllByRecursion, flat_map, list_any}
+use Rattle.std.specs.List.{flat_map, list_any}
 use Rattle.station.specs.Disk.{Sector}
 use Rattle.byteorder.specs.Endian.{big_bytes}
 use Rattle.tree_pages.specs.Keys.{Ascend}
@@ -12,12 +12,11 @@ use Rattle.btree.specs.Entries.{Entry, entry_with, with_entry, with_value, witho
 use Rattle.records.specs.declared.answer.Outcome.{Outcome}
 use Rattle.records.specs.declared.answer.Outcome.TheVariants.{Missing, Taken}
 use Rattle.records.specs.declared.file_spec.AlternateKey.{AlternateKey}
-use Rattle.records.specs.declared.file_spec.KeyPlace.{KeyPlace}
 use Rattle.records.specs.declared.file_spec.Organization.{Organization}
 use Rattle.records.specs.declared.file_spec.Organization.TheVariants.{Sequential, Relative, Indexed}
 use Rattle.records.specs.declared.key.KeyOfReference.TheVariants.{Prime, Alternate}
 use Rattle.records.specs.Spec.{Spec, is_spec}
-use Rattle.records.specs.Rows.{Row, Pair, part, place_of, prime_place, prime_pair, named_pair, pair_under, same_bytes, no_key}
+use Rattle.records.specs.Rows.{Row, Pair, part, place_of, prime_place, prime_pair, named_pair, same_bytes, no_key}
 use Rattle.records.specs.Changes as rows
 use Rattle.records.specs.Changes.{Changed, is_at, row_at, in_place, changes, changed_row, arrivals_after, replaced, replaced_row, unchanged, is_taken, is_duplicate, repeats, done}
 use Rattle.records.specs.Files.{File, Named}

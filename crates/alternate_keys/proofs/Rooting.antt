@@ -2,11 +2,10 @@
 use Rattle.std.proofs.Common.{◌≡◌, ◌≤◌, ◌+◌, ◌++◌, ℕ, List, [], ◌∷◌, length, drop, refl, sym, ap, subst, ◌∙◌, append_assoc, arith}
 use Rattle.std.specs.Prelude.{map, Option}
 use Rattle.station.specs.Disk.{Sector}
-use Rattle.tree_pages.specs.declared.row_layout.RowLayout.{RowLayout}
-use Rattle.btree.specs.Entries.{Entry, entries_of}
+use Rattle.btree.specs.Entries.{entries_of}
 use Rattle.records.specs.declared.key.KeyOfReference.TheVariants.{Prime}
 use Rattle.records.specs.Spec.{Spec}
-use Rattle.records.specs.Files.{File, Named}
+use Rattle.records.specs.Files.{Named}
 use Rattle.file_trees.specs.Catalog.{Listing, spelled}
 use Rattle.file_trees.specs.Trees.{entry_under, layout_under}
 use Rattle.file_trees.specs.Forest.{Planted, IsForest}

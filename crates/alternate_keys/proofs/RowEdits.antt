@@ -1,32 +1,27 @@
 -- What a row that leaves, or gets another record, does to the trees of a file.
-use Rattle.std.proofs.Common.{◌≡◌, ◌⊎◌, inl, inr, ⊎_elim, ℕ, Bool, true, false, not, List, [], ◌∷◌, length, refl, sym, ap, subst, ◌∙◌, arith}
-use Rattle.std.specs.Prelude.{map, filter, Contains, Option, Some, None, IsSome, is_some, slice_index_or, if◌then◌else◌}
+use Rattle.std.proofs.Common.{◌≡◌, ◌⊎◌, inl, inr, ⊎_elim, ℕ, Bool, true, false, not, List, [], ◌∷◌, refl, sym, ap, subst, ◌∙◌}
+use Rattle.std.specs.Prelude.{map, Contains, Some, if◌then◌else◌}
 use Rattle.std.specs.Option.{option_map}
 use Rattle.std.specs.List.{All, AllByRecursion}
 use Rattle.std.specs.Ordering.{is_eq, ordering_reverse}
-use Rattle.std.specs.declared.cmp.Ordering.{Ordering}
-use Rattle.std.specs.declared.cmp.Ordering.TheVariants.{Less, Equal, Greater}
+use Rattle.std.specs.declared.cmp.Ordering.TheVariants.{Less}
 use Rattle.std.proofs.lemmas.List.Elements.{All-head, All-tail}
 use Rattle.std.proofs.lemmas.Map.Keys.{sorted_head, sorted_tail}
-use Rattle.tree_pages.specs.Keys.{key_cmp, Ascend}
-use Rattle.btree.specs.Entries.{Entry, entry_with, with_entry, with_value, without}
-use Rattle.btree.specs.Laws.{keys_listed}
+use Rattle.tree_pages.specs.Keys.{key_cmp}
+use Rattle.btree.specs.Entries.{Entry, entry_with, with_value, without}
 use Rattle.btree.proofs.Runs.{in_head, in_tail, in_none}
-use Rattle.btree.proofs.There.{entry_there}
-use Rattle.records.specs.declared.file_spec.KeyPlace.{KeyPlace}
 use Rattle.records.specs.declared.file_spec.Organization.{Organization}
-use Rattle.records.specs.declared.file_spec.Organization.TheVariants.{Indexed}
-use Rattle.records.specs.declared.key.KeyOfReference.TheVariants.{Prime, Alternate}
+use Rattle.records.specs.declared.key.KeyOfReference.TheVariants.{Prime}
 use Rattle.records.specs.Spec.{Spec}
-use Rattle.records.specs.Rows.{Row, Pair, pair_cmp, prime_pair, pair_under, part, named_pair, prime_place}
+use Rattle.records.specs.Rows.{Row, Pair, pair_cmp, prime_pair, pair_under}
 use Rattle.records.specs.Changes as rows
 use Rattle.records.specs.Changes.{is_at, row_at, in_place}
 use Rattle.records.specs.Laws.{RowsAscend}
 use Rattle.records.proofs.Ascending.{pair_total}
 use Rattle.records.proofs.Changed.{pair_same}
-use Rattle.file_trees.specs.Trees.{entry_under, key_under, AreOf}
+use Rattle.file_trees.specs.Trees.{entry_under, key_under}
 use Rattle.file_trees.specs.Pairs.{IsPair, IsUnder}
-use Rattle.file_trees.proofs.Comes.{in_cons, entry_gains}
+use Rattle.file_trees.proofs.Comes.{in_cons}
 use Rattle.file_trees.proofs.Order.{keys_in_order}
 
 -- Of rows that ascend one alone is at a pair.

@@ -1,16 +1,14 @@
 -- A call of the store that may change files.
-use Rattle.std.proofs.Common.{◌≡◌, inl, refl, Bool, true, false, ℕ, List, Result, Ok, Err, IfErr, OnOk, sym, ap, subst, ◌∙◌}
+use Rattle.std.proofs.Common.{◌≡◌, Bool, true, ℕ, List, Result, Ok, Err, IfErr, OnOk, subst}
 use Rattle.station.specs.Calls.{OnlyWrites}
 use Rattle.station.specs.declared.device.Device.{Ghosts as Devices}
-use Rattle.station.proofs.Spans.{stays}
 use Rattle.pages.specs.Pages.{sectors_of}
 use Rattle.pages.specs.declared.page_map.PageMap.{PageMap}
-use Rattle.records.specs.Calls.{StandsFor, Changes, Turns}
+use Rattle.records.specs.Calls.{Changes, Turns}
 use Rattle.records.specs.declared.fault.StoreFault.{StoreFault}
-use Rattle.records.specs.declared.fault.StoreFault.TheVariants.{Device, Spent, Layout}
+use Rattle.records.specs.declared.fault.StoreFault.TheVariants.{Device, Spent}
 use Rattle.records.specs.Files.{Files}
 use Rattle.alternate_keys.specs.Faults.{IsWriteFault}
-use Rattle.alternate_keys.specs.Held.{held_law}
 use Rattle.alternate_keys.specs.Turned.{Turned}
 use Rattle.alternate_keys.specs.contracts.keeps.PagedStoreKeeps.TheImpl.{ghosts}
 use Rattle.alternate_keys.proofs.ReadCalls.{opened}
@@ -37,14 +35,4 @@ turns_of d result is_new name before after old new spent spent' device device' h
   moments = turned.moments;
   sound = turned.sound;
   room = turned.room;
-}
-
--- a spent store
-pub rests_of : {D : Type 0} (d : Devices D) {T : Type 0} (is_new : Bool) (name : List ℕ) (before after : Files) (old : PageMap) (spent : Bool) (device : D) → StandsFor ghosts d (opened old spent) device before →
-    Turns ghosts d (Err {T = T} Spent) is_new name before after (opened old spent) device (opened old spent) device
-rests_of d is_new name before after old spent device stands = record {
-  there = tt;
-  moments = stays (d.history device) (d.state device) _ (record { events = refl; images = λ image crash. inl (held_law old (d.state device).disk image before stands.there crash) });
-  sound = λ is. cc;
-  room = λ is. cc;
 }

@@ -53,7 +53,16 @@ fn prepare<D: Device>(
         Some(entry) => entry,
         None => return Ok(Outcome::Missing),
     };
-    let turn = change_trees(alloc, pages, device, file, entry.value(), verb, number, bytes)?;
+    let turn = change_trees(
+        alloc,
+        pages,
+        device,
+        file,
+        entry.value(),
+        verb,
+        number,
+        bytes,
+    )?;
     let outcome = turn.outcome;
     if !is_done(outcome) {
         return Ok(outcome);

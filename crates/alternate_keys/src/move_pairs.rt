@@ -175,7 +175,9 @@ pub(crate) fn move_pairs<D: Device>(
     let count = file.alternates.len() as u8;
     for key in 0..count {
         let mut tree = file_tree(alloc, file, KeyOfReference::Alternate(key), listing);
-        move_pair(alloc, &mut tree, pages, device, file, key, verb, old, arrival, bytes)?;
+        move_pair(
+            alloc, &mut tree, pages, device, file, key, verb, old, arrival, bytes,
+        )?;
         roots.push(tree.root())?;
     }
     Ok(roots)

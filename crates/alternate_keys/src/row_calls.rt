@@ -35,7 +35,15 @@ impl PagedStore {
         if self.spent {
             return Err(StoreFault::Spent);
         }
-        match change_in(self.alloc, &mut self.pages, device, file, verb, number, bytes) {
+        match change_in(
+            self.alloc,
+            &mut self.pages,
+            device,
+            file,
+            verb,
+            number,
+            bytes,
+        ) {
             Ok(outcome) => Ok(outcome),
             Err(fault) => {
                 self.spent = true;

@@ -56,7 +56,16 @@ fn insert_trees<D: Device>(
     ensures spent { result ≡ Err StoreFault.Spent → is_spent pages.old ≡ true }
     ensures cause { IfErr result IsWriteFault }
 {
-    let outcome = look_at_values(alloc, pages, device, file, listing, RowVerb::Insert, &[], bytes)?;
+    let outcome = look_at_values(
+        alloc,
+        pages,
+        device,
+        file,
+        listing,
+        RowVerb::Insert,
+        &[],
+        bytes,
+    )?;
     if !is_done(outcome) {
         return Ok(RowTurn::none(alloc, outcome));
     }
@@ -70,7 +79,19 @@ fn insert_trees<D: Device>(
         return Ok(RowTurn::none(alloc, Outcome::Taken));
     }
     let root = prime.root();
-    let listing = move_row(alloc, pages, device, file, listing, RowVerb::Insert, &[], arrival, bytes, root, arrival + 1)?;
+    let listing = move_row(
+        alloc,
+        pages,
+        device,
+        file,
+        listing,
+        RowVerb::Insert,
+        &[],
+        arrival,
+        bytes,
+        root,
+        arrival + 1,
+    )?;
     Ok(RowTurn { outcome, listing })
 }
 
@@ -103,12 +124,29 @@ fn replace_trees<D: Device>(
 {
     let mut prime = file_tree(alloc, file, KeyOfReference::Prime, listing);
     let place = file.key_place(KeyOfReference::Prime);
-    let row = match find_row(alloc, &prime, pages, device, file, number, part_of(place, bytes))? {
+    let row = match find_row(
+        alloc,
+        &prime,
+        pages,
+        device,
+        file,
+        number,
+        part_of(place, bytes),
+    )? {
         Some(row) => row,
         None => return Ok(RowTurn::none(alloc, Outcome::Missing)),
     };
     let old = row.value();
-    let outcome = look_at_values(alloc, pages, device, file, listing, RowVerb::Replace, old, bytes)?;
+    let outcome = look_at_values(
+        alloc,
+        pages,
+        device,
+        file,
+        listing,
+        RowVerb::Replace,
+        old,
+        bytes,
+    )?;
     if !is_done(outcome) {
         return Ok(RowTurn::none(alloc, outcome));
     }
@@ -120,7 +158,19 @@ fn replace_trees<D: Device>(
     replace_among(&mut prime, pages, device, row.key(), &value)?;
     let next = arrival_next(file, old, bytes, arrival);
     let root = prime.root();
-    let listing = move_row(alloc, pages, device, file, listing, RowVerb::Replace, old, arrival, bytes, root, next)?;
+    let listing = move_row(
+        alloc,
+        pages,
+        device,
+        file,
+        listing,
+        RowVerb::Replace,
+        old,
+        arrival,
+        bytes,
+        root,
+        next,
+    )?;
     Ok(RowTurn { outcome, listing })
 }
 
@@ -159,7 +209,19 @@ fn remove_trees<D: Device>(
     remove_among(&mut prime, pages, device, row.key())?;
     let next = next_arrival(listing);
     let root = prime.root();
-    let listing = move_row(alloc, pages, device, file, listing, RowVerb::Remove, row.value(), next, &[], root, next)?;
+    let listing = move_row(
+        alloc,
+        pages,
+        device,
+        file,
+        listing,
+        RowVerb::Remove,
+        row.value(),
+        next,
+        &[],
+        root,
+        next,
+    )?;
     Ok(RowTurn {
         outcome: Outcome::Done,
         listing,

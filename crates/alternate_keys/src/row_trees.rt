@@ -49,7 +49,9 @@ pub(crate) fn move_row<D: Device>(
     ensures spent { result ≡ Err StoreFault.Spent → is_spent pages.old ≡ true }
     ensures cause { IfErr result IsWriteFault }
 {
-    let roots = move_pairs(alloc, pages, device, file, listing, verb, old, arrival, bytes)?;
+    let roots = move_pairs(
+        alloc, pages, device, file, listing, verb, old, arrival, bytes,
+    )?;
     let new = spell_listing(alloc, file, root, &roots, next)?;
     Ok(new)
 }

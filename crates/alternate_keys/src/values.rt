@@ -102,7 +102,7 @@ pub(crate) fn look_at_values<D: Device>(
     ensures looks { LooksAt D.Device (result ≡ Err StoreFault.Device) pages.old device.old pages.new device.new }
     ensures told { Agreed D.Device pages.old device.old ((rows : List Row) → HasAllPairs (spec_of file.now) (pages_on D.Device pages.old device.old) rows listing.now →
         IfOk result (λ outcome. outcome ≡ (if is_taken (filter (is_new verb (take file.now.record_length old.now) bytes.now) (spec_of file.now).alternates) rows bytes.now then Outcome.Taken else
-            done (is_duplicate (filter (is_new verb (take file.now.record_length old.now) bytes.now) (spec_of file.now).alternates) rows bytes.now)))) }
+        done (is_duplicate (filter (is_new verb (take file.now.record_length old.now) bytes.now) (spec_of file.now).alternates) rows bytes.now)))) }
     ensures damaged { Agreed D.Device pages.old device.old ((rows : List Row) → HasAllPairs (spec_of file.now) (pages_on D.Device pages.old device.old) rows listing.now → result ≡ Err StoreFault.Damaged → ⊥) }
     ensures spent { result ≡ Err StoreFault.Spent → is_spent pages.old ≡ true }
     ensures cause { IfErr result IsReadFault }

@@ -1,8 +1,7 @@
-use Rattle.std.proofs.Common.{rules, ◌≡◌, ◌≤◌, ◌<◌, ◌+◌, ◌*◌, inl, inr, Bool, true, false, Ok, Err, ℕ, List, [], length, refl, sym, ap, subst, ◌∙◌, arith}
+use Rattle.std.proofs.Common.{rules, ◌≡◌, inl, inr, Bool, true, false, Err, ℕ, List, length, refl, sym, ap, subst, ◌∙◌, arith}
 use Rattle.std.specs.Prelude.{if◌then◌else◌}
 use Rattle.std.proofs.lemmas.Result.{err_from_is_err_and}
 use Rattle.station.specs.Blocks.{CrashLeaves}
-use Rattle.station.specs.Disk.{Sector}
 use Rattle.station.specs.History.{Through}
 use Rattle.station.specs.State.{State}
 use Rattle.station.proofs.Calls.{reads_writes, blamed_where, writes_then}

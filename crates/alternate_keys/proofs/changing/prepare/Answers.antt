@@ -1,25 +1,24 @@
-use Rattle.std.proofs.Common.{◌≡◌, ◌≤◌, ◌<◌, ◌+◌, ◌*◌, ◌++◌, ◌^◌, Bool, true, false, Ok, Err, ℕ, List, [], ◌∷◌, length, refl, sym, ap, subst, ◌∙◌, arith}
-use Rattle.std.specs.Prelude.{map, Option, Some, IsSome}
+use Rattle.std.proofs.Common.{◌≡◌, ◌+◌, true, Err, ℕ, List, [], length, refl, sym, ap, subst, ◌∙◌, arith}
+use Rattle.std.specs.Prelude.{map, Option, IsSome}
 use Rattle.station.specs.Disk.{Sector}
 use Rattle.station.specs.State.{State}
 use Rattle.pages.specs.Use.{free_count}
 use Rattle.pages.specs.Image.{Map}
-use Rattle.pages.specs.Pages.{map_now, catalog_of, committed_of, SameCommitted}
+use Rattle.pages.specs.Pages.{map_now, catalog_of, SameCommitted}
 use Rattle.pages.specs.declared.page_map.PageMap.{PageMap}
-use Rattle.btree.specs.Entries.{Entry, entry_with, with_value}
+use Rattle.btree.specs.Entries.{entry_with, with_value}
 use Rattle.btree.proofs.Frames.{same_pages, unchanged_on}
 use Rattle.records.specs.declared.fault.StoreFault.TheVariants.{Device, Full, Damaged}
 use Rattle.records.specs.declared.file_spec.Organization.{Organization}
 use Rattle.records.specs.Spec.{Spec}
 use Rattle.records.specs.Changes.{Changed}
-use Rattle.records.specs.Files.{Files, AreFiles}
+use Rattle.records.specs.Files.{AreFiles}
 use Rattle.records.specs.Stores.{spec_of, is_change, files_after}
 use Rattle.file_trees.specs.Catalog.{padded}
 use Rattle.file_trees.specs.Forest.{Planted}
 use Rattle.file_trees.specs.Grows.{StandsAmong}
 use Rattle.file_trees.specs.Volume.{catalog_entry}
 use Rattle.alternate_keys.specs.Listed.{catalog_at}
-use Rattle.alternate_keys.specs.declared.row_verb.RowVerb.{RowVerb}
 use Rattle.alternate_keys.specs.Moved.{IsAsked, changed_by, named_after}
 use Rattle.alternate_keys.specs.Placed.{Placed, HasTrees}
 use Rattle.alternate_keys.proofs.Bytes.{bytes_by}
@@ -319,4 +318,3 @@ returns-clause-edits g c =
     let e0 = looks_edits g.D.Device (c.find_listing.result ≡ Err Device) c.args.pages.now c.find_listing.new.pages c.args.device.now c.find_listing.new.device (record { only = c.find_listing.ensures.only; unchanged = c.find_listing.ensures.unchanged; agrees = c.find_listing.ensures.agrees; is_open = c.find_listing.ensures.open }) in
     let e1 = edits_last g.D.Device (c.find_listing.result ≡ Err Device) (c.change_trees.result ≡ Err Device) (c.change_trees.result ≡ Err Device) c.args.pages.now c.find_listing.new.pages c.change_trees.new.pages c.args.device.now c.find_listing.new.device c.change_trees.new.device (λ is. is) e0 c.change_trees.ensures.edits in
     edits_last g.D.Device (c.change_trees.result ≡ Err Device) (c.replace_listing.result ≡ Err Device) _ c.args.pages.now c.change_trees.new.pages c.replace_listing.new.pages c.args.device.now c.change_trees.new.device c.replace_listing.new.device (λ is. absurd cc) e1 c.replace_listing.ensures.edits
-

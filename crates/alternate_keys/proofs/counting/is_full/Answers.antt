@@ -1,5 +1,5 @@
-use Rattle.std.proofs.Common.{◌≡◌, ◌≤◌, ◌<◌, ◌+◌, inr, ℕ, suc, List, length, Err, refl, sym, ap, subst, ◌∙◌, arith}
-use Rattle.std.specs.Prelude.{map, Option, Some, None}
+use Rattle.std.proofs.Common.{◌≡◌, ◌+◌, inr, ℕ, suc, List, length, Err, sym, ap, subst, ◌∙◌, arith}
+use Rattle.std.specs.Prelude.{map, Option, Some}
 use Rattle.std.proofs.lemmas.List.{length-map}
 use Rattle.station.specs.Disk.{Sector}
 use Rattle.pages.specs.Image.{Map}

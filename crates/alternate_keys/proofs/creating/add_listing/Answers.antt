@@ -1,11 +1,11 @@
-use Rattle.std.proofs.Common.{◌≡◌, ◌⊎◌, inl, inr, ◌≤◌, ◌<◌, ◌+◌, true, false, Ok, Err, ℕ, List, [], ◌∷◌, length, refl, sym, ap, subst, ◌∙◌, arith}
-use Rattle.std.specs.Prelude.{map, Option, IsSome, is_some}
+use Rattle.std.proofs.Common.{◌≡◌, inl, inr, true, false, Ok, Err, ℕ, List, [], length, sym, ap, subst, ◌∙◌, arith}
+use Rattle.std.specs.Prelude.{map, Option, is_some}
 use Rattle.std.specs.List.{flat_map}
 use Rattle.station.specs.Disk.{Sector}
 use Rattle.station.specs.State.{State}
 use Rattle.pages.specs.Image.{Map}
 use Rattle.pages.specs.Use.{free_count}
-use Rattle.pages.specs.Pages.{map_now, catalog_of, committed_of}
+use Rattle.pages.specs.Pages.{map_now, catalog_of}
 use Rattle.btree.specs.Entries.{Entry, entry_with, with_entry}
 use Rattle.btree.specs.Rooted.{Rooted}
 use Rattle.btree.proofs.Frames.{same_pages}
@@ -178,4 +178,3 @@ returns-clause-few g c = λ honest agrees files holds.
     let changed = ap (λ (l : List ℕ). length l) looks.unchanged.changed_pages in
     let last = ap (λ (l : List ℕ). length l) c.set_catalog.ensures.changed_pages in
     omega (arith, few, changed, last)
-

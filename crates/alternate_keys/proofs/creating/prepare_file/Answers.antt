@@ -1,16 +1,16 @@
-use Rattle.std.proofs.Common.{◌≡◌, ◌⊎◌, inl, inr, ⊎_elim, ◌≤◌, ◌<◌, ◌+◌, ◌*◌, ◌^◌, ◌++◌, true, false, Ok, Err, ℕ, List, [], ◌∷◌, length, refl, sym, ap, subst, ◌∙◌, arith}
+use Rattle.std.proofs.Common.{◌≡◌, inl, inr, ⊎_elim, ◌++◌, Err, ℕ, List, [], length, refl, sym, ap, subst, ◌∙◌, arith}
 use Rattle.std.specs.Prelude.{map, Option, Some, None, IsSome}
 use Rattle.std.specs.List.{flat_map}
 use Rattle.station.specs.Disk.{Sector}
 use Rattle.station.specs.State.{State}
 use Rattle.pages.specs.Image.{Map}
 use Rattle.pages.specs.Use.{free_count}
-use Rattle.pages.specs.Pages.{map_now, catalog_of, committed_of, changed_pages_of, filled_of, advanced, SameCommitted}
+use Rattle.pages.specs.Pages.{map_now, catalog_of, committed_of, SameCommitted}
 use Rattle.pages.specs.declared.page_map.PageMap.{PageMap}
 use Rattle.btree.specs.Entries.{Entry, entry_with, with_entry, with_value}
 use Rattle.btree.proofs.Frames.{same_pages}
 use Rattle.records.specs.declared.answer.Outcome.TheVariants.{Done}
-use Rattle.records.specs.declared.fault.StoreFault.TheVariants.{Device, Full, Damaged}
+use Rattle.records.specs.declared.fault.StoreFault.TheVariants.{Full, Damaged}
 use Rattle.records.specs.Changes.{Changed}
 use Rattle.records.specs.Files.{File, Files, AreFiles, file_at, with_file, empty_file}
 use Rattle.records.specs.Spec.{Spec}
@@ -19,15 +19,14 @@ use Rattle.records.proofs.Changed.{created_are_files}
 use Rattle.file_trees.specs.Catalog.{padded}
 use Rattle.file_trees.specs.Forest.{Planted, IsForest}
 use Rattle.file_trees.specs.Grows.{StandsAmong}
-use Rattle.file_trees.specs.Volume.{Kept, MapHolds, trees_of, catalog_entry}
+use Rattle.file_trees.specs.Volume.{MapHolds, trees_of, catalog_entry}
 use Rattle.alternate_keys.specs.Listed.{IsListed, catalog_at}
 use Rattle.alternate_keys.specs.Placed.{HasTrees}
 use Rattle.alternate_keys.proofs.Added.{entry_as, added_count, holds_added}
-use Rattle.alternate_keys.proofs.Calling.{looks_edits, edits_blamed, edits_last, prepares_of, prepares_then}
 use Rattle.alternate_keys.proofs.Empties.{empty_placed}
 use Rattle.alternate_keys.proofs.MadeFile.{holds_at, kept_count, next_with, lacks_filled, lacks_needed, lacks_first}
 use Rattle.alternate_keys.proofs.Placing.{left_of, right_of}
-use Rattle.alternate_keys.proofs.Preparing.{map_with, own, named_here, trees_at, some_entry, around, catalog_stands, holds_after, will_hold}
+use Rattle.alternate_keys.proofs.Preparing.{own, named_here, trees_at, some_entry, around, catalog_stands, holds_after, will_hold}
 use Rattle.alternate_keys.proofs.Still.{same_volume}
 use Rattle.alternate_keys.proofs.creating.prepare_file.Goals as goal
 
@@ -313,4 +312,3 @@ returns-clause-full g c = λ honest agrees files holds rested full.
     let second = c.add_listing.ensures.prepares.committed in
     let same_all : SameCommitted c.args.pages.now last = record { volume = second.volume ∙ first.volume; spent = second.spent ∙ first.spent } in
     lacks_needed c.args.pages.now last name after same_all (c.few_needed.ensures last) (omega (arith, few, changed, empty)) full
-

@@ -1,5 +1,5 @@
-use Rattle.std.proofs.Common.{◌≡◌, Ok, Err, true, false, List, ap, sym, subst, ◌∙◌, arith}
-use Rattle.std.specs.Prelude.{Option, None, IsSome, is_some}
+use Rattle.std.proofs.Common.{◌≡◌, Ok, Err, true, false, List, ap, sym, subst, ◌∙◌}
+use Rattle.std.specs.Prelude.{Option, None, is_some}
 use Rattle.station.specs.Disk.{Sector}
 use Rattle.pages.specs.Pages.{map_now}
 use Rattle.pages.specs.declared.error.PagesError.TheVariants as pages

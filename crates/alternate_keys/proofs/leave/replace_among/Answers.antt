@@ -1,4 +1,4 @@
-use Rattle.std.proofs.Common.{◌≡◌, Ok, Err, true, false, List, ap, sym, subst, ◌∙◌, refl, arith}
+use Rattle.std.proofs.Common.{◌≡◌, Ok, Err, true, false, List, ap, sym, subst, ◌∙◌, refl}
 use Rattle.std.specs.Prelude.{Option, None, is_some}
 use Rattle.station.specs.Disk.{Sector}
 use Rattle.pages.specs.Pages.{map_now}

@@ -1,10 +1,10 @@
-use Rattle.std.proofs.Common.{◌≡◌, ◌≤◌, ◌<◌, ◌+◌, Bool, true, Ok, Err, ℕ, List, sym, ap, subst, ◌∙◌, arith}
-use Rattle.std.specs.Prelude.{Option, None, IsSome, if◌then◌else◌}
+use Rattle.std.proofs.Common.{◌≡◌, Bool, true, Err, ℕ, List, sym, ap, subst, ◌∙◌, arith}
+use Rattle.std.specs.Prelude.{Option, if◌then◌else◌}
 use Rattle.station.specs.Disk.{Sector}
 use Rattle.station.specs.State.{State}
 use Rattle.pages.specs.Use.{free_count}
-use Rattle.pages.specs.Pages.{map_now, committed_of}
-use Rattle.btree.specs.Entries.{Entry, entry_with, with_entry, without}
+use Rattle.pages.specs.Pages.{map_now}
+use Rattle.btree.specs.Entries.{Entry, with_entry, without}
 use Rattle.btree.specs.Rooted.{Rooted}
 use Rattle.records.specs.declared.fault.StoreFault.TheVariants.{Full, Damaged}
 use Rattle.records.specs.Spec.{Spec}
@@ -155,4 +155,3 @@ returns-in_ok-give_pair-in-Replace-clause-few g c = λ honest agrees left right 
     let one = c.in_ok-take_pair-in-Replace.ensures.few honest agrees left right entries stands in
     let two = c.in_ok-give_pair-in-Replace.ensures.few (edits.only.honest.0 honest) (edits.agrees honest agrees) left right (without entries own_key) here in
     omega (arith, one, two)
-

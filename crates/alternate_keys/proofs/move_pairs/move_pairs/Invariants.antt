@@ -1,4 +1,4 @@
-use Rattle.std.proofs.Common.{◌≡◌, ◌*◌, ℕ, length}
+use Rattle.std.proofs.Common.{◌≡◌, ◌*◌, length}
 use Rattle.btree.specs.Calls.{pages_on}
 use Rattle.btree.specs.Told.{FewChanged}
 use Rattle.records.specs.Files.{File}

@@ -1,23 +1,21 @@
-use Rattle.std.proofs.Common.{◌≡◌, ◌≤◌, ◌<◌, ◌+◌, ◌*◌, ◌++◌, ◌^◌, Bool, true, false, Ok, Err, ℕ, List, [], ◌∷◌, length, refl, sym, ap, subst, ◌∙◌, arith}
+use Rattle.std.proofs.Common.{◌≡◌, ◌+◌, ◌++◌, true, false, Ok, Err, ℕ, List, [], length, sym, ap, subst, ◌∙◌, arith}
 use Rattle.std.specs.Prelude.{map, Option, None, IsSome, is_some}
 use Rattle.std.specs.List.{All}
 use Rattle.station.specs.Disk.{Sector}
 use Rattle.station.specs.State.{State}
 use Rattle.pages.specs.Use.{free_count}
-use Rattle.pages.specs.Pages.{map_now, committed_of}
+use Rattle.pages.specs.Pages.{map_now}
 use Rattle.btree.specs.Rooted.{Rooted}
 use Rattle.btree.specs.Entries.{Entry, entry_with, with_entry}
 use Rattle.btree.proofs.Frames.{same_pages, unchanged_on}
-use Rattle.records.specs.declared.answer.Outcome.{Outcome}
-use Rattle.records.specs.declared.answer.Outcome.TheVariants.{Taken}
 use Rattle.records.specs.declared.fault.StoreFault.TheVariants.{Device, Full, Damaged}
 use Rattle.records.specs.declared.key.KeyOfReference.TheVariants.{Prime}
 use Rattle.records.specs.Spec.{Spec}
 use Rattle.records.specs.Rows.{Row}
-use Rattle.records.specs.Changes.{Changed, has_prime, new_row, new_number, inserted}
-use Rattle.records.specs.Files.{Named, IsByte}
+use Rattle.records.specs.Changes.{Changed, has_prime, new_row, new_number}
+use Rattle.records.specs.Files.{IsByte}
 use Rattle.records.specs.Stores.{spec_of, is_change}
-use Rattle.file_trees.specs.Trees.{entry_under, layout_under}
+use Rattle.file_trees.specs.Trees.{entry_under}
 use Rattle.file_trees.specs.Forest.{Planted}
 use Rattle.file_trees.specs.Grows.{StandsAmong}
 use Rattle.alternate_keys.specs.declared.row_verb.RowVerb.TheVariants.{Insert}
@@ -386,4 +384,3 @@ returns-clause-edits g c =
 pub returns-then-not-branch-clause-same : goal.returns-then-not-branch-clause-same
 returns-then-not-branch-clause-same g c =
     λ none. unchanged_on c.args.pages.now c.look_at_values.new.pages c.insert_row.new.pages c.look_at_values.ensures.looks.unchanged (c.in_ok-insert_row.ensures.same (ap Ok c.if-not-branch.true))
-

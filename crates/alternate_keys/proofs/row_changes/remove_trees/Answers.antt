@@ -1,9 +1,9 @@
-use Rattle.std.proofs.Common.{◌≡◌, ◌≤◌, ◌<◌, ◌+◌, ◌*◌, ◌++◌, Bool, true, false, Ok, Err, ℕ, List, [], ◌∷◌, length, refl, sym, ap, subst, ◌∙◌, arith}
-use Rattle.std.specs.Prelude.{map, Option, IsSome, IfSome}
+use Rattle.std.proofs.Common.{◌≡◌, ◌+◌, ◌++◌, Err, ℕ, List, [], length, sym, ap, subst, ◌∙◌, arith}
+use Rattle.std.specs.Prelude.{map, Option, IfSome}
 use Rattle.station.specs.Disk.{Sector}
 use Rattle.station.specs.State.{State}
 use Rattle.pages.specs.Use.{free_count}
-use Rattle.pages.specs.Pages.{map_now, committed_of}
+use Rattle.pages.specs.Pages.{map_now}
 use Rattle.tree_pages.specs.declared.row_layout.RowLayout.{RowLayout}
 use Rattle.btree.specs.Rooted.{Rooted}
 use Rattle.btree.specs.Entries.{Entry, HasLengths, entry_with, without}
@@ -12,10 +12,9 @@ use Rattle.records.specs.declared.fault.StoreFault.TheVariants.{Device, Full, Da
 use Rattle.records.specs.declared.key.KeyOfReference.TheVariants.{Prime}
 use Rattle.records.specs.Spec.{Spec}
 use Rattle.records.specs.Rows.{Pair}
-use Rattle.records.specs.Changes.{Changed, removed}
-use Rattle.records.specs.Files.{Named}
-use Rattle.records.specs.Stores.{spec_of, pair_of, is_change}
-use Rattle.file_trees.specs.Trees.{entry_under, key_under, layout_under, row_value}
+use Rattle.records.specs.Changes.{Changed}
+use Rattle.records.specs.Stores.{spec_of, pair_of}
+use Rattle.file_trees.specs.Trees.{entry_under, key_under, row_value}
 use Rattle.file_trees.specs.Forest.{Planted}
 use Rattle.file_trees.specs.Grows.{StandsAmong}
 use Rattle.alternate_keys.specs.declared.row_verb.RowVerb.TheVariants.{Remove}
@@ -284,4 +283,3 @@ returns-clause-edits g c =
     let e0 = looks_edits g.D.Device (c.find_row.result ≡ Err Device) c.args.pages.now c.find_row.new.pages c.args.device.now c.find_row.new.device c.find_row.ensures.looks in
     let e1 = edits_last g.D.Device (c.find_row.result ≡ Err Device) (c.remove_among.result ≡ Err Device) (c.remove_among.result ≡ Err Device) c.args.pages.now c.find_row.new.pages c.remove_among.new.pages c.args.device.now c.find_row.new.device c.remove_among.new.device (λ is. is) e0 c.remove_among.ensures.edits in
     edits_last g.D.Device (c.remove_among.result ≡ Err Device) (c.move_row.result ≡ Err Device) _ c.args.pages.now c.remove_among.new.pages c.move_row.new.pages c.args.device.now c.remove_among.new.device c.move_row.new.device (λ is. absurd cc) e1 c.move_row.ensures.edits
-

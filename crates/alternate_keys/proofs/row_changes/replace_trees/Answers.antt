@@ -1,21 +1,20 @@
-use Rattle.std.proofs.Common.{◌≡◌, ◌≤◌, ◌<◌, ◌+◌, ◌*◌, ◌++◌, ◌^◌, Bool, true, false, Ok, Err, ℕ, List, [], ◌∷◌, length, take, refl, sym, ap, subst, ◌∙◌, arith}
-use Rattle.std.specs.Prelude.{map, filter, Option, Some, IsSome, IfSome, if◌then◌else◌}
+use Rattle.std.proofs.Common.{◌≡◌, ◌+◌, ◌*◌, ◌++◌, true, false, Err, ℕ, List, length, sym, ap, subst, ◌∙◌, arith}
+use Rattle.std.specs.Prelude.{map, Option, Some, IfSome}
 use Rattle.std.specs.Option.{option_map}
 use Rattle.station.specs.Disk.{Sector}
 use Rattle.station.specs.State.{State}
 use Rattle.pages.specs.Use.{free_count}
-use Rattle.pages.specs.Pages.{map_now, committed_of}
+use Rattle.pages.specs.Pages.{map_now}
 use Rattle.tree_pages.specs.declared.row_layout.RowLayout.{RowLayout}
 use Rattle.btree.specs.Rooted.{Rooted}
 use Rattle.btree.specs.Entries.{Entry, HasLengths, entry_with, with_value}
 use Rattle.btree.proofs.Frames.{same_pages, unchanged_on}
-use Rattle.records.specs.declared.answer.Outcome.TheVariants.{Taken}
 use Rattle.records.specs.declared.fault.StoreFault.TheVariants.{Device, Full, Damaged}
 use Rattle.records.specs.declared.file_spec.KeyPlace.{KeyPlace}
 use Rattle.records.specs.declared.key.KeyOfReference.TheVariants.{Prime}
 use Rattle.records.specs.Spec.{Spec}
 use Rattle.records.specs.Rows.{Row, Pair, part, place_of, named_pair}
-use Rattle.records.specs.Changes.{Changed, changed_row, replaced, row_at, is_taken, is_duplicate, done}
+use Rattle.records.specs.Changes.{Changed, changed_row, row_at}
 use Rattle.records.specs.Files.{Named}
 use Rattle.records.specs.Stores.{spec_of, pair_of, is_change}
 use Rattle.file_trees.specs.Trees.{entry_under, key_under, layout_under, row_value}
@@ -23,7 +22,7 @@ use Rattle.file_trees.specs.Pairs.{IsPair}
 use Rattle.file_trees.specs.Forest.{Planted}
 use Rattle.file_trees.specs.Grows.{StandsAmong}
 use Rattle.alternate_keys.specs.declared.row_verb.RowVerb.TheVariants.{Replace}
-use Rattle.alternate_keys.specs.Moved.{Moving, PairsMayMove, is_new, named_after}
+use Rattle.alternate_keys.specs.Moved.{Moving, PairsMayMove, named_after}
 use Rattle.alternate_keys.specs.Placed.{Placed, HasTrees}
 use Rattle.alternate_keys.proofs.Faults.{never_device}
 use Rattle.alternate_keys.proofs.Calling.{looks_edits, edits_blamed, edits_last}
@@ -31,7 +30,7 @@ use Rattle.alternate_keys.proofs.FileTrees.{kept_in, arrival_few, arrival_is, pr
 use Rattle.alternate_keys.proofs.FoundRow.{none_at, found_at}
 use Rattle.alternate_keys.proofs.Numbered.{named_here}
 use Rattle.alternate_keys.proofs.RemoveRow.{some_by}
-use Rattle.alternate_keys.proofs.ReplaceRow.{replaced_missing, replaced_taken, replaced_done, named_changed, next_of, replaced_may, replace_moving, entry_as, entry_changed, next_told, look_free, look_done, look_full, look_taken}
+use Rattle.alternate_keys.proofs.ReplaceRow.{replaced_missing, replaced_taken, replaced_done, named_changed, replaced_may, replace_moving, entry_changed, next_told, look_free, look_done, look_full, look_taken}
 use Rattle.alternate_keys.proofs.Still.{same_volume}
 use Rattle.alternate_keys.proofs.row_changes.replace_trees.Goals as goal
 
@@ -561,4 +560,3 @@ returns-clause-edits g c =
 pub returns-then-not-is_done-clause-same : goal.returns-then-not-is_done-clause-same
 returns-then-not-is_done-clause-same g c =
     λ none. unchanged_on c.args.pages.now c.find_row.new.pages c.look_at_values.new.pages c.find_row.ensures.looks.unchanged c.look_at_values.ensures.looks.unchanged
-

@@ -1,4 +1,4 @@
-use Rattle.std.proofs.Common.{◌≡◌, ◌≤◌, ◌<◌, List, ℕ, length, ap, ◌∙◌, arith}
+use Rattle.std.proofs.Common.{List, ℕ, ap, ◌∙◌, arith}
 use Rattle.std.specs.Prelude.{slice_index}
 use Rattle.file_trees.proofs.Small.{few_alternates}
 use Rattle.alternate_keys.proofs.Heads.{count_at}

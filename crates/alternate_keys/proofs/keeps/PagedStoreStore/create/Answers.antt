@@ -1,4 +1,4 @@
-use Rattle.std.proofs.Common.{◌≡◌, inl, true, refl, sym, subst}
+use Rattle.std.proofs.Common.{inl, true, refl, sym, subst}
 use Rattle.station.proofs.Spans.{stays}
 use Rattle.pages.specs.Pages.{committed_of}
 use Rattle.records.specs.Files.{Files, empty_file, with_file}

@@ -1,4 +1,4 @@
-use Rattle.std.proofs.Common.{◌≡◌, inl, false, refl, sym, subst}
+use Rattle.std.proofs.Common.{inl, false, refl, sym, subst}
 use Rattle.station.proofs.Spans.{stays}
 use Rattle.pages.specs.Pages.{committed_of}
 use Rattle.records.specs.Files.{Files}
