@@ -11,6 +11,8 @@ mod emit;
 mod emitter;
 mod evaluate;
 mod expression;
+mod file_table;
+mod filing;
 mod initializing;
 mod inspecting;
 mod moving;

@@ -4,7 +4,7 @@ use crate::asserted::{same, same_in};
 use crate::codes::{ENOUGH, is_harmless, run, with_byte};
 use crate::moves::code_of_text;
 use code_image::{from_bytes, to_bytes};
-use machine::Ended;
+use run_unit::Ended;
 use std::alloc::Global;
 use std::test::Fail;
 

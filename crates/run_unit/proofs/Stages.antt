@@ -9,7 +9,7 @@ use Rattle.tokens.specs.Tokens.{TokensOf}
 use Rattle.tokens.specs.Scanning.{tokens}
 use Rattle.source_tree.specs.declared.program.Program.{Program}
 use Rattle.statements.specs.Spelling.{max_nesting}
-use Rattle.data_division.specs.Forms.{HasForms}
+use Rattle.data_division.specs.Forms.{HasForms, program_entries}
 use Rattle.divisions.specs.Spelling.{Spells}
 use Rattle.divisions.specs.Faults.{IsAnswer, parse_of}
 use Rattle.answers.specs.Answer.{Fails}
@@ -77,7 +77,7 @@ no_place : {A : Type 0} {o : Option A} {a : A} → o ≡ None → o ≡ Some a �
 no_place none some = cc
 
 -- where a tree of the greatest depth, whose pictures have forms, spells the tokens, only memory refuses it
-pub tree_refusal : (tree : Program) → HasForms tree.storage → (e : ParseError) → IsAnswer max_nesting tree (Err e) → IsTreeAnswer tree (Err (from_tree e))
+pub tree_refusal : (tree : Program) → HasForms (program_entries tree) → (e : ParseError) → IsAnswer max_nesting tree (Err e) → IsTreeAnswer tree (Err (from_tree e))
 tree_refusal tree formed in_tree.Memory allowed = tt
 tree_refusal tree formed (in_tree.Refused fault) (inl deeper) = absurd (let deep : 64 < 64 = deeper.1 in omega (arith, deep))
 tree_refusal tree formed (in_tree.Refused fault) (inr formless) = absurd (no_place formed formless.1)

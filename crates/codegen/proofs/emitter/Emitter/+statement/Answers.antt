@@ -12,9 +12,11 @@ use Rattle.source_tree.specs.declared.evaluate.Selected.{Selected}
 use Rattle.source_tree.specs.Broken.{each}
 use Rattle.source_tree.specs.Evaluate.{asked_each, whens_asked, selected_asked}
 use Rattle.source_tree.specs.EvaluateRules.{when_rules, selected_rules}
+use Rattle.source_tree.specs.Filing.{phrases_of}
+use Rattle.source_tree.specs.FilingRules.{filing_rules}
 use Rattle.source_tree.specs.NameRules.{item_rules}
 use Rattle.source_tree.specs.ConditionRules.{varying_rules, condition_rules, until_rules}
-use Rattle.source_tree.specs.Rules.{all_permitted, integer_item, verb_rules, arithmetic_rules, stringing_rules, branching_rules, performing_rules, phrases_rules, phrase_rules, performed_rules, turns_rules, evaluate_rules, statement_rules}
+use Rattle.source_tree.specs.Rules.{all_permitted, integer_item, verb_rules, arithmetic_rules, stringing_rules, branching_rules, performing_rules, phrases_rules, phrase_rules, file_phrases_rules, performed_rules, turns_rules, evaluate_rules, statement_rules}
 use Rattle.source_tree.specs.ArithmeticRules.{operation_rules}
 use Rattle.source_tree.specs.LookUp.{items_named}
 use Rattle.source_tree.specs.StringRules.{sending_rules, receiver_item, only_length, string_rules}
@@ -67,6 +69,22 @@ emit_statement-emit_stringing-requires t c =
     let front = front_kept (string_rules scope.items one) (phrases_rules (statement_rules scope all_permitted) one.phrases) r in
     let phrases = back_kept (string_rules scope.items one) (phrases_rules (statement_rules scope all_permitted) one.phrases) r in
     (search (rules, the_lemmas), (c.requires.declared, (c.requires.entries, (front, (front_kept first second phrases, back_kept first second phrases)))))
+
+pub emit_statement-emit_filing-requires-clause-rules : goal.emit_statement-emit_filing-requires-clause-rules
+emit_statement-emit_filing-requires-clause-rules t c =
+    let scope = scope_in c.args.self.now.declarations.now in
+    let one = c.in-Filing.filing in
+    let r : filing_rules scope.items scope.files one ++ file_phrases_rules (statement_rules scope all_permitted) (phrases_of one) ≡ [] =
+    sym (ap (verb_rules scope all_permitted (statement_rules scope all_permitted)) c.in-Filing.is) ∙ sym (layers.statement_is scope all_permitted c.args.one.now) ∙ c.requires.rules in
+    front_kept (filing_rules scope.items scope.files one) (file_phrases_rules (statement_rules scope all_permitted) (phrases_of one)) r
+
+pub emit_statement-emit_filing-requires-clause-phrases : goal.emit_statement-emit_filing-requires-clause-phrases
+emit_statement-emit_filing-requires-clause-phrases t c =
+    let scope = scope_in c.args.self.now.declarations.now in
+    let one = c.in-Filing.filing in
+    let r : filing_rules scope.items scope.files one ++ file_phrases_rules (statement_rules scope all_permitted) (phrases_of one) ≡ [] =
+    sym (ap (verb_rules scope all_permitted (statement_rules scope all_permitted)) c.in-Filing.is) ∙ sym (layers.statement_is scope all_permitted c.args.one.now) ∙ c.requires.rules in
+    back_kept (filing_rules scope.items scope.files one) (file_phrases_rules (statement_rules scope all_permitted) (phrases_of one)) r
 
 pub emit_statement-emit_branching-requires : goal.emit_statement-emit_branching-requires
 emit_statement-emit_branching-requires t c =
