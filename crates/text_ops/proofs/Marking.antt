@@ -1,11 +1,11 @@
 -- What follows where a character begins no fit.
-use Rattle.std.proofs.Common.{◌≡◌, ◌&&◌, leb, eqb, nat_eq, ℕ, zero, suc, ◌+◌, ◌≤◌, Bool, true, false, List, [], ◌∷◌, length, get_or, set, refl, ap, sym, subst, ◌∙◌, arith, inl, inr}
+use Rattle.std.proofs.Common.{◌≡◌, ◌&&◌, leb, eqb, nat_eq, ℕ, zero, suc, ◌+◌, ◌<◌, ◌≤◌, Bool, true, false, List, [], ◌∷◌, length, drop, length-drop, drop-drop, get_or, set, refl, ap, sym, subst, ◌∙◌, arith, inl, inr}
 use Rattle.std.specs.Prelude.{Some, None, replicate, if◌then◌else◌}
 use Rattle.std.specs.Option.{option_map}
 use Rattle.std.specs.List.{starts_with}
 use Rattle.std.proofs.Math.Bool.{and-false}
 use Rattle.std.proofs.lemmas.Bool.{ne_eqb, cases_lt}
-use Rattle.std.proofs.lemmas.List.{get_or-replicate, get_or_past, length-replicate}
+use Rattle.std.proofs.lemmas.List.{get_or-replicate, get_or_past, length-replicate, get_or-drop}
 use Rattle.std.proofs.lemmas.List.Elements.{All-head, All-tail}
 use Rattle.text_ops.specs.Entries.{bytes_in, fit_length}
 use Rattle.text_ops.specs.declared.entry.Span.{Span}
@@ -16,6 +16,7 @@ use Rattle.text_ops.specs.Walk.{stands, fits, later, first_fit}
 use Rattle.text_ops.specs.Beginnings.{text_of, Skips, AreMarked, entries_on}
 use Rattle.text_ops.specs.declared.progress.Progress.{Progress}
 use Rattle.text_ops.specs.declared.progress.Fitted.{Fitted}
+use Rattle.text_ops.proofs.Walks.{Goes, goes_on}
 
 -- where no entry fits, none is the first that does
 pub none_fits : (texts : List ℕ) (marks : List Bool) (active : List Progress) (at : ℕ) (rest : List ℕ) → AreMarked texts marks active → 1 ≤ length rest → get_or marks (get_or rest 0 0) true ≡ false → first_fit texts active at rest ≡ None
@@ -100,3 +101,22 @@ own_skips texts marks entry text first is some front = λ p at rest same more un
     let looks : text_of p.entry.fit ≡ Some text = ap (λ (e : Entry). text_of e.fit) same ∙ is in
     let bound = leb (at + fit_length p.entry.fit) p.limit in
     ap (λ (b : Bool). bound && b) (stands_not texts p p.entry.fit at rest text looks not) ∙ and-false bound
+
+-- a walk passes over characters that aren't marked
+pub past_unmarked : (texts : List ℕ) (marks : List Bool) (active : List Progress) (at n : ℕ) (subject rest : List ℕ) (all : List Fitted) → Goes texts active at (drop at subject) all → rest ≡ drop at subject → n ≤ length rest → AreMarked texts marks active
+    → ((k : ℕ) → k < n → get_or marks (get_or rest k 0) true ≡ false) → Goes texts active (at + n) (drop (at + n) subject) all
+past_unmarked texts marks active at zero subject rest all goes is low are un =
+    let same : at + 0 ≡ at = omega arith in
+    subst (λ (place : ℕ). Goes texts active place (drop place subject) all) (sym same) goes
+past_unmarked texts marks active at (suc n) subject rest all goes is low are un =
+    let before = past_unmarked texts marks active at n subject rest all goes is (omega arith) are (λ k h. un k (omega arith)) in
+    let place = at + n in
+    let long : length rest ≡ length (drop at subject) = ap length is in
+    let some : 1 ≤ length (drop place subject) = omega (arith, length-drop place subject, length-drop at subject, long) in
+    let first : get_or (drop place subject) 0 0 ≡ get_or rest n 0 =
+    get_or-drop place subject 0 0 ∙ ap (λ (k : ℕ). get_or subject k 0) (let e : place + 0 ≡ at + n = omega arith in e) ∙ sym (get_or-drop at subject n 0) ∙ ap (λ (xs : List ℕ). get_or xs n 0) (sym is) in
+    let none = none_fits texts marks active place (drop place subject) are some (ap (λ (c : ℕ). get_or marks c true) first ∙ un n (omega arith)) in
+    let next : Goes texts active (place + 1) (drop (place + 1) subject) all =
+    subst (λ (xs : List ℕ). Goes texts active (place + 1) xs all) (drop-drop 1 place subject) (goes_on texts active place (drop place subject) all before some none) in
+    let same : place + 1 ≡ at + suc n = omega arith in
+    subst (λ (k : ℕ). Goes texts active k (drop k subject) all) same next

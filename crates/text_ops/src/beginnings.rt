@@ -1,6 +1,6 @@
 //! Which characters a fit may begin with, so that a walk passes over the others.
 
-ghost use Rattle.std.specs.Prelude.{length};
+ghost use Rattle.std.specs.Prelude.{◌≡◌, ◌<◌, ◌≤◌, ℕ, true, false, length, slice_index, slice_index_or};
 ghost use Rattle.text_ops.specs.Entries.{IsEntry};
 ghost use Rattle.text_ops.specs.Walk.{AreActive};
 ghost use Rattle.text_ops.specs.Beginnings.{Skips, AreMarked};
@@ -36,4 +36,17 @@ pub fn beginnings(texts: &[u8], active: &[Progress]) -> [bool; CHARACTERS]
         mark(texts, progress.entry, &mut marks);
     }
     marks
+}
+
+/// How many characters in front of a text aren't marked.
+pub fn unmarked(marks: &[bool; CHARACTERS], text: &[u8]) -> usize
+    ensures within { result ≤ length text.now }
+    ensures unmarked { (k : ℕ) → k < result → slice_index_or marks.now (slice_index text.now k) true ≡ false }
+{
+    for (count, character) in text.iter().enumerate() {
+        if marks[*character as usize] {
+            return count;
+        }
+    }
+    text.len()
 }

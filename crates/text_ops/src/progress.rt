@@ -4,7 +4,7 @@ ghost use Rattle.std.specs.Prelude.{◌≡◌, ◌≤◌, ◌+◌, ◌<◌, leng
 ghost use Rattle.text_ops.specs.Entries.{IsEntry, IfSpan, AreWithin, fit_length};
 ghost use Rattle.text_ops.specs.Walk as spec;
 ghost use Rattle.text_ops.specs.Walk.{AreActive, IsFitted};
-ghost use Rattle.text_ops.specs.Beginnings.{AreMarked, entries_on};
+ghost use Rattle.text_ops.specs.Beginnings.{entries_on};
 
 use crate::entry::{Entry, Fit, Span};
 use crate::place::first_place;
@@ -131,8 +131,7 @@ fn first_fit(texts: &[u8], active: &[Progress], at: usize, rest: &[u8]) -> Optio
 }
 
 /// The first entry that fits at this place, if one does. It has passed its fit then.
-#[inline(never)]
-fn fit_here(texts: &[u8], active: &mut [Progress], at: usize, rest: &[u8]) -> Option<Fitted>
+pub fn step(texts: &[u8], active: &mut [Progress], at: usize, rest: &[u8]) -> Option<Fitted>
     requires within { AreActive active.old (length texts.now) }
     requires rest { 1 ≤ length rest.now }
     ensures fit { result ≡ spec.first_fit texts.now active.old at rest.now }
@@ -144,28 +143,4 @@ fn fit_here(texts: &[u8], active: &mut [Progress], at: usize, rest: &[u8]) -> Op
     let fitted = first_fit(texts, active, at, rest)?;
     active[fitted.number] = fitted.progress.passed(at);
     Some(fitted)
-}
-
-/// The same. It is looked for only where the character is marked as one that may begin a fit.
-#[inline]
-pub fn step(
-    texts: &[u8],
-    marks: &[bool; 256],
-    active: &mut [Progress],
-    at: usize,
-    rest: &[u8],
-) -> Option<Fitted>
-    requires within { AreActive active.old (length texts.now) }
-    requires marked { AreMarked texts.now marks.now active.old }
-    requires rest { 1 ≤ length rest.now }
-    ensures fit { result ≡ spec.first_fit texts.now active.old at rest.now }
-    ensures after { active.new ≡ spec.after active.old result }
-    ensures marked { AreMarked texts.now marks.now active.new }
-    ensures within { AreActive active.new (length texts.now) }
-    ensures fitted { IfSome result (IsFitted (length texts.now) (length active.old) at (length rest.now)) }
-{
-    if !marks[rest[0] as usize] {
-        return None;
-    }
-    fit_here(texts, active, at, rest)
 }

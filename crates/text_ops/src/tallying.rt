@@ -5,7 +5,7 @@ ghost use Rattle.text_ops.specs.Entries.{AreWithin};
 ghost use Rattle.text_ops.specs.Walk.{AreActive, walk};
 ghost use Rattle.text_ops.specs.Inspect as spec;
 
-use crate::beginnings::beginnings;
+use crate::beginnings::{beginnings, unmarked};
 use crate::entry::Entry;
 use crate::progress::{Progress, begin, step};
 
@@ -22,7 +22,12 @@ fn count_fits(texts: &[u8], active: &mut [Progress], subject: &[u8], counts: &mu
     let mut at = 0;
     while at < subject.len() {
         let (_, rest) = subject.split_at(at);
-        match step(texts, &marks, active, at, rest) {
+        let passed = unmarked(&marks, rest);
+        if passed > 0 {
+            at += passed;
+            continue;
+        }
+        match step(texts, active, at, rest) {
             Some(fitted) => {
                 counts[fitted.number] += 1;
                 at += fitted.progress.entry.fit.size();

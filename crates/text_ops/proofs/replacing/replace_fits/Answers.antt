@@ -4,6 +4,7 @@ use Rattle.text_ops.specs.Entries.{fit_length}
 use Rattle.text_ops.specs.Walk.{walk}
 use Rattle.text_ops.specs.Inspect.{with_each, written, replacement}
 use Rattle.text_ops.proofs.Replacements.{written_rest}
+use Rattle.text_ops.proofs.Marking.{still_marked, past_unmarked}
 use Rattle.text_ops.proofs.Walks.{Goes, goes_from, past_fit, past_place, goes_out}
 use Rattle.text_ops.proofs.replacing.replace_fits.Goals as goal
 
@@ -16,6 +17,19 @@ loop-at-init c = record {
   goes = goes_from c.args.texts.now c.args.active.now 0 c.args.subject.now;
   written = refl;
 }
+
+pub loop-at-preserved-then-passed-gt0 : goal.loop-at-preserved-then-passed-gt0
+loop-at-preserved-then-passed-gt0 c =
+    let inv = c.loop-at.invariant in
+    let count = c.unmarked-passed.result in
+    record {
+      bound = omega (arith, c.unmarked-passed.ensures.within, c.split_at.ensures.back_len);
+      within = inv.within;
+      marked = inv.marked;
+      all = inv.all;
+      goes = past_unmarked c.args.texts.now c.beginnings-marks.result c.loop-at.active c.loop-at.at count c.loop-at.subject c.split_at.result.1.now inv.all inv.goes c.split_at.ensures.back c.unmarked-passed.ensures.within inv.marked c.unmarked-passed.ensures.unmarked;
+      written = inv.written;
+    }
 
 pub loop-at-preserved-in-Some : goal.loop-at-preserved-in-Some
 loop-at-preserved-in-Some c =
@@ -31,7 +45,7 @@ loop-at-preserved-in-Some c =
     record {
       bound = omega (arith, is.within, c.size-at.ensures, c.split_at.ensures.back_len);
       within = c.in-Some.ensures.within;
-      marked = c.in-Some.ensures.marked;
+      marked = still_marked c.args.texts.now c.beginnings-marks.result c.loop-at.active c.step.new.active c.in-Some.ensures.entries inv.marked;
       all = past.0;
       goes = subst P (sym rest) past.2;
       written = ap (with_each c.args.texts.now past.0) c.put_replacement.ensures ∙ ap (λ place. with_each c.args.texts.now past.0 (written place (replacement c.args.texts.now entry.by) c.loop-at.subject)) (sym is.at) ∙ ap (λ all. with_each c.args.texts.now all c.loop-at.subject) (sym past.1) ∙ inv.written;
@@ -43,7 +57,7 @@ loop-at-preserved c =
     record {
       bound = omega arith;
       within = c.step.ensures.within;
-      marked = c.step.ensures.marked;
+      marked = still_marked c.args.texts.now c.beginnings-marks.result c.loop-at.active c.step.new.active c.step.ensures.entries inv.marked;
       all = inv.all;
       goes = past_place c.args.texts.now c.loop-at.active c.step.new.active c.loop-at.at c.loop-at.subject c.split_at.result.1.now inv.all inv.goes c.loop-at-test.true c.split_at.ensures.back c.in-None.ensures.fit c.in-None.ensures.after;
       written = inv.written;

@@ -1,6 +1,7 @@
 use Rattle.std.proofs.Common.{ℕ, ◌+◌, ◌<◌, length, drop, slice_index, ap, arith, length-set}
 use Rattle.text_ops.specs.Walk.{walk}
 use Rattle.text_ops.specs.Inspect.{count_of}
+use Rattle.text_ops.proofs.Marking.{still_marked, past_unmarked}
 use Rattle.text_ops.proofs.Walks.{goes_from, past_fit, past_place, goes_out}
 use Rattle.text_ops.proofs.Counts.{small_more, counted_more}
 use Rattle.std.proofs.Math.ListN.{drop_of_length-le}
@@ -18,6 +19,21 @@ loop-at-init c = record {
   counted = λ k l. omega (arith, c.requires.zero k l);
 }
 
+pub loop-at-preserved-then-passed-gt0 : goal.loop-at-preserved-then-passed-gt0
+loop-at-preserved-then-passed-gt0 c =
+    let inv = c.loop-at.invariant in
+    let count = c.unmarked-passed.result in
+    record {
+      bound = omega (arith, c.unmarked-passed.ensures.within, c.split_at.ensures.back_len);
+      within = inv.within;
+      marked = inv.marked;
+      sizes = inv.sizes;
+      small = λ k l. omega (arith, inv.small k l);
+      all = inv.all;
+      goes = past_unmarked c.args.texts.now c.beginnings-marks.result c.loop-at.active c.loop-at.at count c.args.subject.now c.split_at.result.1.now inv.all inv.goes c.split_at.ensures.back c.unmarked-passed.ensures.within inv.marked c.unmarked-passed.ensures.unmarked;
+      counted = inv.counted;
+    }
+
 pub loop-at-preserved-in-Some : goal.loop-at-preserved-in-Some
 loop-at-preserved-in-Some c =
     let inv = c.loop-at.invariant in
@@ -30,7 +46,7 @@ loop-at-preserved-in-Some c =
     record {
       bound = omega (arith, is.within, c.size-at.ensures, c.split_at.ensures.back_len);
       within = c.in-Some.ensures.within;
-      marked = c.in-Some.ensures.marked;
+      marked = still_marked c.args.texts.now c.beginnings-marks.result c.loop-at.active c.step.new.active c.in-Some.ensures.entries inv.marked;
       sizes = omega (arith, one-more, inv.sizes);
       small = small_more c.loop-at.counts fitted.number c.loop-at.at c.size-at.result number (omega (arith, is.some, c.size-at.ensures)) inv.small;
       all = past.0;
@@ -44,7 +60,7 @@ loop-at-preserved c =
     record {
       bound = omega arith;
       within = c.step.ensures.within;
-      marked = c.step.ensures.marked;
+      marked = still_marked c.args.texts.now c.beginnings-marks.result c.loop-at.active c.step.new.active c.step.ensures.entries inv.marked;
       sizes = omega (arith, inv.sizes);
       small = λ k l. omega (arith, inv.small k l);
       all = inv.all;
