@@ -5,6 +5,8 @@
 #[cfg(test)]
 mod asserted;
 #[cfg(test)]
+mod change_tests;
+#[cfg(test)]
 mod reopening_tests;
 #[cfg(test)]
 mod row_tests;
