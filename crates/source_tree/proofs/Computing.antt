@@ -16,6 +16,7 @@ use Rattle.edited_move.specs.EditedCharacters as edited
 use Rattle.edited_move.specs.Moves as moves
 use Rattle.text_ops.specs.Shown as shown
 use Rattle.text_ops.specs.Compare as compare
+use Rattle.source_tree.specs.FileStatements as statements
 
 unfoldable pub computing : Unit {0}
 unfolding
@@ -26,4 +27,5 @@ unfolding
     text.count_at text.closed text.number_at text.symbol_of regions.digits_in pictures.picture_of pictures.of_form pictures.of_digits
     pictures.of_characters pictures.scale_of values.value_of values.bytes_of editing.edited editing.characters_from edited.edited_characters
     moves.moved moves.moved_by_picture shown.shown compare.compared compare.order_of_texts
+    statements.stored_by statements.step_by
 computing = tt

@@ -23,7 +23,7 @@ items =
 -- so much of the budget left, what used it last, the bytes of N, and those that are shown
 abbrev after : ℕ → ℕ → String → String → State
 after budget line bytes shown =
-    record { budget = budget; line = line; day = []; lines = []; storage = codes bytes ∷ codes "00" ∷ codes " " ∷ []; events = map Shown (codes shown) }
+    record { budget = budget; line = line; day = []; lines = []; storage = codes bytes ∷ codes "00" ∷ codes " " ∷ []; files = []; connectors = []; earlier = []; events = map Shown (codes shown) }
 
 -- shows a P, and has +9 in N
 abbrev show_and_change : State → Outcome

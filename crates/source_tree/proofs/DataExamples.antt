@@ -30,6 +30,8 @@ display line operands = statement line (verb.Text (Display operands true))
 abbrev program : List Entry → List Statement → Program
 program storage statements = record {
   name = name (codes "P");
+  selects = [];
+  files = [];
   storage = storage;
   sections = record {
     name = None;
@@ -38,7 +40,7 @@ program storage statements = record {
 }
 
 abbrev runs : Program → Run
-runs one = meaning one (record { budget = 9; day = codes "260730"; lines = [] })
+runs one = meaning one (record { budget = 9; day = codes "260730"; lines = []; files = [] })
 
 -- 77 N PIC 99 VALUE 7. 01 T. 05 X PIC X OCCURS 2.
 abbrev some : List Entry
@@ -54,7 +56,7 @@ moved : runs (program some (display 7 (the_item (codes "N") ∷ [])
     ∷ display 9 (the_item (codes "N") ∷ the_item (codes "T") ∷ [])
     ∷ move 10 (the_item (codes "N")) (plain (codes "T") ∷ [])
     ∷ display 11 (the_item (codes "T") ∷ [])
-    ∷ [])) ≡ record { events = map Shown (codes "07\n12  \n12\n"); end = Stopped; lines = [] }
+    ∷ [])) ≡ record { events = map Shown (codes "07\n12  \n12\n"); end = Stopped; lines = []; files = [] ∷ [] }
 unfolding computing out-Statement roll-Statement denote.Hole.Carrier.out denote.Hole.Carrier.roll
 moved = refl
 
@@ -66,6 +68,6 @@ the_occurrence = operand.Item (reference (codes "X") (counted (codes "3") ∷ []
 out_of_range : runs (program some (display 7 (the_item (codes "N") ∷ [])
     ∷ display 8 (the_item (codes "N") ∷ the_item (codes "T") ∷ the_occurrence ∷ [])
     ∷ display 9 (the_item (codes "N") ∷ [])
-    ∷ [])) ≡ record { events = map Shown (codes "07\n"); end = Faulted fault.Subscript 8; lines = [] }
+    ∷ [])) ≡ record { events = map Shown (codes "07\n"); end = Faulted fault.Subscript 8; lines = []; files = [] ∷ [] }
 unfolding computing out-Statement roll-Statement denote.Hole.Carrier.out denote.Hole.Carrier.roll
 out_of_range = refl

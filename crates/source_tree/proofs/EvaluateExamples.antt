@@ -82,7 +82,7 @@ whens each shown = record { whens = map when each; statements = codes shown }
 -- these bytes in A and B, and these shown; EVALUATE stands at line 9
 abbrev after : String → String → String → State
 after a b shown =
-    record { budget = 5; line = 9; day = []; lines = []; storage = codes a ∷ codes b ∷ codes "00" ∷ codes " " ∷ []; events = map Shown (codes shown) }
+    record { budget = 5; line = 9; day = []; lines = []; storage = codes a ∷ codes b ∷ codes "00" ∷ codes " " ∷ []; files = []; connectors = []; earlier = []; events = map Shown (codes shown) }
 
 abbrev show : ℕ → State → Outcome
 show byte s = Done (showing (byte ∷ []) s)

@@ -53,18 +53,18 @@ perform_times place digits inside =
 
 -- with this budget, on 30 July 1926
 abbrev with : ℕ → Given
-with budget = record { budget = budget; day = 50 ∷ 54 ∷ 48 ∷ 55 ∷ 51 ∷ 48 ∷ []; lines = [] }
+with budget = record { budget = budget; day = 50 ∷ 54 ∷ 48 ∷ 55 ∷ 51 ∷ 48 ∷ []; lines = []; files = [] }
 
 abbrev pub meaning : Program → ℕ → Run
 meaning program budget = given.meaning program (with budget)
 
 -- no items
 abbrev nothing_declared : Setting
-nothing_declared = record { scope = record { items = []; procedures = [] }; paragraphs = [] }
+nothing_declared = record { scope = record { items = []; files = []; procedures = [] }; paragraphs = [] }
 
 -- of a program without items
 abbrev empty : Program
-empty = record { name = record { characters = 80 ∷ []; place = at 2 20 }; storage = []; sections = [] }
+empty = record { name = record { characters = 80 ∷ []; place = at 2 20 }; selects = []; files = []; storage = []; sections = [] }
 
 abbrev start : ℕ → State
 start budget = given.start empty (with budget)
@@ -83,6 +83,8 @@ stop = stop_run (at 6 12)
 abbrev pub hello : Program
 hello = record {
   name = record { characters = hello_bytes; place = at 2 20 };
+  selects = [];
+  files = [];
   storage = [];
   sections = record {
     name = None;
@@ -94,7 +96,7 @@ hello = record {
 }
 
 abbrev pub shows_hello : Run
-shows_hello = record { events = map Shown (hello_bytes ++ line_feed ∷ []); end = Stopped; lines = [] }
+shows_hello = record { events = map Shown (hello_bytes ++ line_feed ∷ []); end = Stopped; lines = []; files = [] ∷ [] }
 
 -- with budget 2 all of it
 hello_with_two : meaning hello 2 ≡ shows_hello
@@ -107,13 +109,13 @@ unfolding out-Statement roll-Statement denote.Hole.Carrier.out denote.Hole.Carri
 hello_with_one = refl
 
 -- with budget 0 nothing is shown
-hello_with_none : meaning hello 0 ≡ record { events = []; end = Budget; lines = [] }
+hello_with_none : meaning hello 0 ≡ record { events = []; end = Budget; lines = []; files = [] ∷ [] }
 unfolding out-Statement roll-Statement denote.Hole.Carrier.out denote.Hole.Carrier.roll
 hello_with_none = refl
 
 -- paragraphs without names and STOP RUN, one statement each
 abbrev pub plain : List (List Statement) → Program
-plain all = record { name = record { characters = 80 ∷ []; place = at 2 20 }; storage = []; sections = record { name = None; paragraphs = each all } ∷ [] }
+plain all = record { name = record { characters = 80 ∷ []; place = at 2 20 }; selects = []; files = []; storage = []; sections = record { name = None; paragraphs = each all } ∷ [] }
   where
     each : List (List Statement) → List Paragraph
     each [] = []
@@ -125,13 +127,13 @@ unfolding out-Statement roll-Statement denote.Hole.Carrier.out denote.Hole.Carri
 end_stops = refl
 
 -- nothing runs after STOP RUN
-stop_is_last : meaning (plain ((stop ∷ show_hello ∷ []) ∷ (show_hello ∷ []) ∷ [])) 9 ≡ record { events = []; end = Stopped; lines = [] }
+stop_is_last : meaning (plain ((stop ∷ show_hello ∷ []) ∷ (show_hello ∷ []) ∷ [])) 9 ≡ record { events = []; end = Stopped; lines = []; files = [] ∷ [] }
 unfolding out-Statement roll-Statement denote.Hole.Carrier.out denote.Hole.Carrier.roll
 stop_is_last = refl
 
 -- paragraphs follow one another, and one without sentences uses none of the budget
 in_order : meaning (plain ((display (at 1 12) (text (65 ∷ []) ∷ []) false ∷ []) ∷ [] ∷ (display (at 3 12) (text (66 ∷ []) ∷ []) false ∷ []) ∷ [])) 2
-    ≡ record { events = map Shown (65 ∷ 66 ∷ []); end = Stopped; lines = [] }
+    ≡ record { events = map Shown (65 ∷ 66 ∷ []); end = Stopped; lines = []; files = [] ∷ [] }
 unfolding out-Statement roll-Statement denote.Hole.Carrier.out denote.Hole.Carrier.roll
 in_order = refl
 
@@ -139,12 +141,12 @@ in_order = refl
 abbrev pub nested : Program
 nested = plain ((perform (at 1 12) (display (at 1 20) (text (65 ∷ []) ∷ []) false ∷ perform (at 2 12) (display (at 2 20) (text (66 ∷ []) ∷ []) false ∷ []) ∷ []) ∷ []) ∷ [])
 
-nested_with_four : meaning nested 4 ≡ record { events = map Shown (65 ∷ 66 ∷ []); end = Stopped; lines = [] }
+nested_with_four : meaning nested 4 ≡ record { events = map Shown (65 ∷ 66 ∷ []); end = Stopped; lines = []; files = [] ∷ [] }
 unfolding out-Statement roll-Statement denote.Hole.Carrier.out denote.Hole.Carrier.roll Rattle.source_tree.specs.declared.statement.Statement.TheBlock.shown-the_row-Statement-0 denote.Hole.Carrier.shown denote.Hole.Carrier.hidden
 nested_with_four = refl
 
 -- the inner PERFORM has used the third, and none is left for what stands in it
-nested_with_three : meaning nested 3 ≡ record { events = map Shown (65 ∷ []); end = Budget; lines = [] }
+nested_with_three : meaning nested 3 ≡ record { events = map Shown (65 ∷ []); end = Budget; lines = []; files = [] ∷ [] }
 unfolding out-Statement roll-Statement denote.Hole.Carrier.out denote.Hole.Carrier.roll Rattle.source_tree.specs.declared.statement.Statement.TheBlock.shown-the_row-Statement-0 denote.Hole.Carrier.shown denote.Hole.Carrier.hidden
 nested_with_three = refl
 
@@ -153,12 +155,12 @@ nested_with_three = refl
 abbrev pub two_by_three : Program
 two_by_three = plain ((perform_times (at 1 12) (50 ∷ []) (perform_times (at 2 12) (51 ∷ []) (display (at 3 12) (text (65 ∷ []) ∷ []) false ∷ []) ∷ []) ∷ stop ∷ []) ∷ [])
 
-two_by_three_with_18 : meaning two_by_three 18 ≡ record { events = map Shown (65 ∷ 65 ∷ 65 ∷ 65 ∷ 65 ∷ 65 ∷ []); end = Stopped; lines = [] }
+two_by_three_with_18 : meaning two_by_three 18 ≡ record { events = map Shown (65 ∷ 65 ∷ 65 ∷ 65 ∷ 65 ∷ 65 ∷ []); end = Stopped; lines = []; files = [] ∷ [] }
 unfolding out-Statement roll-Statement denote.Hole.Carrier.out denote.Hole.Carrier.roll Rattle.source_tree.specs.declared.statement.Statement.TheBlock.shown-the_row-Statement-0 denote.Hole.Carrier.shown denote.Hole.Carrier.hidden
 two_by_three_with_18 = refl
 
 -- none is left for STOP RUN
-two_by_three_with_17 : meaning two_by_three 17 ≡ record { events = map Shown (65 ∷ 65 ∷ 65 ∷ 65 ∷ 65 ∷ 65 ∷ []); end = Budget; lines = [] }
+two_by_three_with_17 : meaning two_by_three 17 ≡ record { events = map Shown (65 ∷ 65 ∷ 65 ∷ 65 ∷ 65 ∷ 65 ∷ []); end = Budget; lines = []; files = [] ∷ [] }
 unfolding out-Statement roll-Statement denote.Hole.Carrier.out denote.Hole.Carrier.roll Rattle.source_tree.specs.declared.statement.Statement.TheBlock.shown-the_row-Statement-0 denote.Hole.Carrier.shown denote.Hole.Carrier.hidden
 two_by_three_with_17 = refl
 
@@ -181,7 +183,7 @@ eighteen_digits : turns_of (record { digits = 57 ∷ 57 ∷ 57 ∷ 57 ∷ 57 ∷
 eighteen_digits = refl
 
 -- a program without paragraphs has stopped
-nothing_to_do : meaning (plain []) 0 ≡ record { events = []; end = Stopped; lines = [] }
+nothing_to_do : meaning (plain []) 0 ≡ record { events = []; end = Stopped; lines = []; files = [] ∷ [] }
 nothing_to_do = refl
 
 -- DISPLAY "A" 12.50 'it''s' WITH NO ADVANCING

@@ -1,7 +1,12 @@
 pub mod Givens
+pub mod Telling
 pub mod Runs
 pub mod Depth
 pub mod Repeating
+pub mod FilingRuns
+pub mod FileVerbs
+pub mod SoundFiles
+pub mod RecordAreas
 pub mod StatementRuns
 pub mod StatementDepth
 pub mod Programs
@@ -20,3 +25,7 @@ pub mod Folded
 pub mod CountedExamples
 pub mod EvaluateExamples
 pub mod PerformExamples
+pub mod FileSamples
+pub mod FileExamples
+pub mod KeyExamples
+pub mod FileRuleExamples

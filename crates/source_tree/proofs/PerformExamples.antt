@@ -153,7 +153,7 @@ abbrev exit : ℕ → Statement
 exit line = roll-Statement (record { place = at line 12; verb = verb.Ending ending.Exit })
 
 abbrev of_paragraphs : List Paragraph → Program
-of_paragraphs paragraphs = record { name = given 0 (codes "CALLS"); storage = []; sections = outside paragraphs ∷ [] }
+of_paragraphs paragraphs = record { name = given 0 (codes "CALLS"); selects = []; files = []; storage = []; sections = outside paragraphs ∷ [] }
 
 -- MAIN performs A THRU C and stops; A shows A; B shows B and performs C; C shows C
 abbrev calls : Program
@@ -165,12 +165,12 @@ calls = of_paragraphs (
     ∷ [])
 
 -- two PERFORMs, four DISPLAYs and STOP RUN
-calls_with_seven : meaning calls 7 ≡ record { events = map Shown (codes "ABCC"); end = Stopped; lines = [] }
+calls_with_seven : meaning calls 7 ≡ record { events = map Shown (codes "ABCC"); end = Stopped; lines = []; files = [] ∷ [] }
 unfolding out-Statement roll-Statement denote.Hole.Carrier.out denote.Hole.Carrier.roll Rattle.source_tree.specs.declared.statement.Statement.TheBlock.shown-the_row-Statement-0 denote.Hole.Carrier.shown denote.Hole.Carrier.hidden
 calls_with_seven = refl
 
 -- the inner PERFORM has used the fourth, and none is left for what it performs
-calls_with_four : meaning calls 4 ≡ record { events = map Shown (codes "AB"); end = Budget; lines = [] }
+calls_with_four : meaning calls 4 ≡ record { events = map Shown (codes "AB"); end = Budget; lines = []; files = [] ∷ [] }
 unfolding out-Statement roll-Statement denote.Hole.Carrier.out denote.Hole.Carrier.roll Rattle.source_tree.specs.declared.statement.Statement.TheBlock.shown-the_row-Statement-0 denote.Hole.Carrier.shown denote.Hole.Carrier.hidden
 calls_with_four = refl
 
@@ -182,11 +182,11 @@ three_times = of_paragraphs (
     ∷ paragraph 3 (codes "A") (show 4 (codes "A") ∷ exit 5 ∷ [])
     ∷ [])
 
-three_times_with_nine : meaning three_times 9 ≡ record { events = map Shown (codes "AAA"); end = Stopped; lines = [] }
+three_times_with_nine : meaning three_times 9 ≡ record { events = map Shown (codes "AAA"); end = Stopped; lines = []; files = [] ∷ [] }
 unfolding out-Statement roll-Statement denote.Hole.Carrier.out denote.Hole.Carrier.roll Rattle.source_tree.specs.declared.statement.Statement.TheBlock.shown-the_row-Statement-0 denote.Hole.Carrier.shown denote.Hole.Carrier.hidden
 three_times_with_nine = refl
 
-three_times_with_eight : meaning three_times 8 ≡ record { events = map Shown (codes "AAA"); end = Budget; lines = [] }
+three_times_with_eight : meaning three_times 8 ≡ record { events = map Shown (codes "AAA"); end = Budget; lines = []; files = [] ∷ [] }
 unfolding out-Statement roll-Statement denote.Hole.Carrier.out denote.Hole.Carrier.roll Rattle.source_tree.specs.declared.statement.Statement.TheBlock.shown-the_row-Statement-0 denote.Hole.Carrier.shown denote.Hole.Carrier.hidden
 three_times_with_eight = refl
 

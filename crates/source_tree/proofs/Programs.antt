@@ -1,13 +1,14 @@
 -- The laws of meaning, of whole programs.
-use Rattle.std.proofs.Common.{◌≡◌, ◌≢◌, ℕ, suc, ◌+◌, ◌-◌, ◌<◌, ◌≤◌, refl, sym, ap, subst, arith}
+use Rattle.std.proofs.Common.{◌≡◌, ◌≢◌, ℕ, suc, ◌+◌, ◌-◌, ◌<◌, ◌≤◌, refl, sym, ap, subst, arith, [], ◌∷◌}
 use Rattle.std.specs.Prelude.{length}
 use Rattle.source_tree.specs.declared.program.Program.{Program}
 use Rattle.source_tree.specs.Given.{Given, with_budget}
-use Rattle.source_tree.specs.State.{Stopped, Budget, Faulted, Outcome, Done, Over}
+use Rattle.source_tree.specs.State.{Stopped, Budget, Faulted, State, Outcome, Done, Over, all_files, outcome_state}
 use Rattle.source_tree.specs.Setting.{paragraphs, setting}
 use Rattle.source_tree.specs.Meaning.{exec, start, run_from, told, meaning}
-use Rattle.station.specs.State.{Begins}
-use Rattle.source_tree.proofs.Runs.{Alike, richer, itself}
+use Rattle.source_tree.specs.Told.{Further, Onward}
+use Rattle.source_tree.proofs.Telling.{itself}
+use Rattle.source_tree.proofs.Runs.{Alike, richer}
 use Rattle.source_tree.proofs.StatementRuns.{exec_runs, range_runs}
 use Rattle.source_tree.proofs.StatementDepth.{exec_agrees, range_agrees}
 
@@ -28,12 +29,12 @@ told_alike k (Over Stopped s) other a ends = ap told a
 told_alike k (Over (Faulted fault line) s) other a ends = ap told a
 told_alike k (Over Budget s) other a ends = absurd (ends refl)
 
-told_begins : (k : ℕ) (o other : Outcome) → Alike k o other → Begins (told o).events (told other).events
-told_begins k (Done s) other a = subst (λ x. Begins s.events (told x).events) (sym a) (itself s.events)
-told_begins k (Over Stopped s) other a = subst (λ x. Begins s.events (told x).events) (sym a) (itself s.events)
-told_begins k (Over (Faulted fault line) s) other a = subst (λ x. Begins s.events (told x).events) (sym a) (itself s.events)
-told_begins k (Over Budget s) (Done t) a = a
-told_begins k (Over Budget s) (Over end t) a = a
+told_further : (k : ℕ) (o other : Outcome) → Alike k o other → Further (told o).events (told o).files (told other).events (told other).files
+told_further k (Done s) other a = subst (λ x. Further s.events (all_files s) (told x).events (told x).files) (sym a) (itself s)
+told_further k (Over Stopped s) other a = subst (λ x. Further s.events (all_files s) (told x).events (told x).files) (sym a) (itself s)
+told_further k (Over (Faulted fault line) s) other a = subst (λ x. Further s.events (all_files s) (told x).events (told x).files) (sym a) (itself s)
+told_further k (Over Budget s) (Done t) a = a
+told_further k (Over Budget s) (Over end t) a = a
 
 richer_start : (program : Program) (given : Given) (more : ℕ) → given.budget ≤ more → richer (more - given.budget) (start program given) ≡ start program (with_budget more given)
 richer_start program given more le = let e : given.budget + (more - given.budget) ≡ more = omega arith in ap (λ n. start program (with_budget n given)) e
@@ -52,6 +53,17 @@ pub enough_budget : (program : Program) (given : Given) (more : ℕ) → given.b
 enough_budget program given more le ends =
     told_alike (more - given.budget) (run_from (suc given.budget) program (start program given)) (run_from (suc more) program (start program (with_budget more given))) (both program given more le) ends
 
-pub more_tells_more : (program : Program) (given : Given) (more : ℕ) → given.budget ≤ more → Begins (meaning program given).events (meaning program (with_budget more given)).events
+pub more_tells_more : (program : Program) (given : Given) (more : ℕ) → given.budget ≤ more
+    → Further (meaning program given).events (meaning program given).files (meaning program (with_budget more given)).events (meaning program (with_budget more given)).files
 more_tells_more program given more le =
-    told_begins (more - given.budget) (run_from (suc given.budget) program (start program given)) (run_from (suc more) program (start program (with_budget more given))) (both program given more le)
+    told_further (more - given.budget) (run_from (suc given.budget) program (start program given)) (run_from (suc more) program (start program (with_budget more given))) (both program given more le)
+
+told_onward : (s : State) (o : Outcome) → Onward s (outcome_state o) → Further s.events (all_files s) (told o).events (told o).files
+told_onward s (Done t) a = a
+told_onward s (Over end t) a = a
+
+-- All that a run has told comes after the start, where nothing was told and there are the files that are given.
+pub told_from_start : (program : Program) (given : Given) → Further [] (given.files ∷ []) (meaning program given).events (meaning program given).files
+told_from_start program given =
+    told_onward (start program given) (run_from (suc given.budget) program (start program given))
+    ((range_runs (setting program) (suc given.budget) (paragraphs program) (length (paragraphs program))).grows (start program given))

@@ -15,12 +15,13 @@ use Rattle.source_tree.specs.Branching.{way, branching}
 use Rattle.source_tree.specs.Evaluate.{selected_asked, one_of, selecting}
 use Rattle.source_tree.specs.Until.{done_if, unless_true, until_before, until_after, until_from, vary_begin, vary_on, until}
 use Rattle.source_tree.specs.State.{State, Budget, Outcome, Over, then_do, in_turn, spend, with_value, changing}
-use Rattle.source_tree.proofs.Runs.{IsRun, itself, done_runs, then_runs, spend_runs, value_runs, changing_runs, in_turn_runs, in_phrase_runs}
+use Rattle.source_tree.proofs.Telling.{itself}
+use Rattle.source_tree.proofs.Runs.{IsRun, done_runs, then_runs, spend_runs, value_runs, changing_runs, in_turn_runs, in_phrase_runs}
 use Rattle.source_tree.proofs.Depth.{Agrees, then_agrees, spend_same, in_turn_agrees, in_phrase_agrees}
 
 -- no turn is left
 none_runs : IsRun (Over Budget)
-none_runs = record { falls = λ s. tt; grows = λ s. itself s.events; alike = λ k s. itself s.events }
+none_runs = record { falls = λ s. tt; grows = λ s. itself s; alike = λ k s. itself s }
 
 done_if_runs : (go : State → Outcome) → IsRun go → (truth : Bool) → IsRun (λ s. done_if go s truth)
 done_if_runs go r true = done_runs

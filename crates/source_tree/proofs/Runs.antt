@@ -1,9 +1,7 @@
 -- What holds of each run of a stretch: the budget never rises, output only grows, and with more budget a stretch that
 -- doesn't end for want of it does the same and has so much more left.
-use Rattle.std.proofs.Common.{◌≡◌, ℕ, zero, suc, ◌+◌, ◌≤◌, List, [], ◌∷◌, ◌++◌, refl, sym, ap, ◌∙◌, subst, arith}
-use Rattle.std.specs.Prelude.{Bool, true, false, map, Option, Some, None, Ok, Err}
-use Rattle.std.proofs.lemmas.List.{append-nil, append_assoc}
-use Rattle.station.specs.State.{Event, Shown}
+use Rattle.std.proofs.Common.{◌≡◌, ℕ, zero, suc, ◌+◌, ◌≤◌, List, [], ◌∷◌, refl, sym, ap, subst, arith}
+use Rattle.std.specs.Prelude.{Bool, true, false, Option, Some, None, Ok, Err}
 use Rattle.source_tree.specs.declared.text.Text.{Text}
 use Rattle.source_tree.specs.declared.text.Text.TheVariants as text
 use Rattle.source_tree.specs.declared.ending.Ending.{Ending}
@@ -13,7 +11,7 @@ use Rattle.source_tree.specs.declared.performing.Performed.TheVariants.{Procedur
 use Rattle.source_tree.specs.Storage.{Storage}
 use Rattle.source_tree.specs.Places.{Placed}
 use Rattle.source_tree.specs.Evaluated.{Evaluated}
-use Rattle.source_tree.specs.State.{State, Stopped, Budget, Faulted, Outcome, Done, Over, showing, then_do, in_turn, spend_from, spend, with_value, changing, outcome_events}
+use Rattle.source_tree.specs.State.{State, Stopped, Budget, Faulted, Outcome, Done, Over, showing, then_do, in_turn, spend_from, spend, with_value, changing, outcome_state}
 use Rattle.source_tree.specs.Showing.{displayed}
 use Rattle.source_tree.specs.Procedures.{Range, Procedure, range_of}
 use Rattle.source_tree.specs.Texts.{texts}
@@ -27,13 +25,8 @@ use Rattle.source_tree.specs.declared.arithmetic.Arithmetic.{Arithmetic}
 use Rattle.source_tree.specs.declared.reference.Reference.{Reference}
 use Rattle.source_tree.specs.Performing.{turns, performed_range, body}
 use Rattle.source_tree.specs.Meaning.{finish}
-use Rattle.station.specs.State.{Begins}
-
-pub itself : (es : List Event) → Begins es es
-itself es = record { rest = []; whole_is = sym (append-nil es) }
-
-pub onward : (es fs gs : List Event) → Begins es fs → Begins fs gs → Begins es gs
-onward es fs gs a b = record { rest = a.rest ++ b.rest; whole_is = b.whole_is ∙ ap (λ events. events ++ b.rest) a.whole_is ∙ append_assoc es a.rest b.rest }
+use Rattle.source_tree.specs.Told.{Onward}
+use Rattle.source_tree.proofs.Telling.{itself, onward, shown_more}
 
 -- what goes on has no more than this left
 abbrev pub Within : ℕ → Outcome → Type 0
@@ -49,11 +42,11 @@ abbrev pub Alike : ℕ → Outcome → Outcome → Type 0
 Alike k (Done s) other = other ≡ Done (richer k s)
 Alike k (Over Stopped s) other = other ≡ Over Stopped (richer k s)
 Alike k (Over (Faulted fault line) s) other = other ≡ Over (Faulted fault line) (richer k s)
-Alike k (Over Budget s) other = Begins s.events (outcome_events other)
+Alike k (Over Budget s) other = Onward s (outcome_state other)
 
 pub record IsRun (go : State → Outcome) : Type 0 where
   pub falls : (s : State) → Within s.budget (go s)
-  pub grows : (s : State) → Begins s.events (outcome_events (go s))
+  pub grows : (s : State) → Onward s (outcome_state (go s))
   pub alike : (k : ℕ) (s : State) → Alike k (go s) (go (richer k s))
 
 pub wider : (n m : ℕ) (o : Outcome) → n ≤ m → Within n o → Within m o
@@ -64,20 +57,20 @@ then_within : (n : ℕ) (o : Outcome) (go : State → Outcome) → IsRun go → 
 then_within n (Done s) go r w = wider s.budget n (go s) w (r.falls s)
 then_within n (Over end s) go r w = tt
 
-then_grows : (es : List Event) (o : Outcome) (go : State → Outcome) → IsRun go → Begins es (outcome_events o) → Begins es (outcome_events (then_do o go))
-then_grows es (Done s) go r b = onward es s.events (outcome_events (go s)) b (r.grows s)
-then_grows es (Over end s) go r b = b
+then_grows : (from : State) (o : Outcome) (go : State → Outcome) → IsRun go → Onward from (outcome_state o) → Onward from (outcome_state (then_do o go))
+then_grows from (Done s) go r b = onward from s (outcome_state (go s)) b (r.grows s)
+then_grows from (Over end s) go r b = b
 
 then_alike : (k : ℕ) (o other : Outcome) (go : State → Outcome) → IsRun go → Alike k o other → Alike k (then_do o go) (then_do other go)
 then_alike k (Done s) other go r a = subst (λ x. Alike k (go s) (then_do x go)) (sym a) (r.alike k s)
 then_alike k (Over Stopped s) other go r a = ap (λ x. then_do x go) a
 then_alike k (Over (Faulted fault line) s) other go r a = ap (λ x. then_do x go) a
-then_alike k (Over Budget s) other go r a = then_grows s.events other go r a
+then_alike k (Over Budget s) other go r a = then_grows s other go r a
 
 pub then_runs : (first go : State → Outcome) → IsRun first → IsRun go → IsRun (λ s. then_do (first s) go)
 then_runs first go f r = record {
   falls = λ s. then_within s.budget (first s) go r (f.falls s);
-  grows = λ s. then_grows s.events (first s) go r (f.grows s);
+  grows = λ s. then_grows s (first s) go r (f.grows s);
   alike = λ k s. then_alike k (first s) (first (richer k s)) go r (f.alike k s);
 }
 
@@ -85,8 +78,8 @@ spend_within : (b line : ℕ) (s : State) (go : State → Outcome) → IsRun go 
 spend_within zero line s go r = tt
 spend_within (suc n) line s go r = wider n (suc n) (go (record s { budget = n; line = line })) (omega arith) (r.falls (record s { budget = n; line = line }))
 
-spend_grows : (b line : ℕ) (s : State) (go : State → Outcome) → IsRun go → Begins s.events (outcome_events (spend_from b line s go))
-spend_grows zero line s go r = itself s.events
+spend_grows : (b line : ℕ) (s : State) (go : State → Outcome) → IsRun go → Onward s (outcome_state (spend_from b line s go))
+spend_grows zero line s go r = itself s
 spend_grows (suc n) line s go r = r.grows (record s { budget = n; line = line })
 
 spend_alike : (k b total line : ℕ) (s : State) (go : State → Outcome) → IsRun go → total ≡ b + k
@@ -105,13 +98,13 @@ spend_runs line go r = record {
 }
 
 pub done_runs : IsRun Done
-done_runs = record { falls = λ s. omega arith; grows = λ s. itself s.events; alike = λ k s. refl }
+done_runs = record { falls = λ s. omega arith; grows = λ s. itself s; alike = λ k s. refl }
 
 pub stop_runs : IsRun (Over Stopped)
-stop_runs = record { falls = λ s. tt; grows = λ s. itself s.events; alike = λ k s. refl }
+stop_runs = record { falls = λ s. tt; grows = λ s. itself s; alike = λ k s. refl }
 
 pub show_runs : (bytes : List ℕ) → IsRun (λ s. Done (showing bytes s))
-show_runs bytes = record { falls = λ s. omega arith; grows = λ s. record { rest = map Shown bytes; whole_is = refl }; alike = λ k s. refl }
+show_runs bytes = record { falls = λ s. omega arith; grows = λ s. shown_more bytes s; alike = λ k s. refl }
 
 pub in_turn_runs : {A : Type 0} (run : A → State → Outcome) → ((one : A) → IsRun (run one)) → (all : List A) → IsRun (in_turn run all)
 in_turn_runs run r [] = done_runs
@@ -123,9 +116,9 @@ module _ {A : Type 0} (go : A → State → Outcome) (r : (x : A) → IsRun (go 
   value_within (Ok x) s = (r x).falls s
   value_within (Err fault) s = tt
 
-  value_grows : (e : Evaluated A) (s : State) → Begins s.events (outcome_events (with_value e s (λ x. go x s)))
+  value_grows : (e : Evaluated A) (s : State) → Onward s (outcome_state (with_value e s (λ x. go x s)))
   value_grows (Ok x) s = (r x).grows s
-  value_grows (Err fault) s = itself s.events
+  value_grows (Err fault) s = itself s
 
   value_alike : (e : Evaluated A) (k : ℕ) (s : State) → Alike k (with_value e s (λ x. go x s)) (with_value e (richer k s) (λ x. go x (richer k s)))
   value_alike (Ok x) k s = (r x).alike k s
@@ -139,14 +132,14 @@ module _ {A : Type 0} (go : A → State → Outcome) (r : (x : A) → IsRun (go 
   }
 
 storing_runs : (after : Storage) → IsRun (λ s. Done (record s { storage = after }))
-storing_runs after = record { falls = λ s. omega arith; grows = λ s. itself s.events; alike = λ k s. refl }
+storing_runs after = record { falls = λ s. omega arith; grows = λ s. itself s; alike = λ k s. refl }
 
 pub changing_runs : (change : Storage → Evaluated Storage) → IsRun (changing change)
 changing_runs change = value_runs (λ after s. Done (record s { storage = after })) storing_runs change
 
 -- ACCEPT leaves fewer lines, whatever the budget.
 accepting_runs : (lines : List (List ℕ) → List (List ℕ)) (after : Storage) → IsRun (λ s. Done (record s { storage = after; lines = lines s.lines }))
-accepting_runs lines after = record { falls = λ s. omega arith; grows = λ s. itself s.events; alike = λ k s. refl }
+accepting_runs lines after = record { falls = λ s. omega arith; grows = λ s. itself s; alike = λ k s. refl }
 
 accept_runs : (items : List Placed) (receiver : Reference) → IsRun (texts items (text.Accept receiver))
 accept_runs items receiver =

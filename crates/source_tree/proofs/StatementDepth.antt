@@ -17,6 +17,7 @@ use Rattle.source_tree.specs.Meaning.{step, exec, sentence, paragraph, ranged, r
 use Rattle.source_tree.proofs.Runs.{IsRun, in_turn_runs, body_runs}
 use Rattle.source_tree.proofs.Depth.{Agrees, then_agrees, spend_same, in_turn_agrees, turns_agrees, body_agrees, calculating_agrees, stringing_agrees}
 use Rattle.source_tree.proofs.Repeating.{until_agrees, branching_agrees}
+use Rattle.source_tree.proofs.FilingRuns.{filing_agrees}
 use Rattle.source_tree.proofs.StatementRuns.{exec_runs, paragraph_runs, ranged_runs}
 
 -- turns of which the number is found first
@@ -45,6 +46,7 @@ module _ {S : Type 0} (n d e : ℕ) (below : n < d) (under : n < e) (run other :
       (body_runs run range r rr scope.procedures one.performed) (body_agrees n run other r a range others ranges scope.procedures one.performed)
   step_same line (verb.Text one) = record { by = λ s le. refl }
   step_same line (verb.Stringing one) = stringing_agrees n run other r a scope.items one
+  step_same line (verb.Filing one) = filing_agrees n run other r a scope.items scope.files one
   step_same line (verb.Ending one) = record { by = λ s le. refl }
 
 -- paragraphs, where statements agree

@@ -13,8 +13,10 @@ use Rattle.source_tree.specs.Procedures.{Range, within_range}
 use Rattle.source_tree.specs.Setting.{Scope, Setting}
 use Rattle.source_tree.specs.Performing.{turns, turns_of, turns_in, repeat, body, performing}
 use Rattle.source_tree.specs.Meaning.{moving, step, exec, sentence, paragraph, ranged, range}
-use Rattle.source_tree.proofs.Runs.{IsRun, itself, stop_runs, then_runs, spend_runs, in_turn_runs, value_runs, changing_runs, turns_runs, body_runs, calculating_runs, stringing_runs, texts_runs, finish_runs}
+use Rattle.source_tree.proofs.Telling.{itself}
+use Rattle.source_tree.proofs.Runs.{IsRun, stop_runs, then_runs, spend_runs, in_turn_runs, value_runs, changing_runs, turns_runs, body_runs, calculating_runs, stringing_runs, texts_runs, finish_runs}
 use Rattle.source_tree.proofs.Repeating.{until_runs, branching_runs}
+use Rattle.source_tree.proofs.FilingRuns.{filing_runs}
 
 repeat_runs : (items : List Placed) (depth line : ℕ) (phrase : Turns) (go : State → Outcome) → IsRun go → IsRun (repeat items depth line phrase go)
 repeat_runs items depth line often.Once go r = r
@@ -35,6 +37,7 @@ module _ {S : Type 0} (run : S → State → Outcome) (range : Range → State �
   step_runs depth line (verb.Performing one) = performing_runs depth line one
   step_runs depth line (verb.Text one) = texts_runs scope.items one
   step_runs depth line (verb.Stringing one) = stringing_runs run r scope.items one
+  step_runs depth line (verb.Filing one) = filing_runs run r scope.items scope.files one
   step_runs depth line (verb.Ending one) = finish_runs one
 
 pub paragraph_runs : (run : Statement → State → Outcome) → ((one : Statement) → IsRun (run one)) → (one : Paragraph) → IsRun (paragraph run one)
@@ -45,7 +48,7 @@ ranged_runs run r paragraphs one = in_turn_runs (paragraph run) (paragraph_runs 
 
 module _ (around : Setting) where
   pub exec_runs : (depth : ℕ) (one : Statement) → IsRun (exec around depth one)
-  exec_runs zero one = record { falls = λ s. tt; grows = λ s. itself s.events; alike = λ k s. itself s.events }
+  exec_runs zero one = record { falls = λ s. tt; grows = λ s. itself s; alike = λ k s. itself s }
   exec_runs (suc depth) one =
       let line = (out-Statement one).place.line in
       let verb = (out-Statement one).verb in

@@ -16,7 +16,7 @@ held _ = 0
 
 -- so much of the budget left, this in the item, and these bytes shown, after a turn of the PERFORM at line 9
 abbrev after_turns : ℕ → ℕ → List ℕ → State
-after_turns budget byte shown = record { budget = budget; line = 9; day = []; lines = []; storage = (byte ∷ []) ∷ []; events = map Shown shown }
+after_turns budget byte shown = record { budget = budget; line = 9; day = []; lines = []; storage = (byte ∷ []) ∷ []; files = []; connectors = []; earlier = []; events = map Shown shown }
 
 abbrev is_four : Truth
 is_four storage = Ok (held storage == 4)

@@ -1,5 +1,6 @@
 pub mod Given
 pub mod State
+pub mod Told
 pub mod Display
 pub mod Performing
 pub mod Integers
@@ -10,6 +11,8 @@ pub mod Rooms
 pub mod Places
 pub mod Literals
 pub mod Starts
+pub mod Records
+pub mod ProgramFiles
 pub mod Storage
 pub mod Procedures
 pub mod Setting
@@ -29,6 +32,8 @@ pub mod Inspecting
 pub mod Texts
 pub mod Accepting
 pub mod Stringing
+pub mod FileStatements
+pub mod Filing
 pub mod Broken
 pub mod ClauseRules
 pub mod RedefinitionRules
@@ -44,6 +49,9 @@ pub mod StringRules
 pub mod InspectRules
 pub mod EvaluateRules
 pub mod PerformRules
+pub mod FileRules
+pub mod SoundFiles
+pub mod FilingRules
 pub mod Recursion
 pub mod Rules
 pub mod Meaning

@@ -1,6 +1,6 @@
 -- What a program does, told on its tree. Control runs from the first statement to the end of the last paragraph, which
 -- acts as STOP RUN and uses none of the budget (own choice; COBOL-85, Nucleus, "Procedure division execution").
-use Rattle.std.specs.Prelude.{ℕ, zero, suc, List, [], ◌∷◌, length}
+use Rattle.std.specs.Prelude.{ℕ, zero, suc, map, List, [], ◌∷◌, length}
 use Rattle.station.specs.State.{Event}
 use Rattle.source_tree.specs.declared.ending.Ending.{Ending}
 use Rattle.source_tree.specs.declared.ending.Ending.TheVariants as ending
@@ -16,8 +16,11 @@ use Rattle.source_tree.specs.Given.{Given}
 use Rattle.source_tree.specs.Places.{Placed}
 use Rattle.source_tree.specs.Storage.{Storage}
 use Rattle.source_tree.specs.Evaluated.{Evaluated}
-use Rattle.source_tree.specs.Starts.{areas_at_start}
-use Rattle.source_tree.specs.State.{State, End, Stopped, Budget, Outcome, Done, Over, then_do, in_turn, spend, changing}
+use Rattle.records.specs.Files.{Files}
+use Rattle.records.specs.Connector.{Connector, closed}
+use Rattle.source_tree.specs.declared.select.Select.{Select}
+use Rattle.source_tree.specs.Records.{program_areas}
+use Rattle.source_tree.specs.State.{State, End, Stopped, Budget, Outcome, Done, Over, all_files, then_do, in_turn, spend, changing}
 use Rattle.source_tree.specs.Procedures.{Range, within_range}
 use Rattle.source_tree.specs.Setting.{Scope, Setting, paragraphs, setting}
 use Rattle.source_tree.specs.Moving.{move}
@@ -27,6 +30,7 @@ use Rattle.source_tree.specs.Branching.{branching}
 use Rattle.source_tree.specs.Performing.{performing}
 use Rattle.source_tree.specs.Texts.{texts}
 use Rattle.source_tree.specs.Stringing.{stringing}
+use Rattle.source_tree.specs.Filing.{filing}
 
 -- statements that put values into items
 abbrev pub moving : List Placed → Moving → Storage → Evaluated Storage
@@ -48,6 +52,7 @@ step scope run range depth line (verb.Branching one) s = branching scope.items r
 step scope run range depth line (verb.Performing one) s = performing run range scope depth line one s
 step scope run range depth line (verb.Text one) s = texts scope.items one s
 step scope run range depth line (verb.Stringing one) s = stringing scope.items run one s
+step scope run range depth line (verb.Filing one) s = filing scope.items scope.files run one s
 step scope run range depth line (verb.Ending one) s = finish one s
 
 abbrev pub sentence : (Statement → State → Outcome) → Sentence → State → Outcome
@@ -74,13 +79,20 @@ range run [] more s = Over Stopped s
 range run (one ∷ rest) zero s = paragraph run one s
 range run (one ∷ rest) (suc more) s = then_do (paragraph run one s) (range run rest more)
 
+-- all files are closed at the start
+abbrev pub closed_connectors : List Select → List Connector
+closed_connectors selects = map (λ one. closed) selects
+
 abbrev pub start : Program → Given → State
 start program given = record {
   budget = given.budget;
   line = 0;
   day = given.day;
   lines = given.lines;
-  storage = areas_at_start program.storage;
+  storage = program_areas program;
+  files = given.files;
+  connectors = closed_connectors program.selects;
+  earlier = [];
   events = [];
 }
 
@@ -88,16 +100,18 @@ start program given = record {
 abbrev pub run_from : ℕ → Program → State → Outcome
 run_from depth program s = range (exec (setting program) depth) (paragraphs program) (length (paragraphs program)) s
 
--- What is told of a run: its events, its end, and the console lines that it leaves.
+-- What is told of a run: its events, its end, the console lines that it leaves, and the files at the start and after each file
+-- statement. Files that are open at the end are closed silently, which is no file statement (own choice).
 pub record Run : Type 0 where
   pub events : List Event
   pub end : End
   pub lines : List (List ℕ)
+  pub files : List Files
 
 -- a program that is done has stopped
 abbrev pub told : Outcome → Run
-told (Done s) = record { events = s.events; end = Stopped; lines = s.lines }
-told (Over end s) = record { events = s.events; end = end; lines = s.lines }
+told (Done s) = record { events = s.events; end = Stopped; lines = s.lines; files = all_files s }
+told (Over end s) = record { events = s.events; end = end; lines = s.lines; files = all_files s }
 
 -- the program's run with what it is given
 abbrev pub meaning : Program → Given → Run

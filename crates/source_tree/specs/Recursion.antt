@@ -7,6 +7,9 @@ use Rattle.source_tree.specs.declared.branching.Branching.{Branching}
 use Rattle.source_tree.specs.declared.branching.Branching.TheVariants as branch
 use Rattle.source_tree.specs.declared.evaluate.Selected.{Selected}
 use Rattle.source_tree.specs.declared.evaluate.Evaluate.{Evaluate}
+use Rattle.source_tree.specs.declared.phrases.Phrases.{Phrases}
+use Rattle.source_tree.specs.declared.phrases.FilePhrases.{FilePhrases}
+use Rattle.source_tree.specs.declared.phrases.FilePhrases.TheVariants.{Absent, AtEnd, InvalidKey}
 use Rattle.source_tree.specs.declared.performing.Performed.{Performed}
 use Rattle.source_tree.specs.declared.performing.Performed.TheVariants.{Procedures, Statements}
 use Rattle.source_tree.specs.declared.statement.Verb.{Verb}
@@ -19,6 +22,7 @@ use Rattle.source_tree.specs.declared.program.Paragraph.{Paragraph}
 use Rattle.source_tree.specs.declared.program.Program.{Program}
 use Rattle.source_tree.specs.Procedures.{Range, Procedure, procedures_of, range_of}
 use Rattle.source_tree.specs.Setting.{paragraphs}
+use Rattle.source_tree.specs.Filing.{phrases_of}
 
 -- a range that a PERFORM performs, and where its first procedure is named
 pub record Performance : Type 0 where
@@ -33,6 +37,14 @@ each_performs performs (one ∷ more) = performs one ++ each_performs performs m
 abbrev pub phrase_performs : {S : Type 0} → (S → List Performance) → Option (List S) → List Performance
 phrase_performs inside None = []
 phrase_performs inside (Some statements) = each_performs inside statements
+
+abbrev pub phrases_performs : {S : Type 0} → (S → List Performance) → Phrases S → List Performance
+phrases_performs inside phrases = phrase_performs inside phrases.arose ++ phrase_performs inside phrases.did_not
+
+abbrev pub file_phrases_performs : {S : Type 0} → (S → List Performance) → FilePhrases S → List Performance
+file_phrases_performs inside Absent = []
+file_phrases_performs inside (AtEnd phrases) = phrases_performs inside phrases
+file_phrases_performs inside (InvalidKey phrases) = phrases_performs inside phrases
 
 abbrev pub range_performs : Place → Option Range → List Performance
 range_performs place None = []
@@ -56,11 +68,12 @@ branching_performs inside (branch.Evaluate one) = evaluate_performs inside one
 -- a statement, by its family
 abbrev pub verb_performs : List Procedure → {S : Type 0} → (S → List Performance) → Verb S → List Performance
 verb_performs procedures inside (verb.Moving one) = []
-verb_performs procedures inside (verb.Arithmetic one) = phrase_performs inside one.phrases.arose ++ phrase_performs inside one.phrases.did_not
+verb_performs procedures inside (verb.Arithmetic one) = phrases_performs inside one.phrases
 verb_performs procedures inside (verb.Branching one) = branching_performs inside one
 verb_performs procedures inside (verb.Performing one) = performed_performs procedures inside one.performed
 verb_performs procedures inside (verb.Text one) = []
-verb_performs procedures inside (verb.Stringing one) = phrase_performs inside one.phrases.arose ++ phrase_performs inside one.phrases.did_not
+verb_performs procedures inside (verb.Stringing one) = phrases_performs inside one.phrases
+verb_performs procedures inside (verb.Filing one) = file_phrases_performs inside (phrases_of one)
 verb_performs procedures inside (verb.Ending one) = []
 
 abbrev pub performs_layer : List Procedure → Statement-F (List Performance) → List Performance

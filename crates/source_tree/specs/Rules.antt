@@ -1,5 +1,5 @@
--- The rules of a program: those that it breaks, and where; its entries first, then the names of its procedures, its statements in order,
--- and then whether there is a procedure. Rule 54 looks at the whole program, and comes after these.
+-- The rules of a program: those that it breaks, and where; its entries first, then its files, the names of its procedures, its statements
+-- in order, and then whether there is a procedure. Rule 54 looks at the whole program, and comes after these.
 use Rattle.std.specs.Prelude.{Bool, true, false, not, ◌&&◌, List, [], ◌∷◌, ◌++◌, Option, Some, None}
 use Rattle.lexical.specs.declared.place.Place.{Place}
 use Rattle.source_tree.specs.declared.name.Name.{Name}
@@ -38,6 +38,12 @@ use Rattle.source_tree.specs.ConditionRules.{condition_rules, until_rules}
 use Rattle.source_tree.specs.SettingRules.{initialize_rules, set_rules}
 use Rattle.source_tree.specs.StringRules.{string_rules}
 use Rattle.source_tree.specs.InspectRules.{inspect_rules}
+use Rattle.source_tree.specs.Records.{program_items}
+use Rattle.source_tree.specs.FileRules.{program_file_rules}
+use Rattle.source_tree.specs.FilingRules.{filing_rules}
+use Rattle.source_tree.specs.Filing.{phrases_of}
+use Rattle.source_tree.specs.declared.phrases.FilePhrases.{FilePhrases}
+use Rattle.source_tree.specs.declared.phrases.FilePhrases.TheVariants.{Absent, AtEnd, InvalidKey}
 use Rattle.source_tree.specs.EvaluateRules.{subject_rules, selected_rules}
 use Rattle.source_tree.specs.declared.branching.Branching.{Branching}
 use Rattle.source_tree.specs.declared.branching.Branching.TheVariants as branch
@@ -61,6 +67,11 @@ phrase_rules inside (Some statements) = each inside statements
 
 abbrev pub phrases_rules : {S : Type 0} → (S → List Broken) → Phrases S → List Broken
 phrases_rules inside phrases = phrase_rules inside phrases.arose ++ phrase_rules inside phrases.did_not
+
+abbrev pub file_phrases_rules : {S : Type 0} → (S → List Broken) → FilePhrases S → List Broken
+file_phrases_rules inside Absent = []
+file_phrases_rules inside (AtEnd phrases) = phrases_rules inside phrases
+file_phrases_rules inside (InvalidKey phrases) = phrases_rules inside phrases
 
 abbrev pub arithmetic_rules : List Placed → {S : Type 0} → (S → List Broken) → Arithmetic S → List Broken
 arithmetic_rules items inside one = operation_rules items one.operation ++ phrases_rules inside one.phrases
@@ -104,6 +115,7 @@ verb_rules scope permits inside (verb.Branching one) = branching_rules scope.ite
 verb_rules scope permits inside (verb.Performing one) = performing_rules scope permits inside one
 verb_rules scope permits inside (verb.Text one) = text_rules scope.items one
 verb_rules scope permits inside (verb.Stringing one) = stringing_rules scope.items inside one
+verb_rules scope permits inside (verb.Filing one) = filing_rules scope.items scope.files one ++ file_phrases_rules inside (phrases_of one)
 verb_rules scope permits inside (verb.Ending one) = []
 
 module _ (scope : Scope) (permits : Range → Bool) where
@@ -154,6 +166,7 @@ all_permitted range = true
 abbrev pub program_rules : Program → List Broken
 program_rules program =
     entry_rules program.storage
+    ++ program_file_rules (program_items program) program
     ++ procedure_name_rules program.sections
     ++ sections_rules (scope program) all_permitted program.sections
     ++ procedure_rules program

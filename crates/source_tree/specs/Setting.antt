@@ -2,13 +2,17 @@
 use Rattle.std.specs.Prelude.{List}
 use Rattle.source_tree.specs.declared.program.Paragraph.{Paragraph}
 use Rattle.source_tree.specs.declared.program.Program.{Program}
-use Rattle.source_tree.specs.Places.{Placed, items_of}
+use Rattle.source_tree.specs.Places.{Placed}
+use Rattle.source_tree.specs.Records.{program_items}
+use Rattle.source_tree.specs.ProgramFiles.{ProgramFile, files_of}
 use Rattle.source_tree.specs.Procedures.{Procedure, paragraphs_in, procedures_of}
 
 -- what names name
 pub record Scope : Type 0 where
-  -- the items of working storage where they stand
+  -- the items of working storage and of records where they stand
   pub items : List Placed
+  -- the files, in the order of their SELECTs
+  pub files : List ProgramFile
   -- sections and paragraphs
   pub procedures : List Procedure
 
@@ -21,8 +25,11 @@ pub record Setting : Type 0 where
 abbrev pub paragraphs : Program → List Paragraph
 paragraphs program = paragraphs_in program.sections
 
+abbrev pub scope_with : List Placed → Program → Scope
+scope_with items program = record { items = items; files = files_of items program; procedures = procedures_of program.sections }
+
 abbrev pub scope : Program → Scope
-scope program = record { items = items_of program.storage; procedures = procedures_of program.sections }
+scope program = scope_with (program_items program) program
 
 abbrev pub setting : Program → Setting
 setting program = record { scope = scope program; paragraphs = paragraphs program }

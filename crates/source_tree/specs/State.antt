@@ -1,6 +1,8 @@
 -- What a run has at a moment, and how a stretch of it ends.
 use Rattle.std.specs.Prelude.{ℕ, zero, suc, List, [], ◌∷◌, ◌++◌, map, Ok, Err}
 use Rattle.station.specs.State.{Event, Shown}
+use Rattle.records.specs.Files.{Files}
+use Rattle.records.specs.Connector.{Connector}
 use Rattle.source_tree.specs.Storage.{Storage}
 use Rattle.source_tree.specs.Evaluated.{Fault, Evaluated}
 
@@ -13,10 +15,19 @@ pub record State : Type 0 where
   pub day : List ℕ
   -- the console lines that are still to be read
   pub lines : List (List ℕ)
-  -- the bytes of working storage
+  -- the bytes of working storage and of record areas
   pub storage : Storage
+  -- the files of the volume, and the connectors to those of the program, in the order of their SELECTs
+  pub files : Files
+  pub connectors : List Connector
+  -- the files before each file statement so far, the first of them first
+  pub earlier : List Files
   -- what was told so far, the first of it first
   pub events : List Event
+
+-- the files at the start and after each file statement so far
+abbrev pub all_files : State → List Files
+all_files s = s.earlier ++ s.files ∷ []
 
 -- How a run ends: by STOP RUN or after the last paragraph, with no budget left for the next statement, or because the statement
 -- at a line did something wrong.
@@ -60,6 +71,11 @@ spend_from (suc left) line s go = go (record s { budget = left; line = line })
 -- One of the budget is used by what stands at this line. With none left the run is over before that has any effect.
 abbrev pub spend : ℕ → State → (State → Outcome) → Outcome
 spend line s go = spend_from s.budget line s go
+
+-- what a stretch leaves
+abbrev pub outcome_state : Outcome → State
+outcome_state (Done s) = s
+outcome_state (Over end s) = s
 
 -- what was told up to there
 abbrev pub outcome_events : Outcome → List Event

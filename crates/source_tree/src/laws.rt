@@ -1,17 +1,26 @@
 //! What holds of every program's meaning.
 
-ghost use Rattle.std.specs.Prelude.{◌≡◌, ◌≢◌, ◌≤◌, ◌<◌, ℕ, List, length};
+ghost use Rattle.std.specs.Prelude.{◌≡◌, ◌≢◌, ◌≤◌, ◌<◌, ℕ, Bool, List, [], ◌∷◌, length, Option};
 ghost use Rattle.std.specs.List.{AllByRecursion};
+ghost use Rattle.records.specs.FileStep.{Suits};
+ghost use Rattle.source_tree.specs.declared.filing.StartKey.{StartKey};
 ghost use Rattle.source_tree.specs.declared.literal.Integer.{Integer};
 ghost use Rattle.source_tree.specs.declared.program.Program.{Program};
+ghost use Rattle.source_tree.specs.declared.reference.Reference.{Reference};
 ghost use Rattle.source_tree.specs.declared.statement.Statement.{Statement};
+ghost use Rattle.source_tree.specs.Filing.{read_verb, start_verb};
 ghost use Rattle.source_tree.specs.Given.{Given, with_budget};
 ghost use Rattle.source_tree.specs.Integers.{number_of};
+ghost use Rattle.source_tree.specs.Places.{Placed};
+ghost use Rattle.source_tree.specs.ProgramFiles.{ProgramFile, files_of};
+ghost use Rattle.source_tree.specs.Records.{program_areas, storage_areas};
+ghost use Rattle.source_tree.specs.FileRules.{program_file_rules};
+ghost use Rattle.source_tree.specs.SoundFiles.{HasRecordArea, IsSound};
 ghost use Rattle.source_tree.specs.Setting.{Setting};
-ghost use Rattle.source_tree.specs.State.{State, Budget, in_turn, outcome_events};
+ghost use Rattle.source_tree.specs.State.{State, Budget, in_turn, outcome_state};
 ghost use Rattle.source_tree.specs.Performing.{turns, most_turns, IsDigit, turns_of};
 ghost use Rattle.source_tree.specs.Meaning.{exec, run_from, start, told, meaning};
-ghost use Rattle.station.specs.State.{Begins};
+ghost use Rattle.source_tree.specs.Told.{Further, Onward};
 
 /// Two depths above the budget are the same, of a statement and of a program.
 pub fn depth_law()
@@ -24,10 +33,31 @@ pub fn budget_law()
     ensures enough { (program : Program) (given : Given) (more : ℕ) → given.budget ≤ more → (meaning program given).end ≢ Budget → meaning program (with_budget more given) ≡ meaning program given }
 {}
 
-/// What was told is never taken back, and more budget only tells more.
+/// What was told, events and files, is never taken back, and more budget only tells more; there is one note a file statement.
 pub fn output_law()
-    ensures statement { (around : Setting) (one : Statement) (s : State) (depth : ℕ) → Begins s.events (outcome_events (exec around depth one s)) }
-    ensures program { (program : Program) (given : Given) (more : ℕ) → given.budget ≤ more → Begins (meaning program given).events (meaning program (with_budget more given)).events }
+    ensures statement { (around : Setting) (one : Statement) (s : State) (depth : ℕ) → Onward s (outcome_state (exec around depth one s)) }
+    ensures program { (program : Program) (given : Given) (more : ℕ) → given.budget ≤ more →
+        Further (meaning program given).events (meaning program given).files (meaning program (with_budget more given)).events (meaning program (with_budget more given)).files }
+    ensures whole { (program : Program) (given : Given) → Further [] (given.files ∷ []) (meaning program given).events (meaning program given).files }
+{}
+
+/// The verbs of READ and START suit their file: they name a key of it, and no more bytes than the key has.
+pub fn file_verb_law()
+    ensures read { (items : List Placed) (file : ProgramFile) (next : Bool) (key : Option Reference) → Suits file.entry (read_verb items file next key) }
+    ensures start { (items : List Placed) (file : ProgramFile) (key : Option StartKey) → Suits file.entry (start_verb items file key) }
+{}
+
+/// Where the rules of files are kept, each file of a program is one: its name and keys are those of a file, and its RELATIVE KEY
+/// and FILE STATUS can be stored.
+pub fn sound_files_law()
+    ensures files { (items : List Placed) (program : Program) → program_file_rules items program ≡ [] → AllByRecursion (IsSound (storage_areas program.storage)) (files_of items program) }
+{}
+
+/// Where the rules of files are kept, each file has a record area at the start, behind those of working storage, as long as its
+/// longest record.
+pub fn record_areas_law()
+    ensures files { (items : List Placed) (program : Program) → program_file_rules items program ≡ [] →
+        AllByRecursion (HasRecordArea (storage_areas program.storage) (program_areas program)) (files_of items program) }
 {}
 
 /// Of an integer of 18 digits no turn is cut. A run with less budget than a loop has turns can't tell whether some were cut: it

@@ -8,6 +8,7 @@ mod ending;
 mod entry;
 mod evaluate;
 mod expression;
+mod filing;
 mod inspecting;
 mod laws;
 mod literal;
@@ -17,6 +18,7 @@ mod performing;
 mod phrases;
 mod program;
 mod reference;
+mod select;
 mod statement;
 mod stringing;
 mod table;
@@ -33,18 +35,23 @@ pub use entry::{
 };
 pub use evaluate::{Choice, Evaluate, Object, Selected, Subject, When};
 pub use expression::{Expression, Operand, Operator};
+pub use filing::{Filing, Opening, StartKey};
 pub use inspecting::{
     Inspecting, Limits, Occurrences, ReplacedText, Replacing, Tallied, TalliedText, Tallying,
 };
-pub use laws::{budget_law, depth_law, output_law, turns_law};
+pub use laws::{
+    budget_law, depth_law, file_verb_law, output_law, record_areas_law, sound_files_law, turns_law,
+};
 pub use lexical::{NumericLiteral, Place, Sign};
 pub use literal::{Figurative, Integer, Literal, LiteralValue};
 pub use moving::Moving;
 pub use name::Name;
 pub use performing::{Performed, Performing, Turns};
-pub use phrases::Phrases;
+pub use phrases::{FilePhrases, Phrases};
 pub use program::{Paragraph, Program, Section, Sentence};
+pub use records::{Access, OpenMode};
 pub use reference::{Adjustment, QualifiedName, Reference, Subscript};
+pub use select::{AlternateKeyClause, AssignedName, FileDescription, OrganizationClause, Select};
 pub use statement::{Statement, Verb};
 pub use stringing::{Sending, Stringing};
 pub use table::Dimension;

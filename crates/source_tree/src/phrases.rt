@@ -9,3 +9,12 @@ pub struct Phrases<S> {
     pub arose: Option<Items<S>>,
     pub did_not: Option<Items<S>>,
 }
+
+/// The phrases of a file statement: AT END and NOT AT END, or INVALID KEY and NOT INVALID KEY. Of a pair one phrase stands, or
+/// both do; where neither is written, phrases are `Absent`.
+#[derive(Debug, Drop)]
+pub enum FilePhrases<S> {
+    Absent,
+    AtEnd(Phrases<S>),
+    InvalidKey(Phrases<S>),
+}

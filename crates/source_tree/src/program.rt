@@ -2,6 +2,7 @@
 
 use crate::entry::Entry;
 use crate::name::Name;
+use crate::select::{FileDescription, Select};
 use crate::statement::Statement;
 use sqlite_items::Items;
 
@@ -27,10 +28,13 @@ pub struct Section {
     pub paragraphs: Items<Paragraph>,
 }
 
-/// A program by its name in PROGRAM-ID, with the entries of its working storage and the sections of its procedure division.
+/// A program by its name in PROGRAM-ID, with its files as SELECTs and FDs say them, the entries of its working storage and the
+/// sections of its procedure division.
 #[derive(Debug, Drop)]
 pub struct Program {
     pub name: Name,
+    pub selects: Items<Select>,
+    pub files: Items<FileDescription>,
     pub storage: Items<Entry>,
     pub sections: Items<Section>,
 }

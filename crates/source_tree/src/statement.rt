@@ -3,6 +3,7 @@
 use crate::arithmetic::Arithmetic;
 use crate::branching::Branching;
 use crate::ending::Ending;
+use crate::filing::Filing;
 use crate::moving::Moving;
 use crate::performing::Performing;
 use crate::stringing::Stringing;
@@ -18,6 +19,7 @@ pub enum Verb<S> {
     Performing(Performing<S>),
     Text(Text),
     Stringing(Stringing<S>),
+    Filing(Filing<S>),
     Ending(Ending),
 }
 

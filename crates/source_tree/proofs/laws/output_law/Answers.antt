@@ -1,4 +1,4 @@
-use Rattle.source_tree.proofs.Programs.{more_tells_more}
+use Rattle.source_tree.proofs.Programs.{more_tells_more, told_from_start}
 use Rattle.source_tree.proofs.StatementRuns.{exec_runs}
 use Rattle.source_tree.proofs.laws.output_law.Goals as goal
 
@@ -7,3 +7,6 @@ returns-clause-statement c = λ around one s depth. (exec_runs around depth one)
 
 pub returns-clause-program : goal.returns-clause-program
 returns-clause-program c = more_tells_more
+
+pub returns-clause-whole : goal.returns-clause-whole
+returns-clause-whole c = told_from_start

@@ -1,0 +1,60 @@
+//! File statements (COBOL-85, Sequential, Relative and Indexed I-O).
+
+use crate::condition::Relation;
+use crate::name::Name;
+use crate::phrases::FilePhrases;
+use crate::reference::Reference;
+use records::OpenMode;
+use sqlite_items::Items;
+
+/// A file of OPEN.
+#[derive(Debug, Drop)]
+pub struct Opening {
+    pub mode: OpenMode,
+    pub file: Name,
+}
+
+/// The KEY phrase of START.
+#[derive(Debug, Drop)]
+pub struct StartKey {
+    pub relation: Relation,
+    pub key: Reference,
+}
+
+#[derive(Debug, Drop)]
+pub enum Filing<S> {
+    Open {
+        /// One or more.
+        files: Items<Opening>,
+    },
+    Close {
+        /// One or more.
+        files: Items<Name>,
+    },
+    Read {
+        file: Name,
+        next: bool,
+        into: Option<Reference>,
+        key: Option<Reference>,
+        phrases: FilePhrases<S>,
+    },
+    Write {
+        record: Reference,
+        from: Option<Reference>,
+        phrases: FilePhrases<S>,
+    },
+    Rewrite {
+        record: Reference,
+        from: Option<Reference>,
+        phrases: FilePhrases<S>,
+    },
+    Delete {
+        file: Name,
+        phrases: FilePhrases<S>,
+    },
+    Start {
+        file: Name,
+        key: Option<StartKey>,
+        phrases: FilePhrases<S>,
+    },
+}
