@@ -1,5 +1,6 @@
 -- What is read is spelled, and what is spelled is read.
 pub mod Tests
+pub mod Relations
 pub mod Sides
 pub mod Levels
 pub mod Plain

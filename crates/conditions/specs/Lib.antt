@@ -1,4 +1,5 @@
 pub mod Tests
+pub mod Relations
 pub mod Conditions
 pub mod Evaluate
 pub mod Nests

@@ -74,7 +74,7 @@ fn test_in(token: &Token) -> Option<Test>
 }
 
 /// What is asked here, behind IS and NOT.
-fn next_test(tokens: &[Token]) -> Option<Test>
+pub fn next_test(tokens: &[Token]) -> Option<Test>
     ensures { result ≡ spec.next_test tokens.now }
 {
     match past_word(past_word(tokens, Reserved::Is), Reserved::Not) {

@@ -25,9 +25,13 @@ use Rattle.expressions.specs.Subscripts as subscripts
 use Rattle.expressions.specs.Literals as literals
 use Rattle.data_division.specs.declared.clause.Clause.TheVariants as clause_as
 use Rattle.data_division.specs.ClauseReading as c
+use Rattle.data_division.specs.Gathering as gathering
+use Rattle.data_division.specs.Gathering.{gathered}
 use Rattle.data_division.specs.Stated as stated
-use Rattle.data_division.specs.Stated.{none, gathered}
+use Rattle.data_division.specs.Stated.{none, entry_clauses}
 use Rattle.data_division.specs.EntryReading as r
+use Rattle.data_division.specs.FileClauses as file_clauses
+use Rattle.data_division.specs.Files as files
 use Rattle.data_division.specs.Division as division
 
 -- a token at a column of line 1; where its characters stand in their list is of no account here
@@ -88,7 +92,7 @@ nine = record { characters = 57 ∷ []; place = in_column 30 }
 
 -- every step of reading, so that entries are computed
 unfoldable computing : Unit {0}
-unfolding same_word read.after_word read.past_word read.expect read.skip read.stands read.period read.heading read.here read.one_token read.name read.several_from read.several read.any subscripts.integer_reader literals.literal_reader literals.all_literal_reader c.either_reader c.skip_either c.skip_led c.after_separate c.redefines_reader c.picture_reader c.usage_reader c.sign_reader c.occurs_reader c.synchronized_reader c.justified_reader c.blank_when_zero_reader c.value_reader c.clause_reader stated.stated_turns stated.stated_reader r.given_reader r.filler_reader r.named_reader r.item_reader r.last_reader r.last_value_reader r.range_reader r.condition_reader r.by_level r.entry_reader division.entries_reader division.section_reader division.working_storage_reader division.division_reader division.data_division_reader
+unfolding same_word read.after_word read.past_word read.expect read.skip read.stands read.period read.heading read.here read.one_token read.name read.several_from read.several read.any subscripts.integer_reader literals.literal_reader literals.all_literal_reader c.either_reader c.skip_either c.skip_led c.after_separate c.redefines_reader c.picture_reader c.usage_reader c.sign_reader c.occurs_reader c.synchronized_reader c.justified_reader c.blank_when_zero_reader c.value_reader c.clause_reader gathering.gathering_turns gathering.gathering_reader stated.stated_reader r.given_reader r.filler_reader r.named_reader r.item_reader r.last_reader r.last_value_reader r.range_reader r.condition_reader r.by_level r.entry_reader file_clauses.label_records_reader file_clauses.to_size_reader file_clauses.block_contains_reader file_clauses.record_contains_reader file_clauses.data_records_reader file_clauses.file_clause_reader files.file_reader files.described_reader files.file_section_reader division.stored_reader division.working_storage_reader division.sections_reader division.data_division_reader
 computing = tt
 
 -- 01 A.
@@ -139,22 +143,43 @@ condition_with_a_picture = refl
 in_its_section :
     division.data_division_reader (word 8 w.Data ∷ word 13 w.Division ∷ period 21 ∷ word 8 w.WorkingStorage ∷ word 24 w.Section ∷ period 31
     ∷ named zero_one (65 ∷ []) (period 13 ∷ word 8 w.Procedure ∷ []))
-    ≡ Ok (entry_as.Item bare ∷ [], word 8 w.Procedure ∷ [])
+    ≡ Ok (record { files = []; storage = entry_as.Item bare ∷ [] }, word 8 w.Procedure ∷ [])
 unfolding computing
 in_its_section = refl
 
-left_out : division.data_division_reader (word 8 w.Procedure ∷ []) ≡ Ok ([], word 8 w.Procedure ∷ [])
+-- FD F RECORD CONTAINS 80 LABEL RECORDS STANDARD. 01 A.
+abbrev fd_tokens : List Token → List Token
+fd_tokens more =
+    word 8 w.Fd ∷ at 12 (k.Word (70 ∷ [])) ∷ word 14 w.Record ∷ word 21 w.Contains ∷ number 30 (56 ∷ 48 ∷ [])
+    ∷ word 33 w.Label ∷ word 39 w.Records ∷ word 47 w.Standard ∷ period 55 ∷ named zero_one (65 ∷ []) (period 13 ∷ more)
+
+-- DATA DIVISION. FILE SECTION. and it
+a_file :
+    division.data_division_reader (word 8 w.Data ∷ word 13 w.Division ∷ period 21 ∷ word 8 w.File ∷ word 13 w.Section ∷ period 20 ∷ fd_tokens (word 8 w.Procedure ∷ []))
+    ≡ Ok (record { files = record { name = name_at 12 (70 ∷ []); entries = entry_as.Item bare ∷ [] } ∷ []; storage = [] }, word 8 w.Procedure ∷ [])
+unfolding computing
+a_file = refl
+
+-- FD F DATA RECORD A DATA RECORD B. 01 A.: refused at the second DATA
+data_records_twice :
+    files.file_reader (word 8 w.Fd ∷ at 12 (k.Word (70 ∷ [])) ∷ word 14 w.Data ∷ word 19 w.Record ∷ at 26 (k.Word (65 ∷ [])) ∷ word 28 w.Data ∷ word 33 w.Record
+    ∷ at 40 (k.Word (66 ∷ [])) ∷ period 41 ∷ named zero_one (65 ∷ []) (period 13 ∷ []))
+    ≡ Err (Unexpected 7)
+unfolding computing
+data_records_twice = refl
+
+left_out : division.data_division_reader (word 8 w.Procedure ∷ []) ≡ Ok (record { files = []; storage = [] }, word 8 w.Procedure ∷ [])
 unfolding computing
 left_out = refl
 
 -- ---- clauses together
 
 -- in either order
-either_order : gathered none (clause_as.Usage usage.Binary ∷ clause_as.Justified ∷ []) ≡ gathered none (clause_as.Justified ∷ clause_as.Usage usage.Binary ∷ [])
+either_order : gathered entry_clauses none (clause_as.Usage usage.Binary ∷ clause_as.Justified ∷ []) ≡ gathered entry_clauses none (clause_as.Justified ∷ clause_as.Usage usage.Binary ∷ [])
 either_order = refl
 
-usage_twice : gathered none (clause_as.Usage usage.Binary ∷ clause_as.Justified ∷ clause_as.Usage usage.Display ∷ []) ≡ None
+usage_twice : gathered entry_clauses none (clause_as.Usage usage.Binary ∷ clause_as.Justified ∷ clause_as.Usage usage.Display ∷ []) ≡ None
 usage_twice = refl
 
-synchronized_twice : gathered none (clause_as.Synchronized ∷ clause_as.Synchronized ∷ []) ≡ None
+synchronized_twice : gathered entry_clauses none (clause_as.Synchronized ∷ clause_as.Synchronized ∷ []) ≡ None
 synchronized_twice = refl

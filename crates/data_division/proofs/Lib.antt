@@ -1,2 +1,3 @@
 pub mod Exact
+pub mod Formless
 pub mod Examples

@@ -1,47 +1,49 @@
--- The data division: which tokens spell which entries of working storage, and how they are read (COBOL-85, Nucleus, "Data
--- division").
+-- The data division: which tokens spell which files and entries, and how they are read (COBOL-85, Nucleus, "Data division").
 use Rattle.std.specs.Prelude.{◌≡◌, if◌then◌else◌, List, [], ◌∷◌, Ok}
-use Rattle.tokens.specs.declared.reserved.Reserved.{Reserved}
 use Rattle.tokens.specs.declared.reserved.Reserved.TheVariants as w
 use Rattle.source_tree.specs.declared.entry.Entry.{Entry}
 use Rattle.grammar.specs.Parts.{Part, ◌then◌, ◌or◌, without, any, tested, word, heading}
 use Rattle.grammar.specs.Reading as r
-use Rattle.grammar.specs.Reading.{Parser, ◌>>=◌, ◌>>◌, begins_word}
+use Rattle.grammar.specs.Reading.{Parser, ◌>>=◌, ◌>>◌, pure, begins_word}
 use Rattle.expressions.specs.Subscripts.{begins_integer}
+use Rattle.data_division.specs.declared.division.DataDivision.{DataDivision}
+use Rattle.data_division.specs.Listed.{listed_from, list_from}
 use Rattle.data_division.specs.Entries.{entry}
 use Rattle.data_division.specs.EntryReading.{entry_reader}
+use Rattle.data_division.specs.Files.{file_section, file_section_reader}
 
--- No entries, where the word doesn't stand.
-abbrev pub no_entries : Reserved → List Entry → Part
-no_entries one all = λ from rest. (all ≡ []) × without (word one) from rest
-
--- entry...
-abbrev pub entries : List Entry → Part
-entries = any entry (tested begins_integer)
+-- WORKING-STORAGE SECTION . [entry...]
+abbrev pub stored : List Entry → Part
+stored all = heading (w.WorkingStorage ∷ w.Section ∷ []) then any entry (tested begins_integer) all
 
 -- [WORKING-STORAGE SECTION . [entry...]]: it is left out only where WORKING-STORAGE does not stand.
 abbrev pub working_storage : List Entry → Part
-working_storage all = (heading (w.WorkingStorage ∷ w.Section ∷ []) then entries all) or no_entries w.WorkingStorage all
+working_storage = listed_from w.WorkingStorage stored
+
+-- DATA DIVISION . with its sections
+abbrev pub sections : DataDivision → Part
+sections one = heading (w.Data ∷ w.Division ∷ []) then file_section one.files then working_storage one.storage
 
 -- [DATA DIVISION . ..]: it is left out only where DATA does not stand.
-abbrev pub data_division : List Entry → Part
-data_division all = (heading (w.Data ∷ w.Division ∷ []) then working_storage all) or no_entries w.Data all
+abbrev pub data_division : DataDivision → Part
+data_division one = sections one or (λ from rest. (one.files ≡ []) × (one.storage ≡ []) × without (word w.Data) from rest)
 
-unfoldable pub entries_reader : Parser (List Entry)
-entries_reader = r.any entry_reader begins_integer
+-- ---- reading
 
-unfoldable pub section_reader : Parser (List Entry)
-section_reader = do
+unfoldable pub stored_reader : Parser (List Entry)
+stored_reader = do
   r.heading (w.WorkingStorage ∷ w.Section ∷ [])
-  entries_reader
+  r.any entry_reader begins_integer
 
 unfoldable pub working_storage_reader : Parser (List Entry)
-working_storage_reader i = if begins_word w.WorkingStorage i then section_reader i else Ok ([], i)
+working_storage_reader = list_from w.WorkingStorage stored_reader
 
-unfoldable pub division_reader : Parser (List Entry)
-division_reader = do
+unfoldable pub sections_reader : Parser DataDivision
+sections_reader = do
   r.heading (w.Data ∷ w.Division ∷ [])
-  working_storage_reader
+  files ← file_section_reader
+  storage ← working_storage_reader
+  pure (record { files = files; storage = storage })
 
-unfoldable pub data_division_reader : Parser (List Entry)
-data_division_reader i = if begins_word w.Data i then division_reader i else Ok ([], i)
+unfoldable pub data_division_reader : Parser DataDivision
+data_division_reader i = if begins_word w.Data i then sections_reader i else Ok (record { files = []; storage = [] }, i)

@@ -1,9 +1,13 @@
 pub mod Words
 pub mod Clauses
 pub mod ClauseReading
+pub mod Gathering
 pub mod Stated
 pub mod Entries
 pub mod EntryReading
+pub mod Listed
+pub mod FileClauses
+pub mod Files
 pub mod Division
 pub mod Forms
 pub use Rattle.grammar.specs.Reading as GrammarReading

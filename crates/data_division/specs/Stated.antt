@@ -1,13 +1,14 @@
 -- The clauses of an entry in any order, each at most once (COBOL-85, Nucleus, "Data description entry").
-use Rattle.std.specs.Prelude.{◌≡◌, ℕ, zero, suc, Bool, false, true, if◌then◌else◌, List, [], ◌∷◌, length, Option, None, Some, is_some, Ok}
-use Rattle.grammar.specs.Parts.{Part, ◌then◌, any, tested}
-use Rattle.grammar.specs.Reading.{Parser, ◌>>=◌, refuse}
+use Rattle.std.specs.Prelude.{Bool, false, true, None, Some, is_some}
+use Rattle.grammar.specs.Parts.{Part}
+use Rattle.grammar.specs.Reading.{Parser}
 use Rattle.data_division.specs.declared.clause.ClauseKind.{ClauseKind}
 use Rattle.data_division.specs.declared.clause.ClauseKind.TheVariants as kind
 use Rattle.data_division.specs.declared.clause.Clause.{Clause}
 use Rattle.data_division.specs.declared.clause.Clause.TheVariants as clause_as
 use Rattle.data_division.specs.declared.stated.Stated.{Stated}
-use Rattle.data_division.specs.Words.{clause_at, begins_clause}
+use Rattle.data_division.specs.Words.{clause_at}
+use Rattle.data_division.specs.Gathering.{Clauses, gathering, gathering_reader}
 use Rattle.data_division.specs.Clauses.{clause}
 use Rattle.data_division.specs.ClauseReading.{clause_reader}
 
@@ -58,29 +59,13 @@ with_clause all clause_as.Justified = record all { justified = true }
 with_clause all clause_as.BlankWhenZero = record all { blank_when_zero = true }
 with_clause all (clause_as.Value one) = record all { value = Some one }
 
--- All the clauses together, or nothing where one comes twice.
-abbrev pub gathered : Stated → List Clause → Option Stated
-gathered all [] = Some all
-gathered all (one ∷ more) = if has all (kind_of one) then None else gathered (with_clause all one) more
+-- the clauses of an entry
+abbrev pub entry_clauses : Clauses Clause ClauseKind Stated
+entry_clauses = record { clause = clause; kind_of = kind_of; at = clause_at; reader = clause_reader; has = has; with_clause = with_clause }
 
 -- Clauses in any order, up to where no more can begin, each at most once.
-abbrev pub stated_from : Stated → Stated → Part
-stated_from before all = λ from rest. (clauses : List Clause) × any clause (tested begins_clause) clauses from rest × (gathered before clauses ≡ Some all)
-
 abbrev pub stated : Stated → Part
-stated = stated_from none
-
--- ---- reading
-
--- a clause that stands already is refused where it comes again
-abbrev pub further : (Stated → Parser Stated) → Stated → Option ClauseKind → Parser Stated
-further again all None i = Ok (all, i)
-further again all (Some one) i = if has all one then refuse i else (clause_reader one >>= (λ found. again (with_clause all found))) i
-
--- The number bounds the turns, and each turn takes a token, so the count of tokens is enough.
-unfoldable pub stated_turns : ℕ → Stated → Parser Stated
-stated_turns zero all i = if begins_clause i then refuse i else Ok (all, i)
-stated_turns (suc turns) all i = further (stated_turns turns) all (clause_at i) i
+stated = gathering entry_clauses none
 
 unfoldable pub stated_reader : Parser Stated
-stated_reader i = stated_turns (length i) none i
+stated_reader = gathering_reader entry_clauses none

@@ -1,66 +1,27 @@
-//! The data division and the entries of its working-storage section (COBOL-85, Nucleus, "Data division").
+//! The data division: its files, and the entries of its working-storage section (COBOL-85, Nucleus, "Data division").
 
 ghost use Rattle.std.specs.Prelude.{◌≡◌};
 ghost use Rattle.grammar.specs.Reading.{Reads};
-ghost use Rattle.data_division.specs.Entries as rule;
-ghost use Rattle.data_division.specs.EntryReading as entries;
 ghost use Rattle.data_division.specs.Division as spec;
 
-use crate::condition_entries::condition_entry;
-use crate::item_entries::item_entry;
-use entries::number;
-use expressions::{begins_integer, integer};
-use grammar::{Part, ReadFault, Tokens, any};
-use source_tree::{Entry, Integer};
+use crate::entry_lists::Entries;
+use crate::files::file_section;
+use grammar::{ReadFault, Tokens, any, beside};
+use source_tree::{Entry, FileDescription};
 use sqlite_items::Items;
 use std::alloc::Global;
 use tokens::Reserved;
 
-/// The level of condition names.
-const CONDITION: u32 = 88;
-
-fn is_condition(level: &Integer) -> bool
-    ensures { result ≡ rule.is_condition level.now }
-{
-    number(level) == CONDITION
+/// What a data division describes.
+#[derive(Debug, Drop)]
+pub struct DataDivision {
+    pub files: Items<FileDescription>,
+    /// The entries of working storage.
+    pub storage: Items<Entry>,
 }
 
-/// An entry, whose form its level decides.
-#[tactic(auto, unfolding(crate::specs::EntryReading::entry_reader, crate::specs::EntryReading::by_level))]
-fn entry(alloc: Global, tokens: &mut Tokens<'_>) -> Result<Entry, ReadFault>
-    ensures { Reads (entries.entry_reader tokens.old) result tokens.new }
-{
-    let level = integer(alloc, tokens)?;
-    if is_condition(&level) {
-        condition_entry(alloc, tokens)
-    } else {
-        item_entry(level, alloc, tokens)
-    }
-}
-
-/// Entries in a list.
-struct Entries;
-
-impl Part<Entry> for Entries {
-    ghost use Rattle.expressions.specs.Subscripts.{begins_integer};
-    ghost use Rattle.data_division.specs.EntryReading as entries;
-
-    ghost ready = { λ _. Unit {0} };
-
-    ghost reading = { λ _. entries.entry_reader };
-
-    ghost beginning = { λ _. begins_integer };
-
-    fn read(&self, alloc: Global, tokens: &mut Tokens<'_>) -> Result<Entry, ReadFault> {
-        entry(alloc, tokens)
-    }
-
-    fn begins(&self, tokens: &Tokens<'_>) -> bool {
-        begins_integer(tokens)
-    }
-}
-
-#[tactic(auto, unfolding(crate::specs::Division::working_storage_reader, crate::specs::Division::section_reader, crate::specs::Division::entries_reader))]
+/// The entries of the working-storage section; none where WORKING-STORAGE doesn't come next.
+#[tactic(auto, unfolding(crate::specs::Division::working_storage_reader, crate::specs::Division::stored_reader))]
 fn working_storage(alloc: Global, tokens: &mut Tokens<'_>) -> Result<Items<Entry>, ReadFault>
     ensures { Reads (spec.working_storage_reader tokens.old) result tokens.new }
 {
@@ -71,14 +32,26 @@ fn working_storage(alloc: Global, tokens: &mut Tokens<'_>) -> Result<Items<Entry
     any(&Entries, alloc, tokens)
 }
 
-/// The entries of the working-storage section; none where DATA doesn't come next.
-#[tactic(auto, unfolding(crate::specs::Division::data_division_reader, crate::specs::Division::division_reader))]
-pub fn data_division(alloc: Global, tokens: &mut Tokens<'_>) -> Result<Items<Entry>, ReadFault>
+#[tactic(auto, unfolding(crate::specs::Division::sections_reader))]
+fn sections(alloc: Global, tokens: &mut Tokens<'_>) -> Result<DataDivision, ReadFault>
+    ensures { Reads (spec.sections_reader tokens.old) result tokens.new }
+{
+    tokens.heading(&[Reserved::Data, Reserved::Division])?;
+    let files = file_section(alloc, tokens)?;
+    let (files, storage) = beside(files, working_storage(alloc, tokens))?;
+    Ok(DataDivision { files, storage })
+}
+
+/// The files and the entries of working storage; none where DATA doesn't come next.
+#[tactic(auto, unfolding(crate::specs::Division::data_division_reader))]
+pub fn data_division(alloc: Global, tokens: &mut Tokens<'_>) -> Result<DataDivision, ReadFault>
     ensures { Reads (spec.data_division_reader tokens.old) result tokens.new }
 {
-    if !tokens.at_word(Reserved::Data) {
-        return Ok(Items::new(alloc));
+    if tokens.at_word(Reserved::Data) {
+        return sections(alloc, tokens);
     }
-    tokens.heading(&[Reserved::Data, Reserved::Division])?;
-    working_storage(alloc, tokens)
+    Ok(DataDivision {
+        files: Items::new(alloc),
+        storage: Items::new(alloc),
+    })
 }

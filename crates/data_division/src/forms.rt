@@ -1,11 +1,11 @@
 //! Pictures that have no form.
 
-ghost use Rattle.std.specs.Prelude.{◌≡◌, IfOk};
+ghost use Rattle.std.specs.Prelude.{◌≡◌, ◌++◌, IfOk};
 ghost use Rattle.data_division.specs.Forms as spec;
 
 use entries::picture_of;
 use lexical::Place;
-use source_tree::Entry;
+use source_tree::{Entry, FileDescription};
 use std::alloc::{AllocError, Global};
 
 /// Where the entry's picture stands, if it has no form.
@@ -24,9 +24,9 @@ fn formless(alloc: Global, entry: &Entry) -> Result<Option<Place>, AllocError>
     }
 }
 
-/// Where the first picture stands that has no form (COBOL-85, Nucleus, the PICTURE clause).
+/// Where the first picture stands that has no form, among these entries.
 #[tactic(auto, unfolding(crate::specs::Forms::first_formless))]
-pub fn first_formless(alloc: Global, entries: &[Entry]) -> Result<Option<Place>, AllocError>
+fn formless_entry(alloc: Global, entries: &[Entry]) -> Result<Option<Place>, AllocError>
     ensures { IfOk result (λ place. place ≡ spec.first_formless entries.now) }
 {
     for entry in entries {
@@ -35,4 +35,31 @@ pub fn first_formless(alloc: Global, entries: &[Entry]) -> Result<Option<Place>,
         }
     }
     Ok(None)
+}
+
+/// Where the first picture stands that has no form, among the entries of these files.
+fn formless_file(alloc: Global, files: &[FileDescription]) -> Result<Option<Place>, AllocError>
+    ensures { IfOk result (λ place. place ≡ spec.first_formless (spec.file_entries files.now)) }
+{
+    for file in files {
+        if let Some(place) = formless_entry(alloc, file.entries.as_slice())? {
+            return Ok(Some(place));
+        }
+    }
+    Ok(None)
+}
+
+/// Where the first picture stands that has no form (COBOL-85, Nucleus, the PICTURE clause), among the entries of files and,
+/// behind them, of working storage.
+pub fn first_formless(
+    alloc: Global,
+    files: &[FileDescription],
+    storage: &[Entry],
+) -> Result<Option<Place>, AllocError>
+    ensures { IfOk result (λ place. place ≡ spec.first_formless (spec.file_entries files.now ++ storage.now)) }
+{
+    match formless_file(alloc, files)? {
+        Some(place) => Ok(Some(place)),
+        None => formless_entry(alloc, storage),
+    }
 }

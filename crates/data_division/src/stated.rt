@@ -79,7 +79,7 @@ impl Stated {
 }
 
 /// Clauses up to where no more can begin. One that comes a second time is refused where it stands.
-#[tactic(auto, unfolding(crate::specs::Stated::stated_reader, crate::specs::Stated::stated_turns))]
+#[tactic(auto, unfolding(crate::specs::Stated::stated_reader, crate::specs::Gathering::gathering_reader, crate::specs::Gathering::gathering_turns))]
 pub fn stated_clauses(alloc: Global, tokens: &mut Tokens<'_>) -> Result<Stated, ReadFault>
     ensures { Reads (spec.stated_reader tokens.old) result tokens.new }
 {

@@ -4,18 +4,22 @@ use Rattle.std.specs.Prelude.{if◌then◌else◌}
 use Rattle.tokens.specs.declared.reserved.Reserved.{Reserved}
 use Rattle.tokens.specs.declared.reserved.Reserved.TheVariants as w
 use Rattle.tokens.specs.declared.token.Token.{Token}
+use Rattle.source_tree.specs.declared.select.Select.{Select}
 use Rattle.grammar.specs.declared.fault.Halt.{Halt}
 use Rattle.grammar.specs.Parts.{Part, ◌then◌, some_of, any, several, tested, telling, is_told, heading}
+use Rattle.grammar.specs.Reading as read
 use Rattle.grammar.specs.Reading.{Parser, ◌>>◌, begins_word}
 use Rattle.grammar.proofs.Outcomes.{Reached, step, unstep, after}
 use Rattle.grammar.proofs.Looking.{word_begins, none_not, true_not_false, tests_tested}
 use Rattle.grammar.proofs.Lists.{Sound, Complete, several_starts}
 use Rattle.grammar.proofs.Parts.{period_sound, period_complete, heading_sound, heading_complete, telling_starts}
-use Rattle.data_division.proofs.Exact.Optional.{tests_word}
+use Rattle.data_division.proofs.Exact.Listed.{BeginsWith, heading_begins, unless_sound, unless_complete, listed_sound, listed_complete}
+use Rattle.file_control.proofs.Exact.Selects.{input_output_sound, input_output_complete}
+use Rattle.file_control.specs.Selects.{input_output_reader}
 use Rattle.divisions.specs.Environment as g
-use Rattle.divisions.specs.Environment.{◌unless_no◌, unless_none, unless, described_in, begins_description, ends_description, past_description}
+use Rattle.divisions.specs.Environment.{unless, described_in, begins_description, ends_description, past_description}
 
--- ---- one part after another, and what may be left out by its first word
+-- ---- one part after another
 
 module _ {p q : Part} {first second : Parser (Unit {0})} where
   both_sound : Sound (λ u. p) first → Sound (λ u. q) second → Sound (λ u. p then q) (first >> second)
@@ -23,23 +27,6 @@ module _ {p q : Part} {first second : Parser (Unit {0})} where
 
   both_complete : {Allowed : Halt → Type 0} → Complete Allowed (λ u. p) first → Complete Allowed (λ u. q) second → Complete Allowed (λ u. p then q) (first >> second)
   both_complete one other u i rest (i1, s, t) = step (first i) _ (one tt i i1 s) (other u i1 rest t)
-
-module _ {p : Part} {reader : Parser (Unit {0})} (one : Reserved) where
-  unless_sound : Sound (λ u. p) reader → Sound (λ u. p unless_no one) (unless_none one reader)
-  unless_sound each u i rest e = go (begins_word one i) refl e
-    where
-      go : (b : Bool) → begins_word one i ≡ b → (if b then reader i else Ok (tt, i)) ≡ Ok (u, rest) → (p unless_no one) i rest
-      go true is e = inl (each u i rest e)
-      go false is e = inr (after e, (tests_word one).fails i is)
-
-  unless_complete : {Allowed : Halt → Type 0} → ((i rest : List Token) → p i rest → begins_word one i ≡ true) → Complete Allowed (λ u. p) reader
-      → Complete Allowed (λ u. p unless_no one) (unless_none one reader)
-  unless_complete starts each u i rest (inl s) = rw (starts i rest s) (each u i rest s)
-  unless_complete starts each u i rest (inr (same, absent)) = rw ((tests_word one).refuses i absent) (Reached (ap (λ j. Ok (tt, j)) same))
-
--- a heading begins with its first word
-heading_begins : (one : Reserved) (words : List Reserved) (q : Part) (i rest : List Token) → (heading (one ∷ words) then q) i rest → begins_word one i ≡ true
-heading_begins one words q i rest s = word_begins one i s.1.0 s.1.1
 
 -- ---- descriptions
 
@@ -121,12 +108,29 @@ configuration_complete =
     unless_complete w.Configuration (heading_begins w.Configuration (w.Section ∷ []) computers)
     (both_complete (heading_complete (w.Configuration ∷ w.Section ∷ [])) (both_complete (computer_complete w.SourceComputer) (computer_complete w.ObjectComputer)))
 
-pub environment_sound : Sound (λ u. g.environment) g.environment_reader
-unfolding g.environment_reader
-environment_sound = unless_sound w.Environment (both_sound (heading_sound (w.Environment ∷ w.Division ∷ [])) configuration_sound)
+abbrev environment_words : List Reserved
+environment_words = w.Environment ∷ w.Division ∷ []
 
-pub environment_complete : {Allowed : Halt → Type 0} → Complete Allowed (λ u. g.environment) g.environment_reader
+sections_sound : Sound g.sections g.environment_sections_reader
+unfolding g.environment_sections_reader
+sections_sound x i rest e =
+    unstep (read.heading environment_words i) _ e (λ u i1 is1 e1.
+    unstep (g.configuration_reader i1) _ e1 (λ v i2 is2 e2.
+    (i1, heading_sound environment_words u i i1 is1, (i2, configuration_sound v i1 i2 is2, input_output_sound x i2 rest e2))))
+
+sections_complete : {Allowed : Halt → Type 0} → Complete Allowed g.sections g.environment_sections_reader
+unfolding g.environment_sections_reader
+sections_complete x i rest (i1, words, (i2, around, selects)) =
+    step (read.heading environment_words i) _ (heading_complete environment_words tt i i1 words)
+    (step (g.configuration_reader i1) _ (configuration_complete tt i1 i2 around) (input_output_complete x i2 rest selects))
+
+sections_begin : (x : List Select) → BeginsWith w.Environment (g.sections x)
+sections_begin x i rest s = word_begins w.Environment i s.1.0 s.1.1
+
+pub environment_sound : Sound g.environment g.environment_reader
 unfolding g.environment_reader
-environment_complete =
-    unless_complete w.Environment (heading_begins w.Environment (w.Division ∷ []) g.configuration)
-    (both_complete (heading_complete (w.Environment ∷ w.Division ∷ [])) configuration_complete)
+environment_sound = listed_sound w.Environment sections_sound
+
+pub environment_complete : {Allowed : Halt → Type 0} → Complete Allowed g.environment g.environment_reader
+unfolding g.environment_reader
+environment_complete {Allowed = Allowed} = listed_complete w.Environment sections_begin (sections_complete {Allowed = Allowed})

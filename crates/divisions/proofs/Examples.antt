@@ -30,24 +30,26 @@ use Rattle.statements.specs.Performing as performing_rule
 use Rattle.statements.specs.Turning as turning_rule
 use Rattle.statements.specs.StopRun as stop_run_rule
 use Rattle.statements.specs.Reading as statements
+use Rattle.data_division.specs.Files as files
 use Rattle.data_division.specs.Division as division
 use Rattle.data_division.specs.Forms as forms
+use Rattle.file_control.specs.Selects as selects
 use Rattle.divisions.specs.Environment as environment
 use Rattle.divisions.specs.Reading as r
 use Rattle.divisions.specs.Faults.{parse_of}
 use Rattle.divisions.specs.declared.fault.FaultKind.TheVariants.{UnexpectedToken}
 
-abbrev place : ℕ → ℕ → Place
+abbrev pub place : ℕ → ℕ → Place
 place line column = record { line = line; column = column }
 
 -- a token at a line and column; where its characters stand in their list is of no account here
-abbrev at : ℕ → ℕ → Kind → Token
+abbrev pub at : ℕ → ℕ → Kind → Token
 at line column kind = record { kind = kind; span = record { start = 0; end = 0 }; place = place line column }
 
-abbrev word : ℕ → ℕ → Reserved → Token
+abbrev pub word : ℕ → ℕ → Reserved → Token
 word line column one = at line column (k.Reserved one)
 
-abbrev period : ℕ → ℕ → Token
+abbrev pub period : ℕ → ℕ → Token
 period line column = at line column k.Period
 
 abbrev identified : List Token → List Token
@@ -57,7 +59,7 @@ identified more =
     ∷ word 3 8 w.Procedure ∷ word 3 18 w.Division ∷ period 3 26 ∷ more
 
 -- STOP RUN. at column 12 of a line
-abbrev stop_tokens : ℕ → List Token
+abbrev pub stop_tokens : ℕ → List Token
 stop_tokens line = word line 12 w.Stop ∷ word line 17 w.Run ∷ period line 20 ∷ []
 
 -- MAIN-PARA
@@ -74,7 +76,8 @@ unfolding
     performing_rule.performing_reader performing_rule.procedures_reader performing_rule.last_reader performing_rule.through_reader
     performing_rule.in_line_reader turning_rule.turns_reader turning_rule.times_reader turning_rule.counted_reader
     statements.statements statements.verb statements.line statements.statement statements.sentence
-    environment.environment_reader division.data_division_reader forms.first_formless
+    environment.configuration_reader environment.environment_sections_reader environment.environment_reader selects.input_output_reader
+    files.file_section_reader division.working_storage_reader division.sections_reader division.data_division_reader forms.first_formless
     r.program r.identification r.procedure r.all_sections r.outer_body r.after_body r.following r.sections r.section r.section_paragraphs
     r.body r.opening r.sentences r.any_sentences r.paragraph r.paragraphs r.any_paragraphs r.ending
 computing = tt
@@ -91,17 +94,17 @@ hello_is_read = refl
 -- ---- sections
 
 -- a name of one letter
-abbrev letter : ℕ → ℕ → ℕ → Token
+abbrev pub letter : ℕ → ℕ → ℕ → Token
 letter line column one = at line column (k.Word (one ∷ []))
 
-abbrev named : ℕ → ℕ → ℕ → Name
+abbrev pub named : ℕ → ℕ → ℕ → Name
 named line column one = record { characters = one ∷ []; place = place line column }
 
 -- the name and SECTION in a line
 abbrev section_tokens : ℕ → ℕ → List Token
 section_tokens line one = letter line 8 one ∷ word line 10 w.Section ∷ period line 17 ∷ []
 
-abbrev unnamed : List Sentence → Paragraph
+abbrev pub unnamed : List Sentence → Paragraph
 unnamed sentences = record { name = None; sentences = sentences }
 
 -- a section without paragraphs, after sentences that belong to none
@@ -123,7 +126,7 @@ section_after_a_paragraph = refl
 
 -- ---- statements in one another
 
-abbrev statement : ℕ → ℕ → Verb Statement → Statement
+abbrev pub statement : ℕ → ℕ → Verb Statement → Statement
 statement line column one = roll-Statement (record { place = place line column; verb = one })
 
 -- PERFORM 2 TIMES PERFORM P THRU Q EXIT END-PERFORM STOP RUN.

@@ -3,3 +3,4 @@ pub mod Environments
 pub mod SectionLists
 pub mod Programs
 pub mod Examples
+pub mod FileExamples

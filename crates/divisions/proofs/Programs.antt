@@ -20,7 +20,7 @@ use Rattle.statements.specs.Spelling.{max_nesting}
 use Rattle.divisions.specs.Spelling as g
 use Rattle.divisions.specs.Spelling.{Spells}
 use Rattle.divisions.specs.Reading as r
-use Rattle.data_division.specs.Forms.{first_formless}
+use Rattle.data_division.specs.Forms.{first_formless, program_entries}
 use Rattle.data_division.specs.Division.{data_division_reader}
 use Rattle.data_division.proofs.Exact.Division.{data_division_sound, data_division_complete}
 use Rattle.divisions.specs.Environment.{environment_reader}
@@ -114,8 +114,8 @@ pub program_sound : (depth : ℕ) (tree : Program) (i : List Token) → r.progra
 unfolding r.program
 program_sound depth tree i e =
     unstep (r.identification i) _ e (λ given i1 is1 e1.
-    unstep (environment_reader i1) _ e1 (λ t i2 is2 e2.
-    unstep (data_division_reader i2) _ e2 (λ storage i3 is3 e3.
+    unstep (environment_reader i1) _ e1 (λ selects i2 is2 e2.
+    unstep (data_division_reader i2) _ e2 (λ described i3 is3 e3.
     unstep (r.procedure depth i3) _ e3 (λ found i4 is4 e4.
     unstep (r.ending i4) _ e4 (λ u i5 is5 e5.
     unstep (read.nothing i5) _ e5 (λ v i6 is6 e6.
@@ -124,10 +124,10 @@ program_sound depth tree i e =
       identification_sound given i i1 is1,
       (
         i2,
-        environment_sound t i1 i2 is2,
+        environment_sound selects i1 i2 is2,
         (
           i3,
-          data_division_sound storage i2 i3 is3,
+          data_division_sound described i2 i3 is3,
           (i4, procedure_sound depth found i3 i4 is4, (i5, ending_sound u i4 i5 is5, (nothing_sound v i5 i6 is6, refl))),
         ),
       ),
@@ -135,10 +135,10 @@ program_sound depth tree i e =
 
 pub program_complete : (depth depth' : ℕ) (tree : Program) (i : List Token) → Spells depth' tree i → Answers (Deeper depth depth') (r.program depth i) tree []
 unfolding r.program read.nothing
-program_complete depth depth' tree i (i1, given, (i2, around, (i3, storage, (i4, procedure, (i5, end, over))))) =
+program_complete depth depth' tree i (i1, given, (i2, around, (i3, items, (i4, procedure, (i5, end, over))))) =
     step (r.identification i) _ (identification_complete tree.name i i1 given)
-    (step (environment_reader i1) _ (environment_complete tt i1 i2 around)
-    (step (data_division_reader i2) _ (data_division_complete tree.storage i2 i3 storage)
+    (step (environment_reader i1) _ (environment_complete tree.selects i1 i2 around)
+    (step (data_division_reader i2) _ (data_division_complete (g.described tree) i2 i3 items)
     (step (r.procedure depth i3) _ (procedure_complete depth depth' tree.sections i3 i4 procedure)
     (step (r.ending i4) _ (ending_complete i4 i5 end over.0)
     (rw over.0 (Reached refl))))))
@@ -179,20 +179,20 @@ one_read depth tree tree' i e spelled = go (program_complete max_nesting depth t
 -- what is answered where a tree was read
 module _ (i : List Token) (tree : Program) (e : r.program max_nesting i ≡ Ok (tree, [])) where
   pub formed_spelled : (result : Result Program ParseError) → Gives (λ (t : Program). t) fault_of result (formed tree) → IfOk result (λ t. Spells max_nesting t i)
-  formed_spelled (Ok answer) g = subst (λ t. Spells max_nesting t i) (sym (kept tree (first_formless tree.storage) answer g)) (program_sound max_nesting tree i e)
+  formed_spelled (Ok answer) g = subst (λ t. Spells max_nesting t i) (sym (kept tree (first_formless (program_entries tree)) answer g)) (program_sound max_nesting tree i e)
   formed_spelled (Err error) g = tt
 
   pub formed_only : (result : Result Program ParseError) → Gives (λ (t : Program). t) fault_of result (formed tree)
       → (depth : ℕ) (tree' : Program) → Spells depth tree' i → IsAnswer depth tree' result
-  formed_only (Ok answer) g depth tree' spelled = kept tree (first_formless tree.storage) answer g ∙ one_read depth tree tree' i e spelled
+  formed_only (Ok answer) g depth tree' spelled = kept tree (first_formless (program_entries tree)) answer g ∙ one_read depth tree tree' i e spelled
   formed_only (Err Memory) g depth tree' spelled = tt
   formed_only (Err (Refused fault)) g depth tree' spelled =
-      let t = told tree (first_formless tree.storage) fault g in
-      inr (t.0, ap (λ x. first_formless x.storage) (sym (one_read depth tree tree' i e spelled)) ∙ t.1)
+      let t = told tree (first_formless (program_entries tree)) fault g in
+      inr (t.0, ap (λ x. first_formless (program_entries x)) (sym (one_read depth tree tree' i e spelled)) ∙ t.1)
 
   pub formed_formless : (result : Result Program ParseError) → Gives (λ (t : Program). t) fault_of result (formed tree) → FormlessInTree i result
   formed_formless result g fault is kind =
-      let t = told tree (first_formless tree.storage) fault (subst (λ x. Gives (λ (t : Program). t) fault_of x (formed tree)) is g) in
+      let t = told tree (first_formless (program_entries tree)) fault (subst (λ x. Gives (λ (t : Program). t) fault_of x (formed tree)) is g) in
       (tree, program_sound max_nesting tree i e, t.1)
 
 -- what is answered where reading halted

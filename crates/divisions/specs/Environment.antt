@@ -1,19 +1,17 @@
--- The environment division, which is looked past: which tokens spell it, and how it is read (COBOL-85, Nucleus, "Environment
--- division").
+-- The environment division, whose configuration section is looked past: which tokens spell it, and how it is read (COBOL-85, Nucleus,
+-- "Environment division").
 use Rattle.std.specs.Prelude.{Bool, true, false, if◌then◌else◌, List, [], ◌∷◌, Option, None, Some, Ok}
 use Rattle.tokens.specs.declared.reserved.Reserved.{Reserved}
 use Rattle.tokens.specs.declared.reserved.Reserved.TheVariants as w
 use Rattle.tokens.specs.declared.token.Kind.{Kind}
 use Rattle.tokens.specs.declared.token.Kind.TheVariants as k
 use Rattle.tokens.specs.declared.token.Token.{Token}
-use Rattle.grammar.specs.Parts.{Part, ◌then◌, ◌or◌, without, some_of, several, tested, telling, begins_telling, word, period, heading}
+use Rattle.source_tree.specs.declared.select.Select.{Select}
+use Rattle.grammar.specs.Parts.{Part, ◌then◌, ◌or◌, without, some_of, several, tested, telling, begins_telling, period, heading}
 use Rattle.grammar.specs.Reading as r
-use Rattle.grammar.specs.Reading.{Parser, ◌>>=◌, ◌>>◌, begins_word}
-
--- p, which begins with this word; it is left out only where the word does not stand.
-infixr 25 ◌unless_no◌
-abbrev pub ◌unless_no◌ : Part → Reserved → Part
-p unless_no one = p or without (word one)
+use Rattle.grammar.specs.Reading.{Parser, ◌>>=◌, ◌>>◌}
+use Rattle.data_division.specs.Listed.{◌unless_no◌, listed_from, unless_none, list_from}
+use Rattle.file_control.specs.Selects.{input_output, input_output_reader}
 
 -- the words of what may come after a description
 abbrev pub comes_after : Reserved → Bool
@@ -52,14 +50,15 @@ abbrev pub configuration : Part
 configuration =
     (heading (w.Configuration ∷ w.Section ∷ []) then computer w.SourceComputer then computer w.ObjectComputer) unless_no w.Configuration
 
--- [ENVIRONMENT DIVISION . [CONFIGURATION SECTION . ..]]
-abbrev pub environment : Part
-environment = (heading (w.Environment ∷ w.Division ∷ []) then configuration) unless_no w.Environment
+-- ENVIRONMENT DIVISION . [CONFIGURATION SECTION . ..] [INPUT-OUTPUT SECTION . ..]
+abbrev pub sections : List Select → Part
+sections selects = heading (w.Environment ∷ w.Division ∷ []) then configuration then input_output selects
+
+-- [ENVIRONMENT DIVISION . ..]: it is left out only where ENVIRONMENT does not stand.
+abbrev pub environment : List Select → Part
+environment = listed_from w.Environment sections
 
 -- ---- reading
-
-abbrev pub unless_none : Reserved → Parser (Unit {0}) → Parser (Unit {0})
-unless_none one read i = if begins_word one i then read i else Ok (tt, i)
 
 -- the tokens after a description
 unfoldable pub past_description : List Token → List Token
@@ -84,5 +83,11 @@ unfoldable pub configuration_reader : Parser (Unit {0})
 configuration_reader =
     unless_none w.Configuration (r.heading (w.Configuration ∷ w.Section ∷ []) >> (computer_reader w.SourceComputer >> computer_reader w.ObjectComputer))
 
-unfoldable pub environment_reader : Parser (Unit {0})
-environment_reader = unless_none w.Environment (r.heading (w.Environment ∷ w.Division ∷ []) >> configuration_reader)
+unfoldable pub environment_sections_reader : Parser (List Select)
+environment_sections_reader = do
+  r.heading (w.Environment ∷ w.Division ∷ [])
+  configuration_reader
+  input_output_reader
+
+unfoldable pub environment_reader : Parser (List Select)
+environment_reader = list_from w.Environment environment_sections_reader

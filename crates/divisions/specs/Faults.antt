@@ -7,7 +7,7 @@ use Rattle.grammar.specs.declared.fault.Halt.{Halt}
 use Rattle.grammar.specs.declared.fault.Halt.TheVariants.{Unexpected, TooDeep}
 use Rattle.grammar.specs.Reading.{Outcome}
 use Rattle.statements.specs.Spelling.{max_nesting}
-use Rattle.data_division.specs.Forms.{first_formless}
+use Rattle.data_division.specs.Forms.{first_formless, program_entries}
 use Rattle.divisions.specs.Spelling.{Spells}
 use Rattle.divisions.specs.Reading.{program}
 use Rattle.divisions.specs.declared.fault.FaultKind.{FaultKind}
@@ -48,7 +48,7 @@ formed_by tree None = Ok tree
 formed_by tree (Some place) = Err (record { kind = PictureWithoutForm; place = place })
 
 abbrev pub formed : Program → Result Program ParseFault
-formed tree = formed_by tree (first_formless tree.storage)
+formed tree = formed_by tree (first_formless (program_entries tree))
 
 abbrev pub placed : List Token → Outcome Program → Result Program ParseFault
 placed tokens (Ok read) = formed read.0
@@ -61,7 +61,7 @@ parse_of tokens = placed tokens (program max_nesting tokens)
 -- The tree nests too deep, or its first picture without a form stands here.
 abbrev pub IsRefusal : ℕ → Program → ParseFault → Type 0
 IsRefusal depth tree fault =
-    ((fault.kind ≡ NestedTooDeep) × (max_nesting < depth)) ⊎ ((fault.kind ≡ PictureWithoutForm) × (first_formless tree.storage ≡ Some fault.place))
+    ((fault.kind ≡ NestedTooDeep) × (max_nesting < depth)) ⊎ ((fault.kind ≡ PictureWithoutForm) × (first_formless (program_entries tree) ≡ Some fault.place))
 
 -- What may be answered where a tree of that depth spells the tokens: it, or such a refusal.
 abbrev pub IsAnswer : ℕ → Program → Result Program ParseError → Type 0
@@ -72,4 +72,4 @@ IsAnswer depth tree (Err (Refused fault)) = IsRefusal depth tree fault
 -- Where a picture without a form is told, a tree spells the tokens, and it is the first such picture of the tree.
 abbrev pub FormlessInTree : List Token → Result Program ParseError → Type 0
 FormlessInTree tokens result = (fault : ParseFault) → result ≡ Err (Refused fault) → fault.kind ≡ PictureWithoutForm
-    → (tree : Program) × Spells max_nesting tree tokens × (first_formless tree.storage ≡ Some fault.place)
+    → (tree : Program) × Spells max_nesting tree tokens × (first_formless (program_entries tree) ≡ Some fault.place)

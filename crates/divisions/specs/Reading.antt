@@ -106,9 +106,9 @@ procedure depth = do
 unfoldable pub program : ℕ → Parser Program
 program depth = do
   given ← identification
-  environment_reader
-  storage ← data_division_reader
+  selects ← environment_reader
+  described ← data_division_reader
   found ← procedure depth
   ending
   nothing
-  pure (record { name = given; storage = storage; sections = found })
+  pure (record { name = given; selects = selects; files = described.files; storage = described.storage; sections = found })

@@ -10,6 +10,7 @@ use Rattle.grammar.specs.Parts.{Part, ◌then◌, nowhere, without, optional, an
 use Rattle.grammar.specs.Reading.{is_period, begins_word}
 use Rattle.statements.specs.Verbs.{begins_statement}
 use Rattle.statements.specs.Spelling.{sentence}
+use Rattle.data_division.specs.declared.division.DataDivision.{DataDivision}
 use Rattle.data_division.specs.Division.{data_division}
 use Rattle.divisions.specs.Environment.{environment}
 
@@ -104,9 +105,13 @@ sections depth (first ∷ more) = sections_by depth first.name first more
 abbrev pub procedure : ℕ → List Section → Part
 procedure depth all = heading (w.Procedure ∷ w.Division ∷ []) then sections depth all
 
+-- what the data division describes
+abbrev pub described : Program → DataDivision
+described tree = record { files = tree.files; storage = tree.storage }
+
 abbrev pub program : ℕ → Program → Part
 program depth tree =
-    identification tree.name then environment then data_division tree.storage then procedure depth tree.sections
+    identification tree.name then environment tree.selects then data_division (described tree) then procedure depth tree.sections
     then optional end_program then nothing
 
 -- The tree, whose statements nest no deeper than that, is spelled by these tokens.

@@ -1,10 +1,14 @@
-//! The environment division, which has no effect: it is looked past, and takes no memory.
+//! The environment division. Its configuration section has no effect: it is looked past, and takes no memory.
 
 ghost use Rattle.std.specs.Prelude.{◌≡◌};
 ghost use Rattle.grammar.specs.Reading.{Reads};
 ghost use Rattle.divisions.specs.Environment as spec;
 
+use file_control::input_output;
 use grammar::{ReadFault, Tokens};
+use source_tree::Select;
+use sqlite_items::Items;
+use std::alloc::Global;
 use tokens::{Kind, Reserved, Token};
 
 /// The token is a period, or a word of what may come after a description.
@@ -82,14 +86,24 @@ fn configuration(tokens: &mut Tokens<'_>) -> Result<(), ReadFault>
     computer(tokens, Reserved::ObjectComputer)
 }
 
-/// The environment division, if it comes next (COBOL-85, Nucleus, "Environment division").
+/// What the environment division has, from its heading on.
+#[tactic(auto, unfolding(crate::specs::Environment::environment_sections_reader))]
+fn sections(alloc: Global, tokens: &mut Tokens<'_>) -> Result<Items<Select>, ReadFault>
+    ensures { Reads (spec.environment_sections_reader tokens.old) result tokens.new }
+{
+    tokens.heading(&[Reserved::Environment, Reserved::Division])?;
+    configuration(tokens)?;
+    input_output(alloc, tokens)
+}
+
+/// The SELECTs of the environment division (COBOL-85, Nucleus, "Environment division"); none where ENVIRONMENT doesn't come next.
 #[tactic(auto, unfolding(crate::specs::Environment::environment_reader))]
-pub fn environment(tokens: &mut Tokens<'_>) -> Result<(), ReadFault>
+pub fn environment(alloc: Global, tokens: &mut Tokens<'_>) -> Result<Items<Select>, ReadFault>
     ensures { Reads (spec.environment_reader tokens.old) result tokens.new }
 {
-    if !tokens.at_word(Reserved::Environment) {
-        return Ok(());
+    if tokens.at_word(Reserved::Environment) {
+        sections(alloc, tokens)
+    } else {
+        Ok(Items::new(alloc))
     }
-    tokens.heading(&[Reserved::Environment, Reserved::Division])?;
-    configuration(tokens)
 }

@@ -8,7 +8,7 @@ ghost use Rattle.tokens.specs.declared.token.Token.{Token};
 ghost use Rattle.source_tree.specs.declared.program.Program.{Program};
 ghost use Rattle.divisions.specs.Spelling.{Spells};
 ghost use Rattle.divisions.specs.Reading as spec;
-ghost use Rattle.data_division.specs.Forms.{HasForms};
+ghost use Rattle.data_division.specs.Forms.{HasForms, program_entries};
 ghost use Rattle.divisions.specs.Faults as faults;
 ghost use Rattle.divisions.specs.Faults.{fault_of, parse_of, IsAnswer, FormlessInTree};
 
@@ -17,7 +17,7 @@ use crate::fault::{FaultKind, ParseError, ParseFault, refusal};
 use crate::identification::{ending, identification};
 use crate::sections::procedure;
 use data_division::{data_division, first_formless};
-use grammar::{ReadFault, Tokens};
+use grammar::{ReadFault, Tokens, beside};
 use source_tree::Program;
 use std::alloc::Global;
 use tokens::Token;
@@ -29,14 +29,16 @@ fn program(alloc: Global, tokens: &[Token]) -> Result<Program, ReadFault>
 {
     let mut tokens = Tokens::new(tokens);
     let name = identification(alloc, &mut tokens)?;
-    environment(&mut tokens)?;
-    let storage = data_division(alloc, &mut tokens)?;
-    let sections = procedure(alloc, &mut tokens)?;
-    ending(alloc, &mut tokens)?;
-    tokens.expect_end()?;
+    let head = beside(name, environment(alloc, &mut tokens))?;
+    let head = beside(head, data_division(alloc, &mut tokens))?;
+    let all = beside(head, procedure(alloc, &mut tokens))?;
+    let (all, ()) = beside(all, ending(alloc, &mut tokens))?;
+    let ((((name, selects), described), sections), ()) = beside(all, tokens.expect_end())?;
     Ok(Program {
         name,
-        storage,
+        selects,
+        files: described.files,
+        storage: described.storage,
         sections,
     })
 }
@@ -45,7 +47,7 @@ fn program(alloc: Global, tokens: &[Token]) -> Result<Program, ReadFault>
 fn formed(alloc: Global, tree: Program) -> Result<Program, ParseError>
     ensures { Gives (λ (tree : Program). tree) fault_of result (faults.formed tree) }
 {
-    match first_formless(alloc, tree.storage.as_slice())? {
+    match first_formless(alloc, tree.files.as_slice(), tree.storage.as_slice())? {
         None => Ok(tree),
         Some(place) => Err(ParseError::Refused(ParseFault {
             kind: FaultKind::PictureWithoutForm,
@@ -63,7 +65,7 @@ pub fn parse(alloc: Global, tokens: &[Token]) -> Result<Program, ParseError>
     // What is answered spells the tokens.
     ensures spelled { IfOk result (λ tree. Spells max_nesting tree tokens.now) }
     // Its pictures have forms.
-    ensures forms { IfOk result (λ tree. HasForms tree.storage) }
+    ensures forms { IfOk result (λ tree. HasForms (program_entries tree)) }
     // What spells the tokens is answered, unless it nests too deep, has a picture without a form, or memory runs out.
     ensures only { (depth : ℕ) (tree : Program) → Spells depth tree tokens.now → IsAnswer depth tree result }
     // A picture without a form is one of a tree that spells the tokens.

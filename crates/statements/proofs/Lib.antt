@@ -3,6 +3,7 @@ pub mod Except
 pub mod StatementLists
 pub mod Objects
 pub mod ReceiverLists
+pub mod FilePhrases
 pub mod Verbs
 pub mod Lines
 pub mod Depth

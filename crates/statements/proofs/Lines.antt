@@ -31,6 +31,7 @@ use Rattle.statements.proofs.Verbs.Continuing.{continuing_shrinks, continuing_st
 use Rattle.statements.proofs.Verbs.Display.{display_shrinks, display_stands, display_complete, display_sound}
 use Rattle.statements.proofs.Verbs.Evaluate.{evaluating_shrinks, evaluating_stands, evaluating_complete, evaluating_sound}
 use Rattle.statements.proofs.Verbs.Exiting.{exiting_shrinks, exiting_stands, exiting_complete, exiting_sound}
+use Rattle.statements.proofs.Verbs.Filing.{file_verb, filing_shrinks, filing_stands, filing_complete, filing_sound}
 use Rattle.statements.proofs.Verbs.Initializing.{initializing_shrinks, initializing_stands, initializing_complete, initializing_sound}
 use Rattle.statements.proofs.Verbs.Inspecting.{inspecting_shrinks, inspecting_stands, inspecting_complete, inspecting_sound}
 use Rattle.statements.proofs.Verbs.Moving.{moving_shrinks, moving_stands, moving_complete, moving_sound}
@@ -56,6 +57,7 @@ module _ (depth : ℕ) (p : Statement → Part) where
   verb_shrinks fewer (verb.Text (text.AcceptDate receiver)) i rest s = accepting_shrinks receiver false i rest s
   verb_shrinks fewer (verb.Text (text.Inspect one)) i rest s = inspecting_shrinks one i rest s
   verb_shrinks fewer (verb.Stringing one) i rest s = stringing_shrinks (g.statements p) (statements_shrink p fewer) one i rest s
+  verb_shrinks fewer (verb.Filing one) i rest s = filing_shrinks (g.statements p) (statements_shrink p fewer) one i rest s
   verb_shrinks fewer (verb.Ending ending.StopRun) i rest s = stop_run_shrinks i rest s
   verb_shrinks fewer (verb.Ending ending.Continue) i rest s = continuing_shrinks i rest s
   verb_shrinks fewer (verb.Ending ending.Exit) i rest s = exiting_shrinks i rest s
@@ -77,6 +79,7 @@ module _ (depth : ℕ) (p : Statement → Part) where
   word_of (verb.Text (text.AcceptDate receiver)) = v.Accept
   word_of (verb.Text (text.Inspect one)) = v.Inspect
   word_of (verb.Stringing one) = v.String
+  word_of (verb.Filing one) = v.Filing (file_verb one)
   word_of (verb.Ending ending.StopRun) = v.Stop
   word_of (verb.Ending ending.Continue) = v.Continue
   word_of (verb.Ending ending.Exit) = v.Exit
@@ -94,6 +97,7 @@ module _ (depth : ℕ) (p : Statement → Part) where
   verb_stands (verb.Text (text.AcceptDate receiver)) i rest s = accepting_stands receiver false i rest s
   verb_stands (verb.Text (text.Inspect one)) i rest s = inspecting_stands one i rest s
   verb_stands (verb.Stringing one) i rest s = stringing_stands (g.statements p) one i rest s
+  verb_stands (verb.Filing one) i rest s = filing_stands (g.statements p) one i rest s
   verb_stands (verb.Ending ending.StopRun) i rest s = stop_run_stands i rest s
   verb_stands (verb.Ending ending.Continue) i rest s = continuing_stands i rest s
   verb_stands (verb.Ending ending.Exit) i rest s = exiting_stands i rest s
@@ -112,6 +116,7 @@ module _ (depth : ℕ) (p : Statement → Part) where
     by_verb_sound (Some v.Display) x i rest e = display_sound depth p x i rest e
     by_verb_sound (Some v.Evaluate) x i rest e = evaluating_sound depth p nested each x i rest e
     by_verb_sound (Some v.Exit) x i rest e = exiting_sound depth p x i rest e
+    by_verb_sound (Some (v.Filing one)) x i rest e = filing_sound depth p nested each one x i rest e
     by_verb_sound (Some v.If) x i rest e = branching_sound depth p nested each x i rest e
     by_verb_sound (Some v.Initialize) x i rest e = initializing_sound depth p x i rest e
     by_verb_sound (Some v.Inspect) x i rest e = inspecting_sound depth p x i rest e
@@ -157,6 +162,8 @@ module _ (Allowed : Halt → Type 0) (depth depth' : ℕ) (computes : Complete A
   by_verb_complete (verb.Text (text.Inspect one)) i rest s = inspecting_complete one i rest s
   by_verb_complete (verb.Stringing one) i rest s =
       stringing_complete (g.statements p) (r.statements nested) Allowed (statements_complete Allowed p nested each fewer begins) one i rest s
+  by_verb_complete (verb.Filing one) i rest s =
+      filing_complete (g.statements p) (r.statements nested) Allowed (statements_complete Allowed p nested each fewer begins) one i rest s
   by_verb_complete (verb.Ending ending.StopRun) i rest s = stop_run_complete i rest s
   by_verb_complete (verb.Ending ending.Continue) i rest s = continuing_complete i rest s
   by_verb_complete (verb.Ending ending.Exit) i rest s = exiting_complete i rest s

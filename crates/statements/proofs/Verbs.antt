@@ -11,6 +11,8 @@ pub mod Continuing
 pub mod Display
 pub mod Evaluate
 pub mod Exiting
+pub mod Opening
+pub mod Filing
 pub mod Initializing
 pub mod Limiting
 pub mod Inspecting

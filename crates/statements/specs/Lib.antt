@@ -21,6 +21,9 @@ pub mod Performing
 pub mod Setting
 pub mod StopRun
 pub mod Stringing
+pub mod FilePhrases
+pub mod Opening
+pub mod Filing
 pub mod Spelling
 pub mod Reading
 pub mod Nests

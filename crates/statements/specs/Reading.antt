@@ -15,6 +15,7 @@ use Rattle.statements.specs.Continuing.{continuing_reader}
 use Rattle.statements.specs.Display.{display_reader}
 use Rattle.statements.specs.Evaluate.{evaluating_reader}
 use Rattle.statements.specs.Exiting.{exiting_reader}
+use Rattle.statements.specs.Filing.{filing_reader}
 use Rattle.statements.specs.Initializing.{initializing_reader}
 use Rattle.statements.specs.Inspecting.{inspecting_reader}
 use Rattle.statements.specs.Moving.{moving_reader}
@@ -36,6 +37,7 @@ module _ (depth : ℕ) (statement : Parser Statement) where
   by_verb (Some v.Display) = display_reader
   by_verb (Some v.Evaluate) = evaluating_reader depth (statements statement)
   by_verb (Some v.Exit) = exiting_reader
+  by_verb (Some (v.Filing one)) = filing_reader (statements statement) one
   by_verb (Some v.If) = branching_reader depth (statements statement)
   by_verb (Some v.Initialize) = initializing_reader
   by_verb (Some v.Inspect) = inspecting_reader

@@ -18,6 +18,7 @@ use Rattle.statements.specs.Branching.{branching}
 use Rattle.statements.specs.Continuing.{continuing}
 use Rattle.statements.specs.Display.{display}
 use Rattle.statements.specs.Exiting.{exiting}
+use Rattle.statements.specs.Filing.{filing}
 use Rattle.statements.specs.Initializing.{initializing}
 use Rattle.statements.specs.Inspecting.{inspecting}
 use Rattle.statements.specs.Moving.{moving}
@@ -60,6 +61,7 @@ module _ (depth : ℕ) (statement : Statement → Part) where
   verb_line (verb.Performing one) = performing depth (statements statement) one
   verb_line (verb.Text one) = text_line one
   verb_line (verb.Stringing one) = stringing (statements statement) one
+  verb_line (verb.Filing one) = filing (statements statement) one
   verb_line (verb.Ending one) = ending_line one
 
   -- A statement stands where its verb does (own choice).

@@ -74,6 +74,7 @@ impl<F: Fn(Global, &mut Tokens<'_>, usize) -> Result<Statement, ReadFault>> Nest
             Some(VerbWord::Display) => display(self.alloc, tokens),
             Some(VerbWord::Evaluate) => self.evaluating(tokens),
             Some(VerbWord::Exit) => exiting(tokens),
+            Some(VerbWord::Filing(verb)) => self.filing(verb, tokens),
             Some(VerbWord::If) => self.branching(tokens),
             Some(VerbWord::Initialize) => initializing(self.alloc, tokens),
             Some(VerbWord::Inspect) => inspecting(self.alloc, tokens),

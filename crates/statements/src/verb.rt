@@ -16,6 +16,18 @@ pub enum ArithmeticVerb {
     Compute,
 }
 
+/// A verb of a file statement.
+#[derive(Clone, Copy, Debug, PartialEq, Eq)]
+pub enum FileVerb {
+    Open,
+    Close,
+    Read,
+    Write,
+    Rewrite,
+    Delete,
+    Start,
+}
+
 /// A reserved word that is a verb.
 #[derive(Clone, Copy, Debug, PartialEq, Eq)]
 pub enum VerbWord {
@@ -25,6 +37,7 @@ pub enum VerbWord {
     Display,
     Evaluate,
     Exit,
+    Filing(FileVerb),
     If,
     Initialize,
     Inspect,
@@ -42,8 +55,10 @@ pub fn verb_of(word: Reserved) -> Option<VerbWord>
     match word {
         Reserved::Accept => Some(VerbWord::Accept),
         Reserved::Add => Some(VerbWord::Arithmetic(ArithmeticVerb::Add)),
+        Reserved::Close => Some(VerbWord::Filing(FileVerb::Close)),
         Reserved::Compute => Some(VerbWord::Arithmetic(ArithmeticVerb::Compute)),
         Reserved::Continue => Some(VerbWord::Continue),
+        Reserved::Delete => Some(VerbWord::Filing(FileVerb::Delete)),
         Reserved::Display => Some(VerbWord::Display),
         Reserved::Divide => Some(VerbWord::Arithmetic(ArithmeticVerb::Divide)),
         Reserved::Evaluate => Some(VerbWord::Evaluate),
@@ -53,11 +68,16 @@ pub fn verb_of(word: Reserved) -> Option<VerbWord>
         Reserved::Inspect => Some(VerbWord::Inspect),
         Reserved::Move => Some(VerbWord::Move),
         Reserved::Multiply => Some(VerbWord::Arithmetic(ArithmeticVerb::Multiply)),
+        Reserved::Open => Some(VerbWord::Filing(FileVerb::Open)),
         Reserved::Perform => Some(VerbWord::Perform),
+        Reserved::Read => Some(VerbWord::Filing(FileVerb::Read)),
+        Reserved::Rewrite => Some(VerbWord::Filing(FileVerb::Rewrite)),
         Reserved::Set => Some(VerbWord::Set),
+        Reserved::Start => Some(VerbWord::Filing(FileVerb::Start)),
         Reserved::Stop => Some(VerbWord::Stop),
         Reserved::String => Some(VerbWord::String),
         Reserved::Subtract => Some(VerbWord::Arithmetic(ArithmeticVerb::Subtract)),
+        Reserved::Write => Some(VerbWord::Filing(FileVerb::Write)),
         _ => None,
     }
 }

@@ -178,7 +178,7 @@ passed : (negated : Bool) (i rest : List Token) → g.is_not negated i rest → 
 passed true i rest (i1, is, stands) = ap (past_word w.Not) (past_is w.Is i i1 is) ∙ past_is w.Not i1 rest (inl stands)
 passed false i rest (i1, is, stands) = ap (past_word w.Not) (past_is w.Is i i1 is) ∙ past_is w.Not i1 rest (inr stands)
 
-seen : (negated : Bool) (one : Test) (i i1 rest : List Token) → g.is_not negated i i1 → telling test_in one i1 rest → next_test i ≡ Some one
+pub seen : (negated : Bool) (one : Test) (i i1 rest : List Token) → g.is_not negated i i1 → telling test_in one i1 rest → next_test i ≡ Some one
 seen negated one i i1 rest before (first, is, tell) = ap (first_told test_in) (passed negated i i1 before) ∙ ap (first_told test_in) is ∙ tell
 
 abbrev pub asks_class : Asked → Bool

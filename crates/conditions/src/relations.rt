@@ -1,0 +1,43 @@
+//! Relational operators by themselves, as behind KEY of START.
+
+ghost use Rattle.std.specs.Prelude.{◌≡◌};
+ghost use Rattle.grammar.specs.Reading.{Reads};
+ghost use Rattle.conditions.specs.Relations as spec;
+
+use crate::asked::{Asked, Test, next_test, read_asked};
+use grammar::{ReadFault, Tokens, past_word};
+use source_tree::Relation;
+use tokens::{Reserved, Token};
+
+/// A relational operator comes here, behind IS and NOT.
+fn begins_relation(tokens: &[Token]) -> bool
+    ensures { result ≡ spec.begins_relation tokens.now }
+{
+    matches!(
+        next_test(tokens),
+        Some(Test::Symbol(_) | Test::Order(_) | Test::Equal)
+    )
+}
+
+#[tactic(auto, unfolding(crate::specs::Relations::some_relation_reader))]
+fn some_relation(tokens: &mut Tokens<'_>) -> Result<Relation, ReadFault>
+    ensures { Reads (spec.some_relation_reader tokens.old) result tokens.new }
+{
+    match read_asked(tokens)? {
+        Asked::Relation(relation) => Ok(relation),
+        _ => Err(tokens.refuse()),
+    }
+}
+
+/// A relational operator, with IS and NOT before it or without. Another word is refused where it stands.
+#[tactic(auto, unfolding(crate::specs::Relations::relation_reader))]
+pub fn relation(tokens: &mut Tokens<'_>) -> Result<Relation, ReadFault>
+    ensures { Reads (spec.relation_reader tokens.old) result tokens.new }
+{
+    if begins_relation(tokens.rest()) {
+        return some_relation(tokens);
+    }
+    let other = past_word(past_word(tokens.rest(), Reserved::Is), Reserved::Not);
+    tokens.go_to(other);
+    Err(tokens.refuse())
+}

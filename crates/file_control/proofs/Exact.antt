@@ -1,0 +1,4 @@
+-- What is read is spelled, and what is spelled is read.
+pub mod Words
+pub mod Clauses
+pub mod Selects

@@ -1,0 +1,49 @@
+//! The phrases of file statements: AT END or INVALID KEY, each with its opposite.
+
+ghost use Rattle.std.specs.Prelude.{◌≡◌};
+ghost use Rattle.grammar.specs.Reading.{Reads};
+ghost use Rattle.statements.specs.FilePhrases as rule;
+ghost use Rattle.statements.specs.Nests.{Nests};
+ghost use Rattle.statements.specs.Reading as spec;
+
+use crate::nesting::Nesting;
+use grammar::{Phrase, ReadFault, Tokens, two_sided};
+use source_tree::{FilePhrases, Phrases, Statement};
+use std::alloc::Global;
+
+/// One of the two stands, or both do.
+fn one_stands(both: &Phrases<Statement>) -> bool
+    ensures { result ≡ rule.one_stands both.now }
+{
+    both.arose.is_some() || both.did_not.is_some()
+}
+
+impl<F: Fn(Global, &mut Tokens<'_>, usize) -> Result<Statement, ReadFault>> Nesting<F> {
+    /// INVALID KEY and its opposite, where one of them stands.
+    #[tactic(auto, unfolding(crate::specs::FilePhrases::key_phrases_reader, crate::specs::Reading::statements))]
+    pub fn key_phrases(&self, tokens: &mut Tokens<'_>) -> Result<FilePhrases<Statement>, ReadFault>
+        requires { Nests self.now.depth (F.pre self.now.statement) (F.post self.now.statement) }
+        ensures { Reads (rule.key_phrases_reader (spec.statements (spec.statement self.now.depth)) tokens.old) result tokens.new }
+    {
+        let both = two_sided(Phrase::InvalidKey, self, self.alloc, tokens)?;
+        Ok(if one_stands(&both) {
+            FilePhrases::InvalidKey(both)
+        } else {
+            FilePhrases::Absent
+        })
+    }
+
+    /// AT END and its opposite, where one of them stands, and else INVALID KEY and its opposite.
+    #[tactic(auto, unfolding(crate::specs::FilePhrases::read_phrases_reader, crate::specs::Reading::statements))]
+    pub fn read_phrases(&self, tokens: &mut Tokens<'_>) -> Result<FilePhrases<Statement>, ReadFault>
+        requires { Nests self.now.depth (F.pre self.now.statement) (F.post self.now.statement) }
+        ensures { Reads (rule.read_phrases_reader (spec.statements (spec.statement self.now.depth)) tokens.old) result tokens.new }
+    {
+        let both = two_sided(Phrase::AtEnd, self, self.alloc, tokens)?;
+        if one_stands(&both) {
+            Ok(FilePhrases::AtEnd(both))
+        } else {
+            self.key_phrases(tokens)
+        }
+    }
+}
