@@ -1,21 +1,14 @@
 -- The first of rules that are looked for in order.
-use Rattle.std.proofs.Common.{◌≡◌, ℕ, ◌<◌, ◌+◌, List, [], ◌∷◌, ◌++◌, None, Some, length, drop, get_or, sym, ap, ◌∙◌, subst, inl, inr, add-one, drop-cons}
-use Rattle.std.specs.Prelude.{Option}
-use Rattle.entry_rules.specs.Answer.{Fails}
+use Rattle.std.proofs.Common.{◌≡◌, ℕ, ◌<◌, ◌+◌, List, [], ◌∷◌, ◌++◌, None, Some, length, drop, get_or, refl, sym, ap, ◌∙◌, subst, inl, inr, add-one, drop-cons}
+use Rattle.std.specs.Prelude.{Option, Result, Ok, Err}
 use Rattle.source_tree.specs.Broken.{Broken, each}
 use Rattle.source_tree.specs.LookUp.{first}
 use Rattle.source_tree.specs.declared.program.Program.{Program}
-use Rattle.source_tree.specs.EntryRules.{entry_rules}
-use Rattle.source_tree.specs.PerformRules.{procedure_name_rules}
 use Rattle.source_tree.specs.Rules.{sections_rules, procedure_rules, program_rules, all_permitted}
-use Rattle.source_tree.specs.declared.entry.Entry.{Entry}
-use Rattle.source_tree.specs.declared.program.Section.{Section}
-use Rattle.source_tree.specs.Places.{items_of}
-use Rattle.source_tree.specs.Procedures.{procedures_of}
-use Rattle.source_tree.specs.Setting.{Scope, scope}
-use Rattle.check_rules.specs.declared.declarations.Declarations.{Declarations}
-use Rattle.check_rules.specs.Named.{scope_in}
-use Rattle.entry_rules.specs.Checks.{IsFirst, first_or}
+use Rattle.source_tree.specs.Setting.{scope}
+use Rattle.check_rules.specs.Declaring.{declaration_rules}
+use Rattle.entry_rules.specs.Checks.{IsFirst, Finds}
+use Rattle.entry_rules.specs.declared.rule.BrokenRule.{BrokenRule}
 use Rattle.check_rules.specs.Told.{IsTold, IsBack}
 
 pub first_front : (xs ys : List Broken) (one : Broken) → first xs ≡ Some one → first (xs ++ ys) ≡ Some one
@@ -24,6 +17,22 @@ first_front (x ∷ xs) ys one e = e
 
 pub front_none : (xs ys : List Broken) → xs ≡ [] → xs ++ ys ≡ ys
 front_none xs ys e = ap (λ l. l ++ ys) e
+
+pub left_none : (xs ys : List Broken) → xs ++ ys ≡ [] → xs ≡ []
+left_none [] ys e = refl
+left_none (x ∷ xs) ys e = absurd cc
+
+pub right_none : (xs ys : List Broken) → xs ++ ys ≡ [] → ys ≡ []
+right_none [] ys e = e
+right_none (x ∷ xs) ys e = absurd cc
+
+pub first_back : (xs ys : List Broken) (one : Broken) → xs ≡ [] → first ys ≡ Some one → first (xs ++ ys) ≡ Some one
+first_back xs ys one e h = ap first (front_none xs ys e) ∙ h
+
+-- What was found of one rule is the first of all.
+pub finds_first : {A : Type 0} (result : Result A BrokenRule) (one : Broken) (all : List Broken) → Finds result (one ∷ []) → first all ≡ Some one → Finds result all
+finds_first (Ok value) one all h e = absurd cc
+finds_first (Err broken) one all h e = e ∙ h
 
 each_at : {A : Type 0} (rules : A → List Broken) (xs : List A) (i : ℕ) (d : A) → i < length xs → each rules (drop i xs) ≡ rules (get_or xs i d) ++ each rules (drop (i + 1) xs)
 each_at rules xs i d h = ap (each rules) (drop-cons xs i d h) ∙ ap (λ k. rules (get_or xs i d) ++ each rules (drop k xs)) (sym (add-one i))
@@ -40,12 +49,6 @@ is_first_front (Some one) xs ys h = first_front xs ys one h
 pub is_first_behind : (fault : Option Broken) (xs ys : List Broken) → xs ≡ [] → IsFirst fault ys → IsFirst fault (xs ++ ys)
 is_first_behind fault xs ys e h = subst (IsFirst fault) (sym (front_none xs ys e)) h
 
--- what is told of the first of these
-pub fails_is_first : {A : Type 0} (value : A) (fault : Option Broken) (rules : List Broken) → Fails fault (first_or value rules) → IsFirst fault rules
-fails_is_first value None rules h = tt
-fails_is_first value (Some one) [] h = absurd cc
-fails_is_first value (Some one) (x ∷ more) h = cc
-
 -- ---- a program
 
 pub told_first : (program : Program) (fault : Option Broken) → IsFirst fault (program_rules program) → IsTold program fault
@@ -59,16 +62,8 @@ told_back program (Some one) kept h = inr (record { kept = kept; rule = h.0; bac
 pub both_none : {A : Type 0} (xs ys : List A) → xs ≡ [] → ys ≡ [] → xs ++ ys ≡ []
 both_none xs ys e f = ap (λ l. l ++ ys) e ∙ f
 
-pub all_none : {A : Type 0} (entries names statements : List A) → entries ≡ [] → names ≡ [] → statements ≡ [] → entries ++ names ++ statements ≡ []
-all_none entries names statements e f g = both_none (entries ++ names) statements (both_none entries names e f) g
-
-pub program_none : (program : Program) → entry_rules program.storage ≡ [] → procedure_name_rules program.sections ≡ [] → sections_rules (scope program) all_permitted program.sections ≡ []
+pub program_none : (program : Program) → declaration_rules program ≡ [] → sections_rules (scope program) all_permitted program.sections ≡ []
     → procedure_rules program ≡ [] → program_rules program ≡ []
-program_none program e f g h =
-    both_none (entry_rules program.storage ++ procedure_name_rules program.sections ++ sections_rules (scope program) all_permitted program.sections) (procedure_rules program)
-    (all_none (entry_rules program.storage) (procedure_name_rules program.sections) (sections_rules (scope program) all_permitted program.sections) e f g) h
-
-pub scope_same : (program : Program) (declared : Declarations) → declared.entries.now ≡ program.storage → declared.sections.now ≡ program.sections → scope program ≡ scope_in declared
-scope_same program declared e f =
-    let both : List Entry → List Section → Scope = λ storage sections. record { items = items_of storage; procedures = procedures_of sections } in
-    ap (λ (l : List Entry). both l program.sections) (sym e) ∙ ap (λ (l : List Section). both declared.entries.now l) (sym f)
+program_none program e f g =
+    both_none (declaration_rules program ++ sections_rules (scope program) all_permitted program.sections) (procedure_rules program)
+    (both_none (declaration_rules program) (sections_rules (scope program) all_permitted program.sections) e f) g

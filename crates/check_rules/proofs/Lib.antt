@@ -1,6 +1,8 @@
 pub mod Firsts
+pub mod GivenNames
 pub mod Parts
 pub mod Operations
+pub mod FilingLayers
 pub mod RuleLayers
 pub mod PerformLayers
 pub mod Permitted
@@ -13,3 +15,6 @@ pub mod Looking
 pub mod Adding
 pub mod PerformedRanges
 pub mod Back
+pub mod ItemEntries
+pub mod EntryNumbers
+pub mod FilesFound

@@ -1,6 +1,7 @@
 -- What the PERFORMs of a statement perform, by those of the statements in it.
 use Rattle.std.proofs.Common.{◌≡◌, List, [], ◌∷◌, ◌++◌, None, Some, refl, ap, ◌∙◌}
 use Rattle.std.specs.Prelude.{Option, map}
+use Rattle.std.specs.Option.{option_map}
 use Rattle.lexical.specs.declared.place.Place.{Place}
 use Rattle.source_tree.specs.declared.arithmetic.Operation.{Operation}
 use Rattle.source_tree.specs.declared.reference.Reference.{Reference}
@@ -9,6 +10,9 @@ use Rattle.source_tree.specs.declared.condition.Condition.{Condition}
 use Rattle.source_tree.specs.declared.branching.Branching.TheVariants.{If, Evaluate}
 use Rattle.source_tree.specs.declared.evaluate.Subject.{Subject}
 use Rattle.source_tree.specs.declared.evaluate.Selected.{Selected}
+use Rattle.source_tree.specs.declared.filing.Filing.{Filing}
+use Rattle.source_tree.specs.declared.phrases.FilePhrases.{FilePhrases}
+use Rattle.source_tree.specs.declared.phrases.FilePhrases.TheVariants.{Absent, AtEnd, InvalidKey}
 use Rattle.source_tree.specs.declared.performing.Performed.{Performed}
 use Rattle.source_tree.specs.declared.performing.Performed.TheVariants.{Procedures, Statements}
 use Rattle.source_tree.specs.declared.performing.Turns.{Turns}
@@ -18,7 +22,9 @@ use Rattle.source_tree.specs.declared.statement.Statement.{Statement, out-Statem
 use Rattle.source_tree.specs.declared.statement.Statement.TheOpen.{Statement-F}
 use Rattle.source_tree.specs.declared.statement.Statement.TheFolds.{map-Statement, fold_out-Statement, fold-roll-Statement}
 use Rattle.source_tree.specs.Procedures.{Procedure}
-use Rattle.source_tree.specs.Recursion.{Performance, each_performs, selected_performs, verb_performs, performs_layer, statement_performs}
+use Rattle.source_tree.specs.Filing.{phrases_of}
+use Rattle.source_tree.specs.Recursion.{Performance, each_performs, phrase_performs, file_phrases_performs, selected_performs, verb_performs, performs_layer, statement_performs}
+use Rattle.check_rules.proofs.FilingLayers.{mapped_phrases, filing_mapped, phrases_mapped}
 
 module _ {A B : Type 0} (f : A → B) (performs : B → List Performance) where
   pub each_map : (all : List A) → each_performs performs (map f all) ≡ each_performs (λ a. performs (f a)) all
@@ -79,6 +85,27 @@ module _ {A B : Type 0} (f : A → B) (performs : B → List Performance) where
       ap (λ l. l ++ each_performs performs (map f other)) (each_map inside)
       ∙ ap (λ l. each_performs (λ a. performs (f a)) inside ++ l) (each_map other)
 
+  -- the statements in the phrases of a file statement
+  pair_map : (arose did_not : Option (List A))
+      → phrase_performs performs (option_map (map f) arose) ++ phrase_performs performs (option_map (map f) did_not)
+      ≡ phrase_performs (λ a. performs (f a)) arose ++ phrase_performs (λ a. performs (f a)) did_not
+  pair_map None None = refl
+  pair_map (Some inside) None = ap (λ l. l ++ []) (each_map inside)
+  pair_map None (Some other) = each_map other
+  pair_map (Some inside) (Some other) =
+      ap (λ l. l ++ each_performs performs (map f other)) (each_map inside)
+      ∙ ap (λ l. each_performs (λ a. performs (f a)) inside ++ l) (each_map other)
+
+  filing_phrases : (phrases : FilePhrases A) → file_phrases_performs performs (mapped_phrases f phrases) ≡ file_phrases_performs (λ a. performs (f a)) phrases
+  filing_phrases Absent = refl
+  filing_phrases (AtEnd one) = pair_map one.arose one.did_not
+  filing_phrases (InvalidKey one) = pair_map one.arose one.did_not
+
+  filed_map : (procedures : List Procedure) (place : Place) (one : Filing A)
+      → verb_performs procedures performs (map-Statement A B f (record { place = place; verb = verb.Filing one })).verb ≡ verb_performs procedures (λ a. performs (f a)) (verb.Filing one)
+  filed_map procedures place one =
+      ap (verb_performs procedures performs) (filing_mapped f place one) ∙ ap (file_phrases_performs performs) (phrases_mapped f one) ∙ filing_phrases (phrases_of one)
+
   pub verb_map : (procedures : List Procedure) (place : Place) (one : Verb A)
       → verb_performs procedures performs (map-Statement A B f (record { place = place; verb = one })).verb ≡ verb_performs procedures (λ a. performs (f a)) one
   verb_map procedures place (verb.Moving one) = refl
@@ -88,6 +115,7 @@ module _ {A B : Type 0} (f : A → B) (performs : B → List Performance) where
   verb_map procedures place (verb.Performing one) = performing_map procedures place one.turns one.performed
   verb_map procedures place (verb.Text one) = refl
   verb_map procedures place (verb.Stringing one) = strung_map procedures place one.sendings one.receiver one.pointer one.phrases.arose one.phrases.did_not
+  verb_map procedures place (verb.Filing one) = filed_map procedures place one
   verb_map procedures place (verb.Ending one) = refl
 
 -- one layer of what a statement performs

@@ -16,6 +16,8 @@ use Rattle.source_tree.specs.declared.evaluate.Selected.{Selected}
 use Rattle.source_tree.specs.declared.performing.Performed.{Performed}
 use Rattle.source_tree.specs.declared.performing.Performed.TheVariants.{Procedures, Statements}
 use Rattle.source_tree.specs.declared.phrases.Phrases.{Phrases}
+use Rattle.source_tree.specs.declared.phrases.FilePhrases.{FilePhrases}
+use Rattle.source_tree.specs.declared.phrases.FilePhrases.TheVariants.{Absent, AtEnd, InvalidKey}
 use Rattle.source_tree.specs.declared.program.Sentence.{Sentence}
 use Rattle.source_tree.specs.declared.program.Paragraph.{Paragraph}
 use Rattle.source_tree.specs.declared.program.Section.{Section}
@@ -28,12 +30,14 @@ use Rattle.source_tree.specs.declared.statement.Statement.TheFolds.{map-Statemen
 use Rattle.source_tree.specs.ArithmeticRules.{operation_rules}
 use Rattle.source_tree.specs.Broken.{Broken, where_so, each}
 use Rattle.source_tree.specs.ConditionRules.{condition_rules}
+use Rattle.source_tree.specs.Filing.{phrases_of}
+use Rattle.source_tree.specs.FilingRules.{filing_rules}
 use Rattle.source_tree.specs.StringRules.{string_rules}
 use Rattle.source_tree.specs.EvaluateRules.{subject_rules, when_rules, selected_rules}
 use Rattle.source_tree.specs.PerformRules.{procedure_named, last_named, last_place, found_rules, range_rules}
 use Rattle.source_tree.specs.Procedures.{Range, Procedure, paragraphs_or_one, paragraphs_in, paragraph_procedures, procedures_from, procedures_of, is_procedure, procedures_named, only_range, range_named, to_end_of, through, range_of}
-use Rattle.source_tree.specs.Recursion.{Performance, each_performs, phrase_performs, selected_performs, range_performs, performed_performs, branching_performs, verb_performs, statement_performs, paragraph_performs, performs_from, performs, performed}
-use Rattle.source_tree.specs.Rules.{phrase_rules, phrases_rules, performed_rules, turns_rules, branching_rules, verb_rules, all_permitted, statement_rules, sentence_rules, paragraph_rules, sections_rules}
+use Rattle.source_tree.specs.Recursion.{Performance, each_performs, phrase_performs, file_phrases_performs, selected_performs, range_performs, performed_performs, branching_performs, verb_performs, statement_performs, paragraph_performs, performs_from, performs, performed}
+use Rattle.source_tree.specs.Rules.{phrase_rules, phrases_rules, file_phrases_rules, performed_rules, turns_rules, branching_rules, verb_rules, all_permitted, statement_rules, sentence_rules, paragraph_rules, sections_rules}
 use Rattle.source_tree.specs.Setting.{Scope, paragraphs}
 use Rattle.check_rules.specs.declared.declarations.Declarations.{Declarations}
 use Rattle.check_rules.specs.declared.performs.Performs.{Performs}
@@ -169,6 +173,11 @@ module _ (items_and : Scope) (count : ℕ) (below : AllByRecursion (LiesBelow co
         (phrase_in_order phrases.arose (left_none (phrase_rules rules phrases.arose) (phrase_rules rules phrases.did_not) e))
         (phrase_in_order phrases.did_not (right_none (phrase_rules rules phrases.arose) (phrase_rules rules phrases.did_not) e))
 
+    file_phrases_in_order : (phrases : FilePhrases S) → file_phrases_rules rules phrases ≡ [] → AreInOrder (file_phrases_performs performs phrases)
+    file_phrases_in_order Absent e = tt
+    file_phrases_in_order (AtEnd phrases) e = phrases_in_order phrases e
+    file_phrases_in_order (InvalidKey phrases) e = phrases_in_order phrases e
+
     performed_in_order : (one : Performed S) → performed_rules procedures all_permitted rules one ≡ [] → AreInOrder (performed_performs procedures performs one)
     performed_in_order (Procedures first last) e = range_in_order first last e
     performed_in_order (Statements statements) e = each_in_order statements e
@@ -204,6 +213,8 @@ module _ (items_and : Scope) (count : ℕ) (below : AllByRecursion (LiesBelow co
         performed_in_order one.performed (right_none (turns_rules items_and.items one.turns) (performed_rules procedures all_permitted rules one.performed) e)
     verb_in_order (verb.Text one) e = tt
     verb_in_order (verb.Stringing one) e = phrases_in_order one.phrases (right_none (string_rules items_and.items one) (phrases_rules rules one.phrases) e)
+    verb_in_order (verb.Filing one) e =
+        file_phrases_in_order (phrases_of one) (right_none (filing_rules items_and.items items_and.files one) (file_phrases_rules rules (phrases_of one)) e)
     verb_in_order (verb.Ending one) e = tt
 
   record KeepsOrder (one : Statement) : Type 0 where
@@ -287,13 +298,12 @@ pub record IsCollected (program : Program) (all : Performs) (paragraph_count : �
   pub places : all.places.items ≡ map (λ (one : Place × PerformedRange). one.0) (performs program)
   pub ranges : all.ranges.items ≡ performed program
 
-pub collected : (declared : Declarations) (program : Program) (sections : List Section) (old new : Performs) (count : ℕ)
-    → declared.sections.now ≡ program.sections → sections ≡ program.sections → old.places.items ≡ [] → old.ranges.items ≡ []
-    → count ≡ length (paragraphs_in sections) → Adds old new (performs_from (procedures_in declared) 0 (paragraphs_in sections)) → IsCollected program new count
-collected declared program sections old new count is same places ranges counted added =
-    let whole : performs_from (procedures_in declared) 0 (paragraphs_in sections) ≡ performs program =
-    ap (λ (l : List Section). performs_from (procedures_of l) 0 (paragraphs_in sections)) is
-    ∙ ap (λ (l : List Section). performs_from (procedures_of program.sections) 0 (paragraphs_in l)) same in
+pub collected : (declared : Declarations) (sections : List Section) (old new : Performs) (count : ℕ)
+    → sections ≡ declared.program.now.sections → old.places.items ≡ [] → old.ranges.items ≡ []
+    → count ≡ length (paragraphs_in sections) → Adds old new (performs_from (procedures_in declared) 0 (paragraphs_in sections)) → IsCollected declared.program.now new count
+collected declared sections old new count same places ranges counted added =
+    let whole : performs_from (procedures_in declared) 0 (paragraphs_in sections) ≡ performs declared.program.now =
+    ap (λ (l : List Section). performs_from (procedures_in declared) 0 (paragraphs_in l)) same in
     record {
       count = counted ∙ ap (λ (l : List Section). length (paragraphs_in l)) same;
       places = added.places ∙ ap (λ l. l ++ map (λ (one : Place × PerformedRange). one.0) (performs_from (procedures_in declared) 0 (paragraphs_in sections))) places
@@ -302,14 +312,12 @@ collected declared program sections old new count is same places ranges counted 
           ∙ ap (map (λ (one : Place × PerformedRange). one.1)) whole;
     }
 
-pub collected_ranges : (declared : Declarations) (program : Program) (all : Performs) (count : ℕ) → declared.sections.now ≡ program.sections
-    → sections_rules (scope_in declared) all_permitted program.sections ≡ [] → IsCollected program all count → All (IsRange count) all.ranges.items
-collected_ranges declared program all count is kept h =
-    let whole : map (λ (one : Place × PerformedRange). one.1) (performs_from (procedures_in declared) 0 (paragraphs_in program.sections)) ≡ performed program =
-    ap (λ (l : List Section). map (λ (one : Place × PerformedRange). one.1) (performs_from (procedures_of l) 0 (paragraphs_in program.sections))) is in
+pub collected_ranges : (declared : Declarations) (all : Performs) (count : ℕ)
+    → sections_rules (scope_in declared) all_permitted declared.program.now.sections ≡ [] → IsCollected declared.program.now all count → All (IsRange count) all.ranges.items
+collected_ranges declared all count kept h =
+    let sections = declared.program.now.sections in
     subst (λ (n : ℕ). All (IsRange n) all.ranges.items) (sym h.count)
-    (subst (All (IsRange (length (paragraphs program)))) (whole ∙ sym h.ranges)
-    (performed_ranges (scope_in declared) program.sections (ap procedures_of is) kept))
+    (subst (All (IsRange (length (paragraphs declared.program.now)))) (sym h.ranges) (performed_ranges (scope_in declared) sections refl kept))
 
 -- a number behind each
 pub ranges_end : (count : ℕ) (ranges : List PerformedRange) → count < 2 ^ 64 → All (IsRange count) ranges → All HasNext ranges

@@ -11,6 +11,8 @@ use Rattle.source_tree.specs.declared.evaluate.Selected.{Selected}
 use Rattle.source_tree.specs.declared.performing.Performed.{Performed}
 use Rattle.source_tree.specs.declared.performing.Performed.TheVariants.{Procedures, Statements}
 use Rattle.source_tree.specs.declared.phrases.Phrases.{Phrases}
+use Rattle.source_tree.specs.declared.phrases.FilePhrases.{FilePhrases}
+use Rattle.source_tree.specs.declared.phrases.FilePhrases.TheVariants.{Absent, AtEnd, InvalidKey}
 use Rattle.source_tree.specs.declared.statement.Verb.{Verb}
 use Rattle.source_tree.specs.declared.statement.Verb.TheVariants as verb
 use Rattle.source_tree.specs.declared.statement.Statement.{Statement, roll-Statement}
@@ -19,12 +21,14 @@ use Rattle.source_tree.specs.declared.statement.Statement.TheFolds.{map-Statemen
 use Rattle.source_tree.specs.ArithmeticRules.{operation_rules}
 use Rattle.source_tree.specs.Broken.{Broken, where_so, each}
 use Rattle.source_tree.specs.ConditionRules.{condition_rules}
+use Rattle.source_tree.specs.Filing.{phrases_of}
+use Rattle.source_tree.specs.FilingRules.{filing_rules}
 use Rattle.source_tree.specs.StringRules.{string_rules}
 use Rattle.source_tree.specs.EvaluateRules.{subject_rules, when_rules, selected_rules}
 use Rattle.source_tree.specs.PerformRules.{procedure_named, last_named, last_place, found_rules, range_rules}
 use Rattle.source_tree.specs.Procedures.{Range, range_of}
-use Rattle.source_tree.specs.Recursion.{Performance, each_performs, phrase_performs, selected_performs, range_performs, performed_performs, branching_performs, verb_performs, statement_performs}
-use Rattle.source_tree.specs.Rules.{phrase_rules, phrases_rules, performed_rules, turns_rules, branching_rules, verb_rules, all_permitted, statement_rules}
+use Rattle.source_tree.specs.Recursion.{Performance, each_performs, phrase_performs, file_phrases_performs, selected_performs, range_performs, performed_performs, branching_performs, verb_performs, statement_performs}
+use Rattle.source_tree.specs.Rules.{phrase_rules, phrases_rules, file_phrases_rules, performed_rules, turns_rules, branching_rules, verb_rules, all_permitted, statement_rules}
 use Rattle.source_tree.specs.Setting.{Scope}
 use Rattle.check_rules.proofs.RuleLayers.{mapped_rules}
 use Rattle.check_rules.proofs.PerformLayers.{mapped_performs}
@@ -78,6 +82,11 @@ module _ (scope : Scope) (permits : Range → Bool) where
         let back = phrase_same phrases.did_not (all_back IsPermitted (phrase_performs performs phrases.arose) (phrase_performs performs phrases.did_not) h) in
         ap (λ l. l ++ phrase_rules rules phrases.did_not) front ∙ ap (λ l. phrase_rules others phrases.arose ++ l) back
 
+    file_phrases_same : (phrases : FilePhrases S) → ArePermitted (file_phrases_performs performs phrases) → file_phrases_rules rules phrases ≡ file_phrases_rules others phrases
+    file_phrases_same Absent h = refl
+    file_phrases_same (AtEnd phrases) h = phrases_same phrases h
+    file_phrases_same (InvalidKey phrases) h = phrases_same phrases h
+
     performed_same : (one : Performed S) → ArePermitted (performed_performs scope.procedures performs one)
         → performed_rules scope.procedures permits rules one ≡ performed_rules scope.procedures all_permitted others one
     performed_same (Procedures first last) h = range_same first last h
@@ -111,6 +120,7 @@ module _ (scope : Scope) (permits : Range → Bool) where
     verb_same (verb.Performing one) h = ap (λ l. turns_rules scope.items one.turns ++ l) (performed_same one.performed h)
     verb_same (verb.Text one) h = refl
     verb_same (verb.Stringing one) h = ap (λ l. string_rules scope.items one ++ l) (phrases_same one.phrases h)
+    verb_same (verb.Filing one) h = ap (λ l. filing_rules scope.items scope.files one ++ l) (file_phrases_same (phrases_of one) h)
     verb_same (verb.Ending one) h = refl
 
   record IsSame (one : Statement) : Type 0 where

@@ -1,6 +1,7 @@
 -- The rules of a statement, by those of the statements in it.
 use Rattle.std.proofs.Common.{◌≡◌, List, [], ◌∷◌, ◌++◌, None, Some, refl, ap, ◌∙◌}
 use Rattle.std.specs.Prelude.{Bool, Option, map}
+use Rattle.std.specs.Option.{option_map}
 use Rattle.lexical.specs.declared.place.Place.{Place}
 use Rattle.source_tree.specs.declared.arithmetic.Operation.{Operation}
 use Rattle.source_tree.specs.declared.reference.Reference.{Reference}
@@ -9,6 +10,9 @@ use Rattle.source_tree.specs.declared.condition.Condition.{Condition}
 use Rattle.source_tree.specs.declared.branching.Branching.TheVariants.{If, Evaluate}
 use Rattle.source_tree.specs.declared.evaluate.Subject.{Subject}
 use Rattle.source_tree.specs.declared.evaluate.Selected.{Selected}
+use Rattle.source_tree.specs.declared.filing.Filing.{Filing}
+use Rattle.source_tree.specs.declared.phrases.FilePhrases.{FilePhrases}
+use Rattle.source_tree.specs.declared.phrases.FilePhrases.TheVariants.{Absent, AtEnd, InvalidKey}
 use Rattle.source_tree.specs.declared.performing.Performed.{Performed}
 use Rattle.source_tree.specs.declared.performing.Performed.TheVariants.{Procedures, Statements}
 use Rattle.source_tree.specs.declared.performing.Turns.{Turns}
@@ -20,12 +24,15 @@ use Rattle.source_tree.specs.declared.statement.Statement.TheFolds.{map-Statemen
 use Rattle.source_tree.specs.Broken.{Broken, each}
 use Rattle.source_tree.specs.ArithmeticRules.{operation_rules}
 use Rattle.source_tree.specs.ConditionRules.{condition_rules}
+use Rattle.source_tree.specs.Filing.{phrases_of}
+use Rattle.source_tree.specs.FilingRules.{filing_rules}
 use Rattle.source_tree.specs.StringRules.{string_rules}
 use Rattle.source_tree.specs.EvaluateRules.{subject_rules, when_rules, selected_rules}
 use Rattle.source_tree.specs.Places.{Placed}
 use Rattle.source_tree.specs.Procedures.{Range}
 use Rattle.source_tree.specs.Setting.{Scope}
-use Rattle.source_tree.specs.Rules.{turns_rules, verb_rules, statement_layer, statement_rules}
+use Rattle.source_tree.specs.Rules.{phrase_rules, file_phrases_rules, turns_rules, verb_rules, statement_layer, statement_rules}
+use Rattle.check_rules.proofs.FilingLayers.{mapped_phrases, mapped_filing, filing_mapped, phrases_mapped, own_rules_same}
 
 module _ {A B : Type 0} (f : A → B) (rules : B → List Broken) where
   pub each_map : (all : List A) → each rules (map f all) ≡ each (λ a. rules (f a)) all
@@ -41,6 +48,13 @@ module _ {A B : Type 0} (f : A → B) (rules : B → List Broken) where
       let others : List (Selected B) = map (λ (one : Selected A). record { whens = one.whens; statements = map f one.statements }) more in
       ap (λ l. each (when_rules items subjects) one.whens ++ l ++ each (selected_rules items rules subjects) others) (each_map one.statements)
       ∙ ap (λ l. each (when_rules items subjects) one.whens ++ each (λ a. rules (f a)) one.statements ++ l) (selected_map items subjects more)
+
+  pair_map : (arose did_not : Option (List A))
+      → phrase_rules rules (option_map (map f) arose) ++ phrase_rules rules (option_map (map f) did_not) ≡ phrase_rules (λ a. rules (f a)) arose ++ phrase_rules (λ a. rules (f a)) did_not
+  pair_map None None = refl
+  pair_map (Some inside) None = ap (λ l. l ++ []) (each_map inside)
+  pair_map None (Some other) = each_map other
+  pair_map (Some inside) (Some other) = ap (λ l. l ++ each rules (map f other)) (each_map inside) ∙ ap (λ l. each (λ a. rules (f a)) inside ++ l) (each_map other)
 
   module _ (scope : Scope) (permits : Range → Bool) where
     performing_map : (place : Place) (often : Turns) (what : Performed A)
@@ -93,6 +107,20 @@ module _ {A B : Type 0} (f : A → B) (rules : B → List Broken) where
         ap (λ l. front_of sendings receiver pointer ++ (l ++ each rules (map f other))) (each_map inside)
         ∙ ap (λ l. front_of sendings receiver pointer ++ (each (λ a. rules (f a)) inside ++ l)) (each_map other)
 
+    -- the statements in the phrases of a file statement
+    filing_phrases : (phrases : FilePhrases A) → file_phrases_rules rules (mapped_phrases f phrases) ≡ file_phrases_rules (λ a. rules (f a)) phrases
+    filing_phrases Absent = refl
+    filing_phrases (AtEnd one) = pair_map one.arose one.did_not
+    filing_phrases (InvalidKey one) = pair_map one.arose one.did_not
+
+    filed_map : (place : Place) (one : Filing A)
+        → verb_rules scope permits rules (map-Statement A B f (record { place = place; verb = verb.Filing one })).verb ≡ verb_rules scope permits (λ a. rules (f a)) (verb.Filing one)
+    filed_map place one =
+        ap (verb_rules scope permits rules) (filing_mapped f place one)
+        ∙ ap (λ l. l ++ file_phrases_rules rules (phrases_of (mapped_filing f one))) (own_rules_same f scope.items scope.files one)
+        ∙ ap (λ (p : FilePhrases B). filing_rules scope.items scope.files one ++ file_phrases_rules rules p) (phrases_mapped f one)
+        ∙ ap (λ l. filing_rules scope.items scope.files one ++ l) (filing_phrases (phrases_of one))
+
     pub verb_map : (place : Place) (one : Verb A)
         → verb_rules scope permits rules (map-Statement A B f (record { place = place; verb = one })).verb ≡ verb_rules scope permits (λ a. rules (f a)) one
     verb_map place (verb.Moving one) = refl
@@ -102,6 +130,7 @@ module _ {A B : Type 0} (f : A → B) (rules : B → List Broken) where
     verb_map place (verb.Performing one) = performing_map place one.turns one.performed
     verb_map place (verb.Text one) = refl
     verb_map place (verb.Stringing one) = strung_map place one.sendings one.receiver one.pointer one.phrases.arose one.phrases.did_not
+    verb_map place (verb.Filing one) = filed_map place one
     verb_map place (verb.Ending one) = refl
 
 module _ (scope : Scope) (permits : Range → Bool) where

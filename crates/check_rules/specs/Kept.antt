@@ -1,14 +1,11 @@
--- A program that keeps the rules, and what it declares.
+-- What a program declares that keeps the rules.
 use Rattle.std.specs.Prelude.{◌≡◌, []}
-use Rattle.source_tree.specs.declared.program.Program.{Program}
 use Rattle.source_tree.specs.Recursion.{HasOrder}
 use Rattle.source_tree.specs.Rules.{program_rules}
 use Rattle.check_rules.specs.declared.declarations.Declarations.{Declarations}
 use Rattle.check_rules.specs.Named.{IsDeclared}
 
-pub record KeepsRules (program : Program) (declarations : Declarations) : Type 0 where
-  pub rules : program_rules program ≡ []
-  pub order : HasOrder program
+pub record KeepsRules (declarations : Declarations) : Type 0 where
+  pub rules : program_rules declarations.program.now ≡ []
+  pub order : HasOrder declarations.program.now
   pub declared : IsDeclared declarations
-  pub entries : declarations.entries.now ≡ program.storage
-  pub sections : declarations.sections.now ≡ program.sections

@@ -7,3 +7,10 @@ pub mod Kept
 pub mod Told
 pub mod Performs
 pub mod Looking
+pub mod Found
+pub mod Selecting
+pub mod Declaring
+pub mod FoundFiles
+pub mod Entries
+pub mod FiledKeys
+pub mod Filed

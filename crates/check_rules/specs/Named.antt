@@ -7,35 +7,45 @@ use Rattle.source_tree.specs.declared.reference.QualifiedName.{QualifiedName}
 use Rattle.source_tree.specs.declared.reference.Reference.{Reference}
 use Rattle.source_tree.specs.LookUp.{first, items_named}
 use Rattle.source_tree.specs.NameRules.{named, subscript_item}
-use Rattle.source_tree.specs.Places.{Placed, items_of}
+use Rattle.source_tree.specs.FileRules.{program_file_rules}
+use Rattle.source_tree.specs.Places.{Placed}
+use Rattle.source_tree.specs.ProgramFiles.{ProgramFile, files_of}
+use Rattle.source_tree.specs.Records.{program_items}
 use Rattle.source_tree.specs.Procedures.{Procedure, procedures_of}
-use Rattle.source_tree.specs.Setting.{Scope}
+use Rattle.source_tree.specs.Setting.{Scope, scope}
 use Rattle.layout.specs.declared.placed.PlacedItem.{PlacedItem}
 use Rattle.layout.specs.Placing.{placed_item}
 use Rattle.names.specs.Items.{called_item}
 use Rattle.names.specs.Conditions.{AreConditions}
 use Rattle.names.specs.Procedures.{AreProcedures}
 use Rattle.names.specs.Table.{IsTable, calls_in}
+use Rattle.program_files.specs.Files.{AreFiles}
 use Rattle.entry_rules.specs.declared.rule.BrokenRule.{BrokenRule}
 use Rattle.entry_rules.specs.Checks.{broken_of}
 use Rattle.check_rules.specs.declared.declarations.Declarations.{Declarations}
 
 abbrev pub items_in : Declarations → List Placed
-items_in all = items_of all.entries.now
+items_in all = program_items all.program.now
+
+abbrev pub files_in : Declarations → List ProgramFile
+files_in all = files_of (items_in all) all.program.now
 
 abbrev pub procedures_in : Declarations → List Procedure
-procedures_in all = procedures_of all.sections.now
+procedures_in all = procedures_of all.program.now.sections
 
 -- what names name
 abbrev pub scope_in : Declarations → Scope
-scope_in all = record { items = items_in all; procedures = procedures_in all }
+scope_in all = scope all.program.now
 
--- Names and places are those of the items, and the names of procedures those of the sections.
+-- Names and places are those of the program's items, the files those of its SELECTs, which keep their rules, and the names of procedures
+-- those of its sections.
 pub record IsDeclared (all : Declarations) : Type 0 where
   pub table : IsTable all.names
   pub calls : calls_in all.names ≡ map called_item (items_in all)
   pub items : all.layout.items ≡ map placed_item (items_in all)
   pub conditions : AreConditions (items_in all) all.conditions
+  pub files : AreFiles (items_in all) all.program.now all.files
+  pub file_rules : program_file_rules (items_in all) all.program.now ≡ []
   pub procedures : AreProcedures (procedures_in all) all.procedures
 
 abbrev pub told : Result (Bor PlacedItem) BrokenRule → Result PlacedItem BrokenRule

@@ -1,18 +1,17 @@
 //! Programs that keep the rules.
 
 ghost use Rattle.std.specs.Prelude.{◌≡◌, [], IfOk, IfErr, OnOk};
-ghost use Rattle.source_tree.specs.EntryRules.{entry_rules};
-ghost use Rattle.source_tree.specs.PerformRules.{procedure_name_rules};
 ghost use Rattle.source_tree.specs.Recursion.{HasOrder};
 ghost use Rattle.source_tree.specs.Rules.{program_rules};
 ghost use Rattle.entry_rules.specs.Checks.{fault_of};
+ghost use Rattle.check_rules.specs.Declaring.{declaration_rules};
 ghost use Rattle.check_rules.specs.Named.{IsDeclared};
 ghost use Rattle.check_rules.specs.Told.{IsTold};
 
 use crate::declarations::Declarations;
 use crate::procedure::procedure_rules;
 use answers::beside;
-use entry_rules::{CheckError, check_entries};
+use entry_rules::CheckError;
 use source_tree::Program;
 use std::alloc::Global;
 use std::marker::Model;
@@ -20,7 +19,6 @@ use std::marker::Model;
 /// A program that keeps the rules, with what it declares.
 #[derive(Drop)]
 pub struct Checked<'a> {
-    program: &'a Program,
     declarations: Declarations<'a>,
 }
 
@@ -35,9 +33,9 @@ impl<'a> Model for Checked<'a> {
 
     ghost use Rattle.check_rules.specs.Kept.{KeepsRules};
 
-    ghost view = { λ checked. checked.program.now };
+    ghost view = { λ checked. checked.declarations.program.now };
 
-    ghost invariant = { λ checked. KeepsRules checked.program.now checked.declarations };
+    ghost invariant = { λ checked. KeepsRules checked.declarations };
 }
 
 impl<'a> Checked<'a> {
@@ -47,21 +45,20 @@ impl<'a> Checked<'a> {
         ensures kept { program_rules self.now ≡ [] }
         ensures order { HasOrder self.now }
     {
-        self.program
+        self.declarations.program
     }
 
-    /// What its working storage and its sections declare.
+    /// What it declares.
     pub fn declarations(&self) -> &Declarations<'a>
         ensures declared { IsDeclared result.now }
-        ensures entries { result.now.entries.now ≡ self.now.storage }
-        ensures sections { result.now.sections.now ≡ self.now.sections }
+        ensures program { result.now.program.now ≡ self.now }
     {
         &self.declarations
     }
 }
 
-/// Whether a program keeps the rules: 17, 18, 40 to 56, 67 and 69. Otherwise the answer is the first that it breaks, in
-/// the order of the definition: those of its entries, those of the names of its procedures, those of its statements in the order of
+/// Whether a program keeps the rules: 17, 18 and 40 to 69. Otherwise the answer is the first that it breaks, in the order of the
+/// definition: those of its entries, those of its files, those of the names of its procedures, those of its statements in the order of
 /// the text, and then 56; and 54 only where it breaks no other.
 pub fn check(alloc: Global, program: &Program) -> Result<Checked<'_>, CheckError>
     ensures program { IfOk result (λ checked. checked ≡ program.now) }
@@ -71,34 +68,24 @@ pub fn check(alloc: Global, program: &Program) -> Result<Checked<'_>, CheckError
     // A refusal tells the first rule that is broken, or a PERFORM that leads back where none is, unless memory runs out.
     ensures exact { IfErr result (λ e. IsTold program.now (fault_of e)) }
 {
-    let storage = program.storage.as_slice();
-    let sections = program.sections.as_slice();
-    check_entries(alloc, storage)?;
-    let declarations = Declarations::of(alloc, storage, sections)?;
-    let ruled = declarations.procedure_division_rules(alloc, program);
+    let declarations = Declarations::of(alloc, program)?;
+    let ruled = declarations.procedure_division_rules(alloc);
     let (declarations, ()) = beside(declarations, ruled)?;
-    Ok(Checked {
-        program,
-        declarations,
-    })
+    Ok(Checked { declarations })
 }
 
 impl<'a> Declarations<'a> {
     /// The rules of the statements, 56 and 54, of a program that breaks none before them.
-    fn procedure_division_rules(&self, alloc: Global, program: &Program) -> Result<(), CheckError>
+    fn procedure_division_rules(&self, alloc: Global) -> Result<(), CheckError>
         requires declared { IsDeclared self.now }
-        requires entries { self.now.entries.now ≡ program.now.storage }
-        requires sections { self.now.sections.now ≡ program.now.sections }
-        requires kept_entries { entry_rules program.now.storage ≡ [] }
-        requires kept_names { procedure_name_rules program.now.sections ≡ [] }
-        ensures kept { OnOk result (program_rules program.now ≡ []) }
-        ensures order { OnOk result (HasOrder program.now) }
-        ensures exact { IfErr result (λ e. IsTold program.now (fault_of e)) }
+        requires kept { declaration_rules self.now.program.now ≡ [] }
+        ensures kept { OnOk result (program_rules self.now.program.now ≡ []) }
+        ensures order { OnOk result (HasOrder self.now.program.now) }
+        ensures exact { IfErr result (λ e. IsTold self.now.program.now (fault_of e)) }
     {
-        let sections = program.sections.as_slice();
-        self.sections_rules(sections)?;
-        procedure_rules(program)?;
-        self.recursion_rules(alloc, program)?;
+        self.sections_rules(self.program.sections.as_slice())?;
+        procedure_rules(self.program)?;
+        self.recursion_rules(alloc)?;
         Ok(())
     }
 }

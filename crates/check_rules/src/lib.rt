@@ -1,4 +1,4 @@
-//! The rules of programs: whether entries, references and statements keep them, or the first that they break.
+//! The rules of programs: whether entries, files, references and statements keep them, or the first that they break.
 #![tactic(auto)]
 
 mod arithmetic;
@@ -7,18 +7,28 @@ mod checked;
 mod compared;
 mod conditions;
 mod declarations;
+mod declared_items;
 mod evaluate;
 mod expression;
+mod file_keys;
+mod file_names;
+mod file_phrases;
+mod filing;
 mod forms;
+mod found_files;
 mod initializing;
 mod inspecting;
+mod keys;
 mod looked;
 mod moving;
 mod performs;
 mod procedure;
 mod procedures;
+mod record_area;
+mod record_entries;
 mod recursion;
 mod references;
+mod selects;
 mod sent;
 mod setting;
 mod sides;

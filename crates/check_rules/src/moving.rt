@@ -3,6 +3,7 @@
 ghost use Rattle.std.specs.Prelude.{◌≡◌};
 ghost use Rattle.entry_rules.specs.Checks.{Finds};
 ghost use Rattle.source_tree.specs.Broken.{each};
+ghost use Rattle.source_tree.specs.declared.expression.Operand.TheVariants.{Item};
 ghost use Rattle.source_tree.specs.NameRules as names;
 ghost use Rattle.source_tree.specs.MoveRules as spec;
 ghost use Rattle.check_rules.specs.Named.{IsDeclared, items_in};
@@ -27,16 +28,24 @@ impl<'a> Declarations<'a> {
         }
     }
 
-    /// What a sender asks of receivers; nothing where its name doesn't name one item.
+    /// What an item asks of receivers; nothing where its name doesn't name one item.
+    fn asked_by_item(&self, sender: &Reference) -> Asked
+        requires { IsDeclared self.now }
+        ensures { result ≡ asked_by (spec.sent_by (items_in self.now) (Item sender.now)) }
+    {
+        match self.item_named(&sender.item) {
+            Ok(found) => Asked::Receives(Sent::by_item(found.item)),
+            Err(_) => Asked::Nothing,
+        }
+    }
+
+    /// What a sender asks of receivers.
     fn asked_by(&self, sender: &Operand) -> Asked
         requires { IsDeclared self.now }
         ensures { result ≡ asked_by (spec.sent_by (items_in self.now) sender.now) }
     {
         match sender {
-            Operand::Item(reference) => match self.item_named(&reference.item) {
-                Ok(found) => Asked::Receives(Sent::by_item(found.item)),
-                Err(_) => Asked::Nothing,
-            },
+            Operand::Item(reference) => self.asked_by_item(reference),
             Operand::Literal(literal) => Asked::Receives(Sent::by_literal(&literal.value)),
         }
     }
@@ -50,6 +59,19 @@ impl<'a> Declarations<'a> {
             self.item_rules(asked, one)?;
         }
         Ok(())
+    }
+
+    /// MOVE of an item to receivers.
+    pub(crate) fn move_item_rules(
+        &self,
+        sender: &Reference,
+        receivers: &[Reference],
+    ) -> Result<(), BrokenRule>
+        requires { IsDeclared self.now }
+        ensures { Finds result (spec.move_rules (items_in self.now) (Item sender.now) receivers.now) }
+    {
+        self.item_rules(Asked::Nothing, sender)?;
+        self.receivers_rules(self.asked_by_item(sender), receivers)
     }
 
     /// MOVE of a sender to receivers.

@@ -3,15 +3,16 @@
 ghost use Rattle.std.specs.Prelude.{◌≡◌, ◌+◌, ◌<◌, ◌^◌, [], ◌∷◌, length, IfOk, OnOk};
 ghost use Rattle.source_tree.specs.Procedures.{paragraphs_in, paragraphs_or_one, range_of};
 ghost use Rattle.source_tree.specs.Recursion as spec;
-ghost use Rattle.source_tree.specs.Recursion.{each_performs, performs_from, selected_performs};
+ghost use Rattle.source_tree.specs.Filing.{phrases_of};
+ghost use Rattle.source_tree.specs.Recursion.{each_performs, file_phrases_performs, performs_from, phrases_performs, selected_performs};
 ghost use Rattle.check_rules.specs.Named.{IsDeclared, procedures_in};
 ghost use Rattle.check_rules.specs.Performs.{Adds, AddsPhrase, in_paragraph};
 
 use crate::declarations::Declarations;
 use perform_order::PerformedRange;
 use source_tree::{
-    Arithmetic, Branching, Evaluate, Name, Paragraph, Performed, Performing, Phrases, Place,
-    Section, Selected, Sentence, Statement, Stringing, Verb,
+    Arithmetic, Branching, Evaluate, FilePhrases, Filing, Name, Paragraph, Performed, Performing,
+    Phrases, Place, Section, Selected, Sentence, Statement, Stringing, Verb,
 };
 use sqlite_items::Items;
 use std::alloc::{AllocError, Global};
@@ -112,6 +113,7 @@ impl<'a> Declarations<'a> {
                 self.phrase_performs(number, arose, all)?;
                 self.phrase_performs(number, did_not, all)
             }
+            Verb::Filing(filing) => self.filing_performs(number, filing, all),
             Verb::Moving(_) | Verb::Text(_) | Verb::Ending(_) => Ok(()),
         }
     }
@@ -147,6 +149,61 @@ impl<'a> Declarations<'a> {
         match phrase {
             None => Ok(()),
             Some(inside) => self.statements_performs(number, inside.as_slice(), all),
+        }
+    }
+
+    /// Those of a phrase and its opposite.
+    #[cycle(performs)]
+    fn pair_performs(
+        &self,
+        number: usize,
+        pair: &Phrases<Statement>,
+        all: &mut Performs,
+    ) -> Result<(), AllocError>
+        requires { IsDeclared self.now }
+        ensures { OnOk result (Adds all.old all.new (in_paragraph number (phrases_performs (spec.statement_performs (procedures_in self.now)) pair.now))) }
+    {
+        self.phrase_performs(number, &pair.arose, all)?;
+        self.phrase_performs(number, &pair.did_not, all)
+    }
+
+    /// Those of the phrases of a file statement.
+    #[cycle(performs)]
+    fn file_phrases_performs(
+        &self,
+        number: usize,
+        phrases: &FilePhrases<Statement>,
+        all: &mut Performs,
+    ) -> Result<(), AllocError>
+        requires { IsDeclared self.now }
+        ensures { OnOk result (Adds all.old all.new (in_paragraph number (file_phrases_performs (spec.statement_performs (procedures_in self.now)) phrases.now))) }
+    {
+        match phrases {
+            FilePhrases::Absent => Ok(()),
+            FilePhrases::AtEnd(pair) => self.pair_performs(number, pair, all),
+            FilePhrases::InvalidKey(pair) => self.pair_performs(number, pair, all),
+        }
+    }
+
+    /// Those of a file statement.
+    #[cycle(performs)]
+    fn filing_performs(
+        &self,
+        number: usize,
+        one: &Filing<Statement>,
+        all: &mut Performs,
+    ) -> Result<(), AllocError>
+        requires { IsDeclared self.now }
+        ensures { OnOk result (Adds all.old all.new (in_paragraph number (file_phrases_performs (spec.statement_performs (procedures_in self.now)) (phrases_of one.now)))) }
+    {
+        match one {
+            Filing::Open { .. } => Ok(()),
+            Filing::Close { .. } => Ok(()),
+            Filing::Read { phrases, .. } => self.file_phrases_performs(number, phrases, all),
+            Filing::Write { phrases, .. } => self.file_phrases_performs(number, phrases, all),
+            Filing::Rewrite { phrases, .. } => self.file_phrases_performs(number, phrases, all),
+            Filing::Delete { phrases, .. } => self.file_phrases_performs(number, phrases, all),
+            Filing::Start { phrases, .. } => self.file_phrases_performs(number, phrases, all),
         }
     }
 

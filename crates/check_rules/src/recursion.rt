@@ -13,7 +13,6 @@ use crate::declarations::Declarations;
 use crate::performs::Performs;
 use entry_rules::{BrokenRule, CheckError, Rule};
 use perform_order::{Order, PerformedRange, order_of};
-use source_tree::Program;
 use std::alloc::Global;
 
 fn is_marked(marked: &[bool], paragraph: usize) -> bool
@@ -57,15 +56,14 @@ fn first_back(marked: &[bool], ranges: &[PerformedRange]) -> Option<usize>
 impl<'a> Declarations<'a> {
     /// No PERFORM of the program leads back. Where one does, the answer is at the first that stands in one of some paragraphs that
     /// perform one another, and performs one of them.
-    pub(crate) fn recursion_rules(&self, alloc: Global, program: &Program) -> Result<(), CheckError>
+    pub(crate) fn recursion_rules(&self, alloc: Global) -> Result<(), CheckError>
         requires declared { IsDeclared self.now }
-        requires sections { self.now.sections.now ≡ program.now.sections }
-        requires kept { sections_rules (scope_in self.now) all_permitted program.now.sections ≡ [] }
-        ensures order { OnOk result (HasOrder program.now) }
-        ensures back { IfErr result (λ e. IsBack program.now (fault_of e)) }
+        requires kept { sections_rules (scope_in self.now) all_permitted self.now.program.now.sections ≡ [] }
+        ensures order { OnOk result (HasOrder self.now.program.now) }
+        ensures back { IfErr result (λ e. IsBack self.now.program.now (fault_of e)) }
     {
         let mut all = Performs::new(alloc);
-        let count = self.sections_performs(program.sections.as_slice(), &mut all)?;
+        let count = self.sections_performs(self.program.sections.as_slice(), &mut all)?;
         let marked = match order_of(alloc, count, &all.ranges)? {
             Order::Heights(_) => return Ok(()),
             Order::Recursive(marked) => marked,

@@ -1,18 +1,20 @@
 //! The rules of statements, one after another and those in one, and of what they stand in.
 
-ghost use Rattle.std.specs.Prelude.{◌≡◌};
+ghost use Rattle.std.specs.Prelude.{◌≡◌, ◌++◌};
 ghost use Rattle.entry_rules.specs.Checks.{Finds};
 ghost use Rattle.source_tree.specs.Broken.{each};
 ghost use Rattle.source_tree.specs.EvaluateRules.{selected_rules};
+ghost use Rattle.source_tree.specs.Filing.{phrases_of};
+ghost use Rattle.source_tree.specs.FilingRules.{filing_rules};
 ghost use Rattle.source_tree.specs.Rules as spec;
 ghost use Rattle.source_tree.specs.Rules.{all_permitted};
-ghost use Rattle.check_rules.specs.Named.{IsDeclared, items_in, scope_in};
+ghost use Rattle.check_rules.specs.Named.{IsDeclared, files_in, items_in, scope_in};
 
 use crate::declarations::Declarations;
 use entry_rules::BrokenRule;
 use source_tree::{
-    Arithmetic, Branching, Evaluate, Moving, Paragraph, Performed, Performing, Phrases, Section,
-    Selected, Sentence, Statement, Subject, Text, Verb,
+    Arithmetic, Branching, Evaluate, FilePhrases, Filing, Moving, Paragraph, Performed, Performing,
+    Phrases, Section, Selected, Sentence, Statement, Subject, Text, Verb,
 };
 use sqlite_items::Items;
 
@@ -84,6 +86,7 @@ impl<'a> Declarations<'a> {
                 self.phrase_rules(&stringing.phrases.arose)?;
                 self.phrase_rules(&stringing.phrases.did_not)
             }
+            Verb::Filing(filing) => self.file_statement_rules(filing),
             Verb::Ending(_) => Ok(()),
         }
     }
@@ -110,6 +113,56 @@ impl<'a> Declarations<'a> {
             None => Ok(()),
             Some(inside) => self.statements_rules(inside.as_slice()),
         }
+    }
+
+    /// The statements of a phrase and its opposite.
+    #[cycle(statement)]
+    fn opposite_rules(&self, pair: &Phrases<Statement>) -> Result<(), BrokenRule>
+        requires { IsDeclared self.now }
+        ensures { Finds result (spec.phrases_rules (spec.statement_rules (scope_in self.now) all_permitted) pair.now) }
+    {
+        self.phrase_rules(&pair.arose)?;
+        self.phrase_rules(&pair.did_not)
+    }
+
+    /// Those of the phrases of a file statement.
+    #[cycle(statement)]
+    fn file_phrases_rules(&self, phrases: &FilePhrases<Statement>) -> Result<(), BrokenRule>
+        requires { IsDeclared self.now }
+        ensures { Finds result (spec.file_phrases_rules (spec.statement_rules (scope_in self.now) all_permitted) phrases.now) }
+    {
+        match phrases {
+            FilePhrases::Absent => Ok(()),
+            FilePhrases::AtEnd(pair) => self.opposite_rules(pair),
+            FilePhrases::InvalidKey(pair) => self.opposite_rules(pair),
+        }
+    }
+
+    /// The statements in a file statement.
+    #[cycle(statement)]
+    fn filed_rules(&self, one: &Filing<Statement>) -> Result<(), BrokenRule>
+        requires { IsDeclared self.now }
+        ensures { Finds result (spec.file_phrases_rules (spec.statement_rules (scope_in self.now) all_permitted) (phrases_of one.now)) }
+    {
+        match one {
+            Filing::Open { .. } => Ok(()),
+            Filing::Close { .. } => Ok(()),
+            Filing::Read { phrases, .. } => self.file_phrases_rules(phrases),
+            Filing::Write { phrases, .. } => self.file_phrases_rules(phrases),
+            Filing::Rewrite { phrases, .. } => self.file_phrases_rules(phrases),
+            Filing::Delete { phrases, .. } => self.file_phrases_rules(phrases),
+            Filing::Start { phrases, .. } => self.file_phrases_rules(phrases),
+        }
+    }
+
+    /// A file statement, with those in its phrases.
+    #[cycle(statement)]
+    fn file_statement_rules(&self, one: &Filing<Statement>) -> Result<(), BrokenRule>
+        requires { IsDeclared self.now }
+        ensures { Finds result (filing_rules (items_in self.now) (files_in self.now) one.now ++ spec.file_phrases_rules (spec.statement_rules (scope_in self.now) all_permitted) (phrases_of one.now)) }
+    {
+        self.filing_rules(one)?;
+        self.filed_rules(one)
     }
 
     /// WHENs, and the statements behind them.

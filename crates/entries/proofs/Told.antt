@@ -4,10 +4,14 @@ use Rattle.lexical.specs.declared.place.Place.{Place}
 use Rattle.source_tree.specs.declared.entry.ItemEntry.{ItemEntry}
 use Rattle.source_tree.specs.declared.entry.Entry.{Entry}
 use Rattle.source_tree.specs.declared.entry.Entry.TheVariants.{Item, Condition}
+use Rattle.source_tree.specs.declared.select.FileDescription.{FileDescription}
 use Rattle.source_tree.specs.Integers.{number_of}
 use Rattle.source_tree.specs.Levels.{Forest, End, Tree, level_of, deeper, beyond, leading, nested}
 use Rattle.source_tree.specs.Broken.{where_so, each}
 use Rattle.source_tree.specs.EntryRules.{is_level, level_rules, outermost, forest_rules, storage_rules, excess, homeless, most_entries, entry_rules}
+use Rattle.source_tree.specs.FileRules.{description_rules, most_record_bytes}
+use Rattle.source_tree.specs.Records.{record_length}
+use Rattle.source_tree.specs.ValueRules.{are_some}
 use Rattle.entries.specs.Nesting.{AreTold}
 
 front_nil : {A : Type 0} (xs ys : List A) → xs ++ ys ≡ [] → xs ≡ []
@@ -67,3 +71,11 @@ pub all_told : (entries : List Entry) → entry_rules entries ≡ [] → AreTold
 all_told entries e =
     let counted = back_nil (each excess (drop most_entries entries)) (each level_rules entries ++ (each homeless (leading entries) ++ (forest_rules (outermost false) None (nested entries) ++ storage_rules 0 (nested entries)))) e in
     told entries (front_nil (each level_rules entries) (each homeless (leading entries) ++ (forest_rules (outermost false) None (nested entries) ++ storage_rules 0 (nested entries))) counted)
+
+pub record_told : (one : FileDescription) → description_rules one ≡ [] → AreTold (nested one.entries)
+record_told one e =
+    let levels = each level_rules one.entries in
+    let homes = each homeless (leading one.entries) in
+    let forest = forest_rules (outermost true) None (nested one.entries) in
+    let length = where_so (not (are_some most_record_bytes (record_length one.entries))) 69 one.name.place in
+    told one.entries (front_nil levels homes (front_nil (levels ++ homes) forest (front_nil (levels ++ homes ++ forest) length e)))

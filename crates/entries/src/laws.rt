@@ -2,11 +2,18 @@
 
 ghost use Rattle.std.specs.Prelude.{◌≡◌, List, []};
 ghost use Rattle.source_tree.specs.declared.entry.Entry.{Entry};
+ghost use Rattle.source_tree.specs.declared.select.FileDescription.{FileDescription};
 ghost use Rattle.source_tree.specs.EntryRules.{entry_rules};
+ghost use Rattle.source_tree.specs.FileRules.{description_rules};
 ghost use Rattle.source_tree.specs.Levels.{nested};
 ghost use Rattle.entries.specs.Nesting.{AreTold};
 
 /// Each level of entries that keep the rules is told as it is.
 pub fn levels_are_told()
     ensures { (entries : List Entry) → entry_rules entries ≡ [] → AreTold (nested entries) }
+{}
+
+/// So is each level of a file's records, where its description keeps the rules.
+pub fn record_levels_are_told()
+    ensures { (one : FileDescription) → description_rules one ≡ [] → AreTold (nested one.entries) }
 {}

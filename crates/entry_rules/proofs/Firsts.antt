@@ -1,9 +1,9 @@
 -- The first of rules that are looked for in order.
 use Rattle.std.proofs.Common.{◌≡◌, ℕ, ◌<◌, ◌+◌, List, [], ◌∷◌, ◌++◌, None, Some, length, drop, get_or, refl, sym, ap, subst, ◌∙◌, add-one, drop-cons}
-use Rattle.std.specs.Prelude.{Option, Result, Err}
+use Rattle.std.specs.Prelude.{Option}
 use Rattle.source_tree.specs.Broken.{Broken, each}
 use Rattle.source_tree.specs.LookUp.{first}
-use Rattle.entry_rules.specs.Checks.{IsFirst, first_or}
+use Rattle.entry_rules.specs.Checks.{IsFirst}
 
 pub first_front : (xs ys : List Broken) (one : Broken) → first xs ≡ Some one → first (xs ++ ys) ≡ Some one
 first_front [] ys one e = cc
@@ -28,15 +28,6 @@ same_along o xs ys e h = subst (IsFirst o) (sym e) h
 pub none_first : (xs : List Broken) → first xs ≡ None → xs ≡ []
 none_first [] e = refl
 none_first (x ∷ xs) e = cc
-
--- ---- what a definition says of them
-
-pub err_front : {A : Type 0} (value : A) (xs ys : List Broken) (one : Broken) → first xs ≡ Some one → first_or value (xs ++ ys) ≡ Err one
-err_front value [] ys one e = cc
-err_front value (x ∷ xs) ys one e = let same : x ≡ one = cc in ap Err same
-
-pub same_or : {A : Type 0} (value : A) (xs ys : List Broken) (r : Result A Broken) → xs ≡ [] → first_or value ys ≡ r → first_or value (xs ++ ys) ≡ r
-same_or value xs ys r none e = ap (first_or value) (front_none xs ys none) ∙ e
 
 -- ---- rules of each of a list, as a loop goes along it
 

@@ -41,15 +41,15 @@ known_by : (b : Bool) (n : ℕ) → (n == 77) ≡ b → ((nat_le 1 n && nat_le n
 known_by true n t e = seventy_seven n t
 known_by false n t e = low n (second_of (nat_le 1 n) (nat_le n 49) e)
 
-front_nil : {A : Type 0} (xs ys : List A) → xs ++ ys ≡ [] → xs ≡ []
+pub front_nil : {A : Type 0} (xs ys : List A) → xs ++ ys ≡ [] → xs ≡ []
 front_nil [] ys e = refl
 front_nil (x ∷ xs) ys e = cc
 
-back_nil : {A : Type 0} (xs ys : List A) → xs ++ ys ≡ [] → ys ≡ []
+pub back_nil : {A : Type 0} (xs ys : List A) → xs ++ ys ≡ [] → ys ≡ []
 back_nil [] ys e = e
 back_nil (x ∷ xs) ys e = cc
 
-kept : (test : Bool) (rule : ℕ) (place : Place) → where_so test rule place ≡ [] → test ≡ false
+pub kept : (test : Bool) (rule : ℕ) (place : Place) → where_so test rule place ≡ [] → test ≡ false
 kept true rule place e = cc
 kept false rule place e = refl
 

@@ -2,6 +2,8 @@ pub mod Firsts
 pub mod LevelLaws
 pub mod Forests
 pub mod Sums
+pub mod Totals
+pub mod FileEntries
 pub mod Numerals
 pub mod Compared
 pub mod Parts

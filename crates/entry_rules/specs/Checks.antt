@@ -1,5 +1,5 @@
 -- What a check answers of rules that are looked for in order: the first one that is broken, or that none is.
-use Rattle.std.specs.Prelude.{◌≡◌, ℕ, List, [], ◌∷◌, Option, Some, None, Result, Ok, Err}
+use Rattle.std.specs.Prelude.{◌≡◌, ℕ, List, [], Option, Some, None, Result, Ok, Err}
 use Rattle.source_tree.specs.Broken.{Broken}
 use Rattle.source_tree.specs.LookUp.{first}
 use Rattle.entry_rules.specs.declared.rule.Rule.{Rule}
@@ -28,8 +28,16 @@ number_of rule.Object = 53
 number_of rule.Recursion = 54
 number_of rule.Range = 55
 number_of rule.NoProcedure = 56
+number_of rule.UnmatchedFile = 57
+number_of rule.FileKey = 58
+number_of rule.FileStatus = 59
+number_of rule.RelativeKey = 60
+number_of rule.FileStatement = 61
+number_of rule.FilePhrase = 62
+number_of rule.StartKey = 63
 number_of rule.InspectOperand = 64
 number_of rule.StringOperand = 65
+number_of rule.AssignedName = 66
 number_of rule.AllLiteral = 67
 number_of rule.NoCondition = 68
 number_of rule.Limit = 69
@@ -40,11 +48,6 @@ broken_of one = record { rule = number_of one.rule; place = one.place }
 abbrev pub fault_of : CheckError → Option Broken
 fault_of Memory = None
 fault_of (Refused one) = Some (broken_of one)
-
--- The first of the broken rules; or there is none, and then this value.
-abbrev pub first_or : {A : Type 0} → A → List Broken → Result A Broken
-first_or value [] = Ok value
-first_or value (one ∷ more) = Err one
 
 -- A check that takes no memory: none of the rules is broken, or this is the first that is.
 abbrev pub Finds : {A : Type 0} → Result A BrokenRule → List Broken → Type 0

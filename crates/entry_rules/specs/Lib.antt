@@ -5,4 +5,4 @@ pub mod Own
 pub mod Trees
 pub mod Ranges
 pub mod Areas
-pub use Rattle.answers.specs.Answer
+pub mod RecordAreas

@@ -1,5 +1,5 @@
 -- The rules of one entry, but for its sizes.
-use Rattle.std.specs.Prelude.{◌*◌, ◌||◌, false, List, ◌++◌, Option}
+use Rattle.std.specs.Prelude.{◌*◌, ◌&&◌, ◌||◌, List, ◌++◌, Option}
 use Rattle.items.specs.declared.item.Item.{Item}
 use Rattle.source_tree.specs.declared.entry.ItemEntry.{ItemEntry}
 use Rattle.source_tree.specs.declared.entry.ConditionEntry.{ConditionEntry}
@@ -26,8 +26,8 @@ form_rules at one item inner =
 abbrev pub later_rules : Position → ItemEntry → Item → Forest → Option Redefinable → List Broken
 later_rules at one item inner last =
     form_rules at one item inner
-    ++ redefinition_rules false one (occurrences one * item.length) one.redefines last
-    ++ value_rules (at.has_no_value || redefines one) item one.value
+    ++ redefinition_rules (is_outermost at && at.in_file) one (occurrences one * item.length) one.redefines last
+    ++ value_rules (at.in_file || at.has_no_value || redefines one) item one.value
 
 -- those, and those of its condition names
 abbrev pub entry_rules : Position → ItemEntry → List ConditionEntry → Item → Forest → Option Redefinable → List Broken

@@ -1,5 +1,5 @@
 -- What a walk over entries knows of those around and before an entry, in the words of the rules.
-use Rattle.std.specs.Prelude.{◌≡◌, ℕ, ◌+◌, ◌≤◌, ◌<◌, Bool, false, is_none, is_some, List, Option, Some, None}
+use Rattle.std.specs.Prelude.{◌≡◌, ℕ, ◌+◌, ◌≤◌, ◌<◌, Bool, is_none, is_some, List, Option, Some, None}
 use Rattle.source_tree.specs.declared.entry.ItemEntry.{ItemEntry}
 use Rattle.source_tree.specs.declared.entry.Entry.{Entry}
 use Rattle.source_tree.specs.Integers.{number_of}
@@ -9,9 +9,8 @@ use Rattle.source_tree.specs.RedefinitionRules as redefinition
 use Rattle.entry_rules.specs.declared.position.Position.{Position}
 use Rattle.entry_rules.specs.declared.redefinition.Redefinable.{Redefinable}
 
--- in working storage
 abbrev pub at_of : Position → rules.Position
-at_of one = record { around = one.around; level = one.level; in_file = false; has_no_value = one.has_no_value; nesting = one.nesting }
+at_of one = record { around = one.around; level = one.level; in_file = one.in_file; has_no_value = one.has_no_value; nesting = one.nesting }
 
 abbrev pub is_outermost : Position → Bool
 is_outermost one = is_none one.level

@@ -61,9 +61,8 @@ fn own_rules(
     ensures { Finds result (spec.later_rules at one.now.entry.now one.now.item (nested inner.now) (redefinable_of last.entry)) }
 {
     form_rules(at, one, inner)?;
-    redefinition_rules(one.entry, one.extent(), last)?;
-    let forbidden = at.has_no_value || one.entry.redefines.is_some();
-    value_rules(forbidden, one.item, &one.entry.value)
+    redefinition_rules(at.is_of_record(), one.entry, one.extent(), last)?;
+    value_rules(at.forbids_value(one.entry), one.item, &one.entry.value)
 }
 
 /// The rules of an entry that keeps the limits of sizes, and of its condition names, with the entries in it.

@@ -19,8 +19,8 @@ const MOST_LEVEL: u32 = 49;
 /// The level of an item that stands by itself.
 const INDEPENDENT: u32 = 77;
 
-/// The most entries of working storage (own choice).
-const MOST_ENTRIES: usize = 5_000;
+/// The most entries of working storage and of the records of files together (own choice).
+pub const MOST_ENTRIES: usize = 5_000;
 
 /// 01 to 49 and 77.
 fn is_level(level: u32) -> bool
@@ -38,12 +38,12 @@ fn place_of(entry: &Entry) -> Place
     }
 }
 
-/// There are no more entries than may be.
-pub fn count_rules(entries: &[Entry]) -> Result<(), BrokenRule>
-    ensures rules { Finds result (each rules.excess (drop rules.most_entries entries.now)) }
-    ensures few { OnOk result (length entries.now ≤ rules.most_entries) }
+/// There are no more entries than that.
+pub fn count_rules(most: usize, entries: &[Entry]) -> Result<(), BrokenRule>
+    ensures rules { Finds result (each rules.excess (drop most entries.now)) }
+    ensures few { OnOk result (length entries.now ≤ most) }
 {
-    match entries.get(MOST_ENTRIES) {
+    match entries.get(most) {
         Some(entry) => Rule::Limit.broken_if(true, place_of(entry)),
         None => Ok(()),
     }

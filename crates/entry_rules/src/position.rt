@@ -1,12 +1,13 @@
 //! What the rules of an entry look at around it, and its level among the entries there: rule 43.
 
-ghost use Rattle.std.specs.Prelude.{◌≡◌, ◌<◌, false};
+ghost use Rattle.std.specs.Prelude.{◌≡◌, ◌&&◌, ◌||◌, ◌<◌};
 ghost use Rattle.std.specs.Option.{option_copied};
 ghost use Rattle.source_tree.specs.EntryRules as rules;
 ghost use Rattle.source_tree.specs.Integers.{number_of};
 ghost use Rattle.source_tree.specs.Levels.{nested};
 ghost use Rattle.source_tree.specs.ClauseRules.{has_items};
 ghost use Rattle.source_tree.specs.Clauses.{nothing_around};
+ghost use Rattle.source_tree.specs.Rooms.{redefines};
 ghost use Rattle.entry_rules.specs.Walk as spec;
 
 use entries::{inside, number};
@@ -18,12 +19,14 @@ const RECORD: u32 = 1;
 /// The level of an item that stands by itself.
 const INDEPENDENT: u32 = 77;
 
-/// What the rules of an entry of working storage look at around it.
+/// What the rules of an entry look at around it.
 #[derive(Clone, Copy)]
 pub struct Position {
     pub around: Around,
     /// The level of this group's items; none for 01 and 77.
     pub level: Option<u32>,
+    /// It stands in the records of a file.
+    pub in_file: bool,
     /// It stands under REDEFINES or in a group with VALUE.
     pub has_no_value: bool,
     /// How many OCCURS stand around it.
@@ -60,9 +63,9 @@ fn first_level(entries: &[Entry]) -> u32
 }
 
 impl Position {
-    /// Of 01 and 77.
-    pub fn outermost() -> Position
-        ensures { spec.at_of result ≡ rules.outermost false }
+    /// Of 01 and 77, in working storage or in the records of a file.
+    pub fn outermost(in_file: bool) -> Position
+        ensures { spec.at_of result ≡ rules.outermost in_file }
     {
         Position {
             around: Around {
@@ -70,6 +73,7 @@ impl Position {
                 sign: None,
             },
             level: None,
+            in_file,
             has_no_value: false,
             nesting: 0,
         }
@@ -79,6 +83,20 @@ impl Position {
         ensures { result ≡ spec.is_outermost self }
     {
         self.level.is_none()
+    }
+
+    /// Of a record of a file.
+    pub fn is_of_record(self) -> bool
+        ensures { result ≡ (spec.is_outermost self && self.in_file) }
+    {
+        self.is_outermost() && self.in_file
+    }
+
+    /// An entry that stands here has no VALUE.
+    pub fn forbids_value(self, entry: &ItemEntry) -> bool
+        ensures { result ≡ (self.in_file || self.has_no_value || redefines entry.now) }
+    {
+        self.in_file || self.has_no_value || entry.redefines.is_some()
     }
 
     /// Of the entries in a group that stands here.
@@ -91,6 +109,7 @@ impl Position {
         Position {
             around: inside(self.around, group),
             level: Some(first_level(inner)),
+            in_file: self.in_file,
             has_no_value: self.has_no_value || group.redefines.is_some() || group.value.is_some(),
             nesting: self.nesting + u32::from(group.occurs.is_some()),
         }

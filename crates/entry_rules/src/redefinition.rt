@@ -1,6 +1,6 @@
 //! Rule 46: REDEFINES (COBOL-85, Nucleus, "The REDEFINES clause").
 
-ghost use Rattle.std.specs.Prelude.{◌≡◌, ◌<◌, false};
+ghost use Rattle.std.specs.Prelude.{◌≡◌, ◌<◌};
 ghost use Rattle.source_tree.specs.EntryRules.{redefinition_rules};
 ghost use Rattle.source_tree.specs.Integers.{number_of};
 ghost use Rattle.source_tree.specs.Names as names;
@@ -63,19 +63,20 @@ fn wrong_object(entry: &ItemEntry, bytes: u64, name: &Name, last: Option<Redefin
         || (level != RECORD && last.bytes < bytes)
 }
 
-/// REDEFINES of an entry of so many bytes, behind the one that may be redefined.
+/// REDEFINES of an entry of so many bytes, behind the one that may be redefined. Records of a file redefine nothing.
 pub fn redefinition_rules(
+    is_record: bool,
     entry: &ItemEntry,
     bytes: u64,
     last: Option<Redefinable<'_>>,
 ) -> Result<(), BrokenRule>
     requires own { number_of entry.now.level < 100000 }
     requires level { HasLevelLast last }
-    ensures { Finds result (redefinition_rules false entry.now bytes entry.now.redefines (redefinable_of last.entry)) }
+    ensures { Finds result (redefinition_rules is_record entry.now bytes entry.now.redefines (redefinable_of last.entry)) }
 {
     match &entry.redefines {
         Some(name) => {
-            let wrong = wrong_object(entry, bytes, name, last);
+            let wrong = is_record || wrong_object(entry, bytes, name, last);
             Rule::Redefinition.broken_if(wrong, name.place)
         }
         None => Ok(()),

@@ -8,7 +8,7 @@ use source_tree::Place;
 use std::alloc::{AllocError, AllocFailed};
 use thiserror::Error;
 
-/// A rule that entries, statements or procedures can break.
+/// A rule that entries, files, statements or procedures can break.
 #[derive(Clone, Copy, Debug, PartialEq, Eq)]
 pub enum Rule {
     /// The form of a numeric literal, or of an integer.
@@ -19,7 +19,7 @@ pub enum Rule {
     UnknownName,
     /// A name that names several things.
     AmbiguousName,
-    /// A name that is given to two procedures.
+    /// A name that is given to two procedures, or to two files.
     GivenTwice,
     /// Level numbers and their order.
     LevelOrder,
@@ -48,10 +48,26 @@ pub enum Rule {
     Range,
     /// A procedure division without any paragraph or sentence.
     NoProcedure,
+    /// A SELECT without FD, or an FD without SELECT.
+    UnmatchedFile,
+    /// A key of a file, or a clause that its organization doesn't have.
+    FileKey,
+    /// FILE STATUS.
+    FileStatus,
+    /// RELATIVE KEY is missing, or is no unsigned integer outside of the record.
+    RelativeKey,
+    /// A file statement that organization or access doesn't permit.
+    FileStatement,
+    /// Phrases, KEY and NEXT of a file statement.
+    FilePhrase,
+    /// KEY of START.
+    StartKey,
     /// An operand of INSPECT that is of another kind, or a replacing text of another size.
     InspectOperand,
     /// An operand of STRING that is of another kind.
     StringOperand,
+    /// A name that no file on the volume can have.
+    AssignedName,
     /// ALL with a literal in DISPLAY or STRING.
     AllLiteral,
     /// SET of an item, in place of a condition name.
@@ -85,8 +101,16 @@ impl Rule {
             Rule::Recursion => 54,
             Rule::Range => 55,
             Rule::NoProcedure => 56,
+            Rule::UnmatchedFile => 57,
+            Rule::FileKey => 58,
+            Rule::FileStatus => 59,
+            Rule::RelativeKey => 60,
+            Rule::FileStatement => 61,
+            Rule::FilePhrase => 62,
+            Rule::StartKey => 63,
             Rule::InspectOperand => 64,
             Rule::StringOperand => 65,
+            Rule::AssignedName => 66,
             Rule::AllLiteral => 67,
             Rule::NoCondition => 68,
             Rule::Limit => 69,
@@ -112,7 +136,7 @@ pub struct BrokenRule {
     pub place: Place,
 }
 
-/// Why entries or statements are refused.
+/// Why entries, files or statements are refused.
 #[derive(Clone, Copy, Debug, PartialEq, Eq, Error)]
 pub enum CheckError {
     #[error("out of memory")]

@@ -1,15 +1,15 @@
 //! The rules of working storage as a whole; rule 48 of its areas together.
 
-ghost use Rattle.std.specs.Prelude.{◌≡◌, ◌+◌, ◌≤◌, ◌++◌, ◌*◌, ◌<◌, [], false, None, length, ◌^◌, OnOk, if◌then◌else◌, max};
-ghost use Rattle.answers.specs.Answer.{Gives};
+ghost use Rattle.std.specs.Prelude.{◌≡◌, ◌+◌, ◌≤◌, ◌++◌, ◌*◌, ◌<◌, [], false, None, length, ◌^◌, sum, IfOk, OnOk, if◌then◌else◌, max};
 ghost use Rattle.source_tree.specs.EntryRules as rules;
 ghost use Rattle.source_tree.specs.Levels.{nested};
+ghost use Rattle.source_tree.specs.Rooms.{area_lengths};
 ghost use Rattle.entry_rules.specs.Areas as spec;
-ghost use Rattle.entry_rules.specs.Checks.{Finds, Tells, fault_of, first_or};
+ghost use Rattle.entry_rules.specs.Checks.{Finds, Tells};
 ghost use Rattle.entry_rules.specs.Trees.{most_extent};
 ghost use Rattle.entry_rules.specs.Walk.{HasLevels, at_of};
 
-use crate::levels::{count_rules, home_rules, level_rules};
+use crate::levels::{MOST_ENTRIES, count_rules, home_rules, level_rules};
 use crate::position::Position;
 use crate::redefinition::remembered;
 use crate::rule::{BrokenRule, CheckError, Rule};
@@ -18,8 +18,8 @@ use entries::next_item;
 use source_tree::{Entry, ItemEntry, Place};
 use std::alloc::Global;
 
-/// The most bytes of working storage (own choice).
-const MOST_STORAGE: u64 = 1_000_000;
+/// The most bytes of working storage and of record areas together (own choice).
+pub const MOST_STORAGE: u64 = 1_000_000;
 
 /// The last area so far: where the 01 or 77 that begins it stands, and the bytes of the longest one that stands there.
 #[derive(Clone, Copy)]
@@ -97,13 +97,21 @@ impl Areas {
             };
         }
         Areas {
-            before: self.before + self.last.map_or(0, |area| area.longest),
+            before: self.bytes(),
             last: Some(Area {
                 place: entry.level.place,
                 longest: bytes,
             }),
             past: self.first_past(),
         }
+    }
+
+    /// The bytes of all of them.
+    fn bytes(self) -> u64
+        requires { spec.bytes_in self < 2 ^ 64 }
+        ensures { result ≡ spec.bytes_in self }
+    {
+        self.before + self.last.map_or(0, |area| area.longest)
     }
 
     /// No area goes past the limit.
@@ -118,35 +126,35 @@ impl Areas {
     }
 }
 
-/// The rules of each entry, and then of the areas together.
-fn check_storage(alloc: Global, entries: &[Entry]) -> Result<(), CheckError>
+/// The rules of each entry, and then of the areas together. Answers the bytes of all areas.
+fn check_storage(alloc: Global, entries: &[Entry]) -> Result<u64, CheckError>
     requires levels { HasLevels (nested entries.now) }
     requires few { length entries.now ≤ rules.most_entries }
-    ensures { Tells result (rules.forest_rules (rules.outermost false) None (nested entries.now) ++ rules.storage_rules 0 (nested entries.now)) }
+    ensures rules { Tells result (rules.forest_rules (rules.outermost false) None (nested entries.now) ++ rules.storage_rules 0 (nested entries.now)) }
+    ensures bytes { IfOk result (λ bytes. bytes ≡ sum (area_lengths (nested entries.now))) }
 {
     let mut areas = Areas::none();
     let mut last = None;
     let mut rest = entries;
     'items: while let Some(one) = next_item(rest) {
-        let bytes = check_item(alloc, Position::outermost(), one, last)?;
+        let bytes = check_item(alloc, Position::outermost(false), one, last)?;
         areas = areas.with(one.entry, bytes);
         last = remembered(one.entry, bytes, last);
         rest = one.next;
     }
     areas.rules()?;
-    Ok(())
+    Ok(areas.bytes())
 }
 
 /// Whether the entries of working storage keep the rules of entries: 43 to 48, 55 and 69. Otherwise the answer is the
 /// first that they break, in the order of the definition: the number of entries, level numbers, each entry after those in
-/// it, and the bytes of all areas.
-pub fn check_entries(alloc: Global, entries: &[Entry]) -> Result<(), CheckError>
-    // Entries that are accepted break no rule.
-    ensures kept { OnOk result (rules.entry_rules entries.now ≡ []) }
-    // The answer is the definition's, unless memory runs out.
-    ensures exact { Gives (λ value. value) fault_of result (first_or tt (rules.entry_rules entries.now)) }
+/// it, and the bytes of all areas; those are the answer of entries that are accepted.
+pub fn check_entries(alloc: Global, entries: &[Entry]) -> Result<u64, CheckError>
+    // The answer is the definition's: none is broken, or this is the first, unless memory runs out.
+    ensures rules { Tells result (rules.entry_rules entries.now) }
+    ensures bytes { IfOk result (λ bytes. bytes ≡ sum (area_lengths (nested entries.now))) }
 {
-    count_rules(entries)?;
+    count_rules(MOST_ENTRIES, entries)?;
     level_rules(entries)?;
     home_rules(entries)?;
     check_storage(alloc, entries)

@@ -6,18 +6,23 @@ use Rattle.std.proofs.lemmas.List.Elements.{All-from_recursion}
 use Rattle.lexical.specs.declared.place.Place.{Place}
 use Rattle.items.specs.Texts.{padded}
 use Rattle.source_tree.specs.declared.table.Dimension.{Dimension}
-use Rattle.source_tree.specs.declared.entry.Entry.{Entry}
+use Rattle.source_tree.specs.declared.select.FileDescription.{FileDescription}
+use Rattle.source_tree.specs.declared.program.Program.{Program}
 use Rattle.source_tree.specs.Levels.{Forest, End, Tree, nested}
 use Rattle.source_tree.specs.Clauses.{nothing_around}
-use Rattle.source_tree.specs.Rooms.{redefines, area_length, area_lengths}
+use Rattle.source_tree.specs.Rooms.{redefines, area_length}
 use Rattle.source_tree.specs.Starts.{start, areas_from, areas_at_start}
-use Rattle.source_tree.specs.Places.{Placed, items_of}
+use Rattle.source_tree.specs.Places.{Placed}
+use Rattle.source_tree.specs.Records.{record_length, spaces_for, record_areas, program_areas, program_items}
 use Rattle.source_tree.specs.Broken.{Broken, where_so}
 use Rattle.source_tree.specs.EntryRules.{most_storage, storage_rules, entry_rules}
+use Rattle.source_tree.specs.FileRules.{descriptions_rules}
 use Rattle.initial_storage.specs.Formed.{IsFormed}
-use Rattle.initial_storage.specs.Reach.{reach, IsWithin, last_offset, Lies}
+use Rattle.initial_storage.specs.Reach.{reach, IsWithin, program_area_lengths, last_offset, Lies}
 use Rattle.initial_storage.proofs.Kept.{front_nil, back_nil, kept, at_most, rule_parts}
-use Rattle.initial_storage.proofs.Lengths.{length-padded, lengths_of}
+use Rattle.initial_storage.proofs.Lengths.{length-padded, program_lengths}
+use Rattle.initial_storage.proofs.KeptFiles.{Description, descriptions}
+use Rattle.initial_storage.proofs.Groups.{all_append}
 use Rattle.initial_storage.proofs.Pictures.{some_bytes}
 use Rattle.initial_storage.proofs.Formed.{formed_by_recursion}
 use Rattle.initial_storage.proofs.Records.{within_by_recursion}
@@ -49,10 +54,19 @@ small_at [] h k area e = cc
 small_at (one ∷ more) h zero area e = let same : one ≡ area = cc in subst IsSmall same h.0
 small_at (one ∷ more) h (suc k) area e = small_at more h.1 k area e
 
-pub small_areas : (entries : List Entry) → entry_rules entries ≡ [] → (k : ℕ) (area : List ℕ) → slice_get (areas_at_start entries) k ≡ Some area → length area < 2 ^ 32
-small_areas entries e k area is =
-    let parts = rule_parts entries e in
-    let most : length area ≤ 1000000 = small_at (areas_at_start entries) (small 0 (nested entries) parts.2) k area is in
+spaces_small : (one : FileDescription) → Description one → length (spaces_for one) ≤ most_storage
+spaces_small one kept = let most = kept.most in let long = length-padded (record_length one.entries) [] in omega arith
+
+small_records : (files : List FileDescription) → AllByRecursion Description files → AllByRecursion IsSmall (record_areas files)
+small_records [] h = tt
+small_records (one ∷ more) h = (spaces_small one h.0, small_records more h.1)
+
+pub small_areas : (program : Program) → entry_rules program.storage ≡ [] → descriptions_rules program.storage program.files ≡ []
+    → (k : ℕ) (area : List ℕ) → slice_get (program_areas program) k ≡ Some area → length area < 2 ^ 32
+small_areas program e f k area is =
+    let parts = rule_parts program.storage e in
+    let all = all_append IsSmall (areas_at_start program.storage) (record_areas program.files) (small 0 (nested program.storage) parts.2) (small_records program.files (descriptions program.storage program.files f)) in
+    let most : length area ≤ 1000000 = small_at (program_areas program) all k area is in
     omega (arith, most)
 
 -- ---- the items in them
@@ -78,12 +92,12 @@ all_both : {A : Type 0} (P Q R : A → Type 0) (xs : List A) → ((x : A) → P 
 all_both P Q R [] h p q = tt
 all_both P Q R (x ∷ xs) h p q = (h x p.0 q.0, all_both P Q R xs h p.1 q.1)
 
-pub items_lie : (entries : List Entry) → entry_rules entries ≡ [] → All (Lies (areas_at_start entries)) (items_of entries)
-items_lie entries e =
-    let areas : List (List ℕ) = areas_at_start entries in
-    let items : List Placed = items_of entries in
-    let lengths : List ℕ = area_lengths (nested entries) in
+pub items_lie : (program : Program) → entry_rules program.storage ≡ [] → descriptions_rules program.storage program.files ≡ [] → All (Lies (program_areas program)) (program_items program)
+items_lie program e f =
+    let areas : List (List ℕ) = program_areas program in
+    let items : List Placed = program_items program in
+    let lengths : List ℕ = program_area_lengths program in
     All-from_recursion (Lies areas) items
     (all_both IsFormed (IsWithin lengths) (Lies areas) items
-    (λ one formed within. lies areas one formed (subst (λ l. IsWithin l one) (sym (lengths_of (nested entries))) within))
-    (formed_by_recursion entries e) (within_by_recursion entries e))
+    (λ one formed within. lies areas one formed (subst (λ l. IsWithin l one) (sym (program_lengths program)) within))
+    (formed_by_recursion program e f) (within_by_recursion program e f))

@@ -1,5 +1,5 @@
 -- Condition names of entries that keep the rules have values that their items take.
-use Rattle.std.proofs.Common.{◌≡◌, ℕ, ◌+◌, ◌-◌, ◌*◌, false, if◌then◌else◌, List, [], ◌∷◌, ◌++◌, None, Some}
+use Rattle.std.proofs.Common.{◌≡◌, ℕ, ◌+◌, ◌-◌, ◌*◌, true, false, if◌then◌else◌, List, [], ◌∷◌, ◌++◌, None, Some}
 use Rattle.std.specs.Prelude.{Option}
 use Rattle.std.specs.List.{All, AllByRecursion}
 use Rattle.std.proofs.lemmas.List.Elements.{All-from_recursion}
@@ -10,20 +10,24 @@ use Rattle.items.specs.Items.{IsOfLength}
 use Rattle.source_tree.specs.declared.entry.Around.{Around}
 use Rattle.source_tree.specs.declared.entry.ValueRange.{ValueRange}
 use Rattle.source_tree.specs.declared.entry.ConditionEntry.{ConditionEntry}
-use Rattle.source_tree.specs.declared.entry.Entry.{Entry}
+use Rattle.source_tree.specs.declared.name.Name.{Name}
+use Rattle.source_tree.specs.declared.program.Program.{Program}
 use Rattle.source_tree.specs.Levels.{Forest, End, Tree, nested}
 use Rattle.source_tree.specs.Clauses.{nothing_around, inside, occurrences}
 use Rattle.source_tree.specs.Rooms.{redefines, item_with}
 use Rattle.source_tree.specs.Places.{Placed, Surroundings, within, places, top, storage_places, items_of}
+use Rattle.source_tree.specs.Records.{storage_areas, record_places, file_places, program_items}
 use Rattle.source_tree.specs.LookUp.{conditions_of, all_conditions}
 use Rattle.source_tree.specs.Broken.{Broken, where_so, each}
 use Rattle.source_tree.specs.RedefinitionRules.{Redefinable, remembered}
 use Rattle.source_tree.specs.ValueRules.{wrong_value, last_rules, range_rules, condition_rules}
 use Rattle.source_tree.specs.EntryRules.{Position, outermost, own_rules, below, forest_rules, entry_rules}
+use Rattle.source_tree.specs.FileRules.{descriptions_rules}
 use Rattle.initial_storage.specs.Fits.{IsKindOf}
 use Rattle.initial_storage.specs.Formed.{IsFormed}
 use Rattle.initial_storage.specs.Conditions.{HasFirst, CanBeSet}
 use Rattle.initial_storage.proofs.Kept.{front_nil, back_nil, has_value, rule_parts}
+use Rattle.initial_storage.proofs.KeptFiles.{descriptions, of_descriptions, of_files}
 use Rattle.initial_storage.proofs.Groups.{all_append}
 use Rattle.initial_storage.proofs.Formed.{formed_by_recursion}
 
@@ -88,6 +92,12 @@ storage_taken areas (Tree one conditions inner next) h =
     all_append TakesAll (places (top area []) 0 0 (Tree one conditions inner End)) (storage_places (area + 1) next)
     (places_taken (top area []) 0 0 (Tree one conditions inner End) (h.0, h.1, tt)) (storage_taken (area + 1) next h.2)
 
+record_taken : (file : Name) (F : Forest) → AreTaken nothing_around F → (area : ℕ) → AllByRecursion TakesAll (record_places area file F)
+record_taken file End h area = tt
+record_taken file (Tree one conditions inner next) h area =
+    all_append TakesAll (places (top area (file ∷ [])) 0 0 (Tree one conditions inner End)) (record_places area file next)
+    (places_taken (top area (file ∷ [])) 0 0 (Tree one conditions inner End) (h.0, h.1, tt)) (record_taken file next h.2 area)
+
 -- ---- the condition names of all items
 
 kind_of : (kind : Kind) (length : ℕ) → IsOfLength kind length → IsKindOf kind length
@@ -106,8 +116,12 @@ of_items : (items : List Placed) → AllByRecursion IsFormed items → AllByRecu
 of_items [] form h = tt
 of_items (one ∷ more) form h = all_append CanBeSet (conditions_of one one.conditions) (all_conditions more) (of_item one one.conditions form.0 h.0) (of_items more form.1 h.1)
 
-pub all_can_be_set : (entries : List Entry) → entry_rules entries ≡ [] → All CanBeSet (all_conditions (items_of entries))
-all_can_be_set entries e =
-    let parts = rule_parts entries e in
-    All-from_recursion CanBeSet (all_conditions (items_of entries))
-    (of_items (items_of entries) (formed_by_recursion entries e) (storage_taken 0 (nested entries) (taken (outermost false) None (nested entries) parts.1)))
+pub all_can_be_set : (program : Program) → entry_rules program.storage ≡ [] → descriptions_rules program.storage program.files ≡ [] → All CanBeSet (all_conditions (program_items program))
+all_can_be_set program e f =
+    let parts = rule_parts program.storage e in
+    All-from_recursion CanBeSet (all_conditions (program_items program))
+    (of_items (program_items program) (formed_by_recursion program e f)
+    (all_append TakesAll (items_of program.storage) (file_places (storage_areas program.storage) program.files)
+    (storage_taken 0 (nested program.storage) (taken (outermost false) None (nested program.storage) parts.1))
+    (of_files TakesAll (storage_areas program.storage) program.files
+    (of_descriptions _ (λ one kept. record_taken one.name (nested one.entries) (taken (outermost true) None (nested one.entries) kept.forest)) program.files (descriptions program.storage program.files f)))))

@@ -1,20 +1,25 @@
 -- Items in the order of their entries, counted, and those that the definitions place.
-use Rattle.std.proofs.Common.{◌≡◌, ℕ, suc, ◌+◌, ◌-◌, ◌*◌, Bool, true, false, nat_lt, if◌then◌else◌, List, [], ◌∷◌, ◌++◌, length, drop, ◌≤◌, None, Some, refl, ap, sym, ◌∙◌, length-append, arith}
+use Rattle.std.proofs.Common.{◌≡◌, ℕ, zero, suc, ◌+◌, ◌-◌, ◌*◌, Bool, true, false, nat_lt, if◌then◌else◌, List, [], ◌∷◌, ◌++◌, length, drop, get_or, drop-cons, add-one, ◌≤◌, ◌<◌, None, Some, refl, ap, sym, ◌∙◌, length-append, arith}
 use Rattle.std.specs.Prelude.{Option, map, slice_get}
 use Rattle.std.specs.Option.{option_map}
 use Rattle.std.proofs.lemmas.List.{map-append, append-nil, drop_all}
 use Rattle.std.proofs.lemmas.Option.{slice_get-map}
+use Rattle.source_tree.specs.declared.name.Name.{Name}
 use Rattle.source_tree.specs.declared.entry.Around.{Around}
 use Rattle.source_tree.specs.declared.entry.ItemEntry.{ItemEntry}
 use Rattle.source_tree.specs.declared.entry.ConditionEntry.{ConditionEntry}
 use Rattle.source_tree.specs.declared.entry.Entry.{Entry}
 use Rattle.source_tree.specs.declared.entry.Entry.TheVariants.{Item, Condition}
+use Rattle.source_tree.specs.declared.select.FileDescription.{FileDescription}
+use Rattle.source_tree.specs.declared.program.Program.{Program}
 use Rattle.source_tree.specs.Levels.{Forest, End, Tree, level_of, deeper, beyond, nested}
 use Rattle.source_tree.specs.Clauses.{nothing_around, inside, occurrences}
 use Rattle.source_tree.specs.Rooms.{redefines, item_with}
 use Rattle.source_tree.specs.Places.{Placed, Surroundings, within, places, top, storage_places, items_of}
+use Rattle.source_tree.specs.Records.{storage_areas, record_places, file_places, program_items}
 use Rattle.source_tree.specs.Initializing.{Pattern}
-use Rattle.initial_storage.specs.Patterns.{Outline, outline, outline_of, outlines, outline_pattern, pattern_at}
+use Rattle.initial_storage.specs.Patterns.{Outline, outline, outline_of, outlines, file_outlines, program_outlines, outline_pattern, pattern_at, IsFoundAt}
+use Rattle.initial_storage.specs.declared.outlines.Found.{Found}
 
 abbrev pub entry_count : List Entry → ℕ
 entry_count [] = 0
@@ -80,8 +85,49 @@ storage_outlined areas (Tree one conditions inner next) =
     ∙ ap (λ l. (own ∷ l) ++ map outline_of (storage_places (area + 1) next)) (append-nil deep)
     ∙ ap (λ l. (own ∷ deep) ++ l) (storage_outlined (area + 1) next)
 
-pub items_outlined : (entries : List Entry) → map outline_of (items_of entries) ≡ outlines nothing_around (nested entries)
-items_outlined entries = storage_outlined 0 (nested entries)
+record_outlined : (area : ℕ) (file : Name) (F : Forest) → map outline_of (record_places area file F) ≡ outlines nothing_around F
+record_outlined area file End = refl
+record_outlined area file (Tree one conditions inner next) =
+    let own : Outline = outline nothing_around one inner in
+    let deep : List Outline = outlines (inside nothing_around one) inner in
+    map-append outline_of (places (top area (file ∷ [])) 0 0 (Tree one conditions inner End)) (record_places area file next)
+    ∙ ap (λ l. l ++ map outline_of (record_places area file next)) (places_outlined (top area (file ∷ [])) 0 0 (Tree one conditions inner End))
+    ∙ ap (λ l. (own ∷ l) ++ map outline_of (record_places area file next)) (append-nil deep)
+    ∙ ap (λ l. (own ∷ deep) ++ l) (record_outlined area file next)
+
+files_outlined : (area : ℕ) (files : List FileDescription) → map outline_of (file_places area files) ≡ file_outlines files
+files_outlined area [] = refl
+files_outlined area (one ∷ more) =
+    map-append outline_of (record_places area one.name (nested one.entries)) (file_places (area + 1) more)
+    ∙ ap (λ l. l ++ map outline_of (file_places (area + 1) more)) (record_outlined area one.name (nested one.entries))
+    ∙ ap (λ l. outlines nothing_around (nested one.entries) ++ l) (files_outlined (area + 1) more)
+
+items_outlined : (program : Program) → map outline_of (program_items program) ≡ program_outlines program
+items_outlined program =
+    map-append outline_of (items_of program.storage) (file_places (storage_areas program.storage) program.files)
+    ∙ ap (λ l. l ++ map outline_of (file_places (storage_areas program.storage) program.files)) (storage_outlined 0 (nested program.storage))
+    ∙ ap (λ l. outlines nothing_around (nested program.storage) ++ l) (files_outlined (storage_areas program.storage) program.files)
+
+-- ---- the item of a number, in one list or in the one behind it
+
+pub in_first : (xs ys : List Outline) (n : ℕ) → n < length xs → slice_get (xs ++ ys) n ≡ slice_get xs n
+in_first [] ys n h = absurd (omega arith)
+in_first (one ∷ more) ys zero h = refl
+in_first (one ∷ more) ys (suc n) h = in_first more ys n (omega arith)
+
+pub in_second : (xs ys : List Outline) (n : ℕ) → length xs ≤ n → slice_get (xs ++ ys) n ≡ slice_get ys (n - length xs)
+in_second [] ys n h = let same : n ≡ n - 0 = omega arith in ap (slice_get ys) same
+in_second (one ∷ more) ys zero h = absurd (omega arith)
+in_second (one ∷ more) ys (suc n) h =
+    let same : n - length more ≡ suc n - suc (length more) = omega arith in
+    in_second more ys n (omega arith) ∙ ap (slice_get ys) same
+
+pub rest_at : (files : List FileDescription) (i : ℕ) (one : FileDescription) → i < length files → one ≡ get_or files i one → drop i files ≡ one ∷ drop (i + 1) files
+rest_at files i one h is = drop-cons files i one h ∙ ap (λ k. get_or files i one ∷ drop k files) (sym (add-one i)) ∙ ap (λ x. x ∷ drop (i + 1) files) (sym is)
+
+pub found_if : (all others : List Outline) (n m : ℕ) (found : Option Found) → slice_get all n ≡ slice_get others m → IsFoundAt others m found → IsFoundAt all n found
+found_if all others n m None e h = e ∙ h
+found_if all others n m (Some found) e h = (e ∙ h.0, h.1)
 
 -- ---- what INITIALIZE puts into the item of a number
 
@@ -93,10 +139,10 @@ same_pattern : (one : Option Placed) → pattern_at one ≡ pattern_in (option_m
 same_pattern None = refl
 same_pattern (Some one) = refl
 
-pub pattern_outlined : (entries : List Entry) (n : ℕ) (found : Option Outline) → slice_get (outlines nothing_around (nested entries)) n ≡ found
-    → pattern_at (slice_get (items_of entries) n) ≡ pattern_in found
-pattern_outlined entries n found is =
-    same_pattern (slice_get (items_of entries) n)
-    ∙ ap pattern_in (sym (slice_get-map outline_of (items_of entries) n))
-    ∙ ap (λ (l : List Outline). pattern_in (slice_get l n)) (items_outlined entries)
+pub pattern_outlined : (program : Program) (n : ℕ) (found : Option Outline) → slice_get (program_outlines program) n ≡ found
+    → pattern_at (slice_get (program_items program) n) ≡ pattern_in found
+pattern_outlined program n found is =
+    same_pattern (slice_get (program_items program) n)
+    ∙ ap pattern_in (sym (slice_get-map outline_of (program_items program) n))
+    ∙ ap (λ (l : List Outline). pattern_in (slice_get l n)) (items_outlined program)
     ∙ ap pattern_in is

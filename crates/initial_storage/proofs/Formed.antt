@@ -1,5 +1,5 @@
 -- Items of entries that keep the rules have their form: an elementary one by its picture, and a group has items in it.
-use Rattle.std.proofs.Common.{◌≡◌, ℕ, ◌+◌, ◌-◌, ◌*◌, ◌≤◌, Bool, true, false, ◌&&◌, ◌||◌, if◌then◌else◌, List, [], None, Some, is_some, is_none, refl, arith}
+use Rattle.std.proofs.Common.{◌≡◌, ℕ, ◌+◌, ◌-◌, ◌*◌, ◌≤◌, Bool, true, false, ◌&&◌, ◌||◌, if◌then◌else◌, List, [], ◌∷◌, None, Some, is_some, is_none, refl, arith}
 use Rattle.std.specs.Prelude.{Option}
 use Rattle.std.specs.List.{All, AllByRecursion}
 use Rattle.std.proofs.Math.Nat.{mul-le-mul_right}
@@ -11,17 +11,23 @@ use Rattle.source_tree.specs.declared.entry.Around.{Around}
 use Rattle.source_tree.specs.declared.entry.PictureText.{PictureText}
 use Rattle.source_tree.specs.declared.entry.ItemEntry.{ItemEntry}
 use Rattle.source_tree.specs.declared.entry.Entry.{Entry}
+use Rattle.source_tree.specs.declared.name.Name.{Name}
+use Rattle.source_tree.specs.declared.select.FileDescription.{FileDescription}
+use Rattle.source_tree.specs.declared.program.Program.{Program}
 use Rattle.source_tree.specs.Levels.{Forest, End, Tree, nested}
 use Rattle.source_tree.specs.Clauses.{nothing_around, inside, form_of, item_by, editing_in, editing_of, occurrences}
 use Rattle.source_tree.specs.Rooms.{redefines, room, item_with}
 use Rattle.source_tree.specs.Places.{Surroundings, within, places, top, storage_places, items_of}
+use Rattle.source_tree.specs.Records.{storage_areas, record_places, file_places, program_items}
 use Rattle.source_tree.specs.Broken.{each}
 use Rattle.source_tree.specs.ClauseRules.{has_items, most_item_bytes, wrong_picture}
 use Rattle.source_tree.specs.RedefinitionRules.{Redefinable, remembered}
 use Rattle.source_tree.specs.ValueRules.{condition_rules}
 use Rattle.source_tree.specs.EntryRules.{Position, outermost, is_outermost, own_rules, below, forest_rules, entry_rules}
-use Rattle.initial_storage.specs.Formed.{IsFormed, HasForm, AreFormed}
+use Rattle.source_tree.specs.FileRules.{descriptions_rules}
+use Rattle.initial_storage.specs.Formed.{IsFormed, HasForm, AreFormed, FormsFile}
 use Rattle.initial_storage.proofs.Kept.{three_parts, KeepsOwn, keeps_own, rule_parts}
+use Rattle.initial_storage.proofs.KeptFiles.{Description, descriptions, of_descriptions, of_files}
 use Rattle.initial_storage.proofs.Groups.{all_append}
 use Rattle.initial_storage.proofs.Records.{redefines_some}
 use Rattle.initial_storage.proofs.Pictures.{picture_read, elementary_formed, some_bytes}
@@ -99,12 +105,28 @@ storage_formed areas (Tree one conditions inner next) h =
     all_append IsFormed (places (top area []) 0 0 (Tree one conditions inner End)) (storage_places (area + 1) next)
     (places_formed (top area []) 0 0 (Tree one conditions inner End) (h.0, h.1, tt)) (storage_formed (area + 1) next h.2)
 
+record_formed : (file : Name) (F : Forest) → AreFormed nothing_around F → (area : ℕ) → AllByRecursion IsFormed (record_places area file F)
+record_formed file End h area = tt
+record_formed file (Tree one conditions inner next) h area =
+    all_append IsFormed (places (top area (file ∷ [])) 0 0 (Tree one conditions inner End)) (record_places area file next)
+    (places_formed (top area (file ∷ [])) 0 0 (Tree one conditions inner End) (h.0, h.1, tt)) (record_formed file next h.2 area)
+
 -- all entries, one in another
 pub forest_formed : (entries : List Entry) → entry_rules entries ≡ [] → AreFormed nothing_around (nested entries)
 forest_formed entries e = let parts = rule_parts entries e in formed (outermost false) None (nested entries) parts.1
 
-pub formed_by_recursion : (entries : List Entry) → entry_rules entries ≡ [] → AllByRecursion IsFormed (items_of entries)
-formed_by_recursion entries e = storage_formed 0 (nested entries) (forest_formed entries e)
+file_formed : (one : FileDescription) → Description one → FormsFile one
+file_formed one kept = formed (outermost true) None (nested one.entries) kept.forest
 
-pub all_formed : (entries : List Entry) → entry_rules entries ≡ [] → All IsFormed (items_of entries)
-all_formed entries e = All-from_recursion IsFormed (items_of entries) (formed_by_recursion entries e)
+pub files_formed : (storage : List Entry) (files : List FileDescription) → descriptions_rules storage files ≡ [] → AllByRecursion FormsFile files
+files_formed storage files e = of_descriptions FormsFile file_formed files (descriptions storage files e)
+
+pub formed_by_recursion : (program : Program) → entry_rules program.storage ≡ [] → descriptions_rules program.storage program.files ≡ [] → AllByRecursion IsFormed (program_items program)
+formed_by_recursion program e f =
+    all_append IsFormed (items_of program.storage) (file_places (storage_areas program.storage) program.files)
+    (storage_formed 0 (nested program.storage) (forest_formed program.storage e))
+    (of_files IsFormed (storage_areas program.storage) program.files
+    (of_descriptions _ (λ one kept. record_formed one.name (nested one.entries) (file_formed one kept)) program.files (descriptions program.storage program.files f)))
+
+pub all_formed : (program : Program) → entry_rules program.storage ≡ [] → descriptions_rules program.storage program.files ≡ [] → All IsFormed (program_items program)
+all_formed program e f = All-from_recursion IsFormed (program_items program) (formed_by_recursion program e f)

@@ -142,7 +142,7 @@ three_parts a b c d e =
     let rest = back_nil a (b ++ (c ++ d)) e in
     (front_nil a (b ++ (c ++ d)) e, front_nil b (c ++ d) rest, back_nil c d (back_nil b (c ++ d) rest))
 
-of_forest : (at : Position) (last : Option Redefinable) (F : Forest) → AreTold F → forest_rules at last F ≡ [] → Fits at.around F
+pub of_forest : (at : Position) (last : Option Redefinable) (F : Forest) → AreTold F → forest_rules at last F ≡ [] → Fits at.around F
 of_forest at last End levels e = tt
 of_forest at last (Tree one conditions inner next) levels e =
     let item : Items.Item = item_with at.around one inner in

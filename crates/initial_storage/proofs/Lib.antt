@@ -7,6 +7,7 @@ pub mod Formed
 pub mod Groups
 pub mod Inner
 pub mod Kept
+pub mod KeptFiles
 pub mod Lengths
 pub mod Pictures
 pub mod Places

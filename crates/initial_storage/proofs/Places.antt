@@ -6,16 +6,16 @@ use Rattle.std.proofs.Math.Nat.{mul-le-mul_right}
 use Rattle.source_tree.specs.declared.table.Dimension.{Dimension}
 use Rattle.source_tree.specs.declared.reference.Subscript as written
 use Rattle.source_tree.specs.declared.reference.Reference.{Reference}
-use Rattle.source_tree.specs.declared.entry.Entry.{Entry}
+use Rattle.source_tree.specs.declared.program.Program.{Program}
 use Rattle.source_tree.specs.Evaluated.{Subscript, Evaluated, ◌>>=◌, needed}
 use Rattle.source_tree.specs.Storage.{Storage}
-use Rattle.source_tree.specs.Levels.{nested}
-use Rattle.source_tree.specs.Rooms.{area_lengths}
-use Rattle.source_tree.specs.Places.{Placed, items_of}
+use Rattle.source_tree.specs.Places.{Placed}
+use Rattle.source_tree.specs.Records.{program_items}
 use Rattle.source_tree.specs.LookUp.{is_item, items_named, first}
 use Rattle.source_tree.specs.References.{ItemPlace, place_behind, stepped, subscript_value, bytes_before, occurrence, place_of}
 use Rattle.source_tree.specs.EntryRules.{entry_rules}
-use Rattle.initial_storage.specs.Reach.{reach, IsWithin}
+use Rattle.source_tree.specs.FileRules.{descriptions_rules}
+use Rattle.initial_storage.specs.Reach.{reach, IsWithin, program_area_lengths}
 use Rattle.initial_storage.proofs.Records.{within_by_recursion}
 
 -- what two steps answer, both of them did
@@ -75,11 +75,11 @@ named_so : (P : Placed → Type 0) (test : Placed → Bool) (items : List Placed
 named_so P test [] x h e = cc
 named_so P test (one ∷ more) x h e = first_if (test one) P one (filter test more) x h.0 (named_so P test more x h.1) e
 
-pub places_within : (entries : List Entry) (reference : Reference) (storage : Storage) (place : ItemPlace) → entry_rules entries ≡ []
-    → place_of (items_of entries) reference storage ≡ Ok place → place.offset + place.item.length ≤ get_or (area_lengths (nested entries)) place.area 0
-places_within entries reference storage place kept e =
-    let items : List Placed = items_of entries in
-    let lengths : List ℕ = area_lengths (nested entries) in
+pub places_within : (program : Program) (reference : Reference) (storage : Storage) (place : ItemPlace) → entry_rules program.storage ≡ [] → descriptions_rules program.storage program.files ≡ []
+    → place_of (program_items program) reference storage ≡ Ok place → place.offset + place.item.length ≤ get_or (program_area_lengths program) place.area 0
+places_within program reference storage place kept files_kept e =
+    let items : List Placed = program_items program in
+    let lengths : List ℕ = program_area_lengths program in
     let found = both (needed (first (items_named items reference.item))) _ place e in
     occurrence_within lengths items reference.subscripts found.0 storage place found.2
-    (named_so (IsWithin lengths) (is_item reference.item) items found.0 (within_by_recursion entries kept) found.1)
+    (named_so (IsWithin lengths) (is_item reference.item) items found.0 (within_by_recursion program kept files_kept) found.1)

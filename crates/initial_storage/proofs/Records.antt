@@ -1,5 +1,5 @@
 -- Items lie within their areas.
-use Rattle.std.proofs.Common.{◌≡◌, ℕ, ◌+◌, ◌-◌, ◌*◌, ◌≤◌, ◌<◌, max, Bool, true, false, if◌then◌else◌, List, [], ◌∷◌, ◌++◌, length, get_or, None, Some, is_some, refl, sym, ap, subst, ◌∙◌, append_assoc, length-append, arith}
+use Rattle.std.proofs.Common.{◌≡◌, ℕ, zero, suc, ◌+◌, ◌-◌, ◌*◌, ◌≤◌, ◌<◌, max, Bool, true, false, ◌&&◌, if◌then◌else◌, List, [], ◌∷◌, ◌++◌, length, get_or, None, Some, is_some, refl, sym, ap, subst, ◌∙◌, append_assoc, length-append, arith}
 use Rattle.std.specs.Prelude.{Option}
 use Rattle.std.specs.List.{All, AllByRecursion}
 use Rattle.std.proofs.Math.ListN.{get_or-append}
@@ -9,16 +9,21 @@ use Rattle.items.specs.declared.item.Item.{Item}
 use Rattle.source_tree.specs.declared.name.Name.{Name}
 use Rattle.source_tree.specs.declared.entry.ItemEntry.{ItemEntry}
 use Rattle.source_tree.specs.declared.entry.Entry.{Entry}
+use Rattle.source_tree.specs.declared.select.FileDescription.{FileDescription}
+use Rattle.source_tree.specs.declared.program.Program.{Program}
 use Rattle.source_tree.specs.Levels.{Forest, End, Tree, nested}
 use Rattle.source_tree.specs.Clauses.{nothing_around, inside, occurrences}
 use Rattle.source_tree.specs.Rooms.{redefines, room, item_with, longest, redefining, area_lengths}
 use Rattle.source_tree.specs.Places.{Placed, top, places, storage_places, items_of}
+use Rattle.source_tree.specs.Records.{storage_areas, record_length, record_places, file_places, program_items}
 use Rattle.source_tree.specs.Broken.{each}
 use Rattle.source_tree.specs.RedefinitionRules.{Redefinable, remembered, wrong_object, wrong_redefinition}
 use Rattle.source_tree.specs.ValueRules.{condition_rules}
-use Rattle.source_tree.specs.EntryRules.{outermost, redefinition_rules, own_rules, below, forest_rules, entry_rules}
-use Rattle.initial_storage.specs.Reach.{reach, IsWithin}
+use Rattle.source_tree.specs.EntryRules.{outermost, is_outermost, redefinition_rules, own_rules, below, forest_rules, entry_rules}
+use Rattle.source_tree.specs.FileRules.{descriptions_rules}
+use Rattle.initial_storage.specs.Reach.{reach, IsWithin, record_area_lengths, program_area_lengths}
 use Rattle.initial_storage.proofs.Kept.{three_parts, kept, second_false, KeepsOwn, keeps_own, rule_parts}
+use Rattle.initial_storage.proofs.KeptFiles.{Description, descriptions}
 use Rattle.initial_storage.proofs.Inner.{Outer, outer_nested}
 use Rattle.initial_storage.proofs.Sizes.{room_in, sized}
 use Rattle.initial_storage.proofs.Groups.{Sized, Ends, all_append, within_group}
@@ -44,20 +49,21 @@ some_if : (b : Bool) (last : Option Redefinable) (one : Redefinable) → (b ≡ 
 some_if true last one h = h refl
 some_if false last one h = refl
 
-records : (last : Option Redefinable) (F : Forest) → Outer F → forest_rules (outermost false) last F ≡ [] → Records (is_some last) F
-records last End levels e = tt
-records last (Tree one conditions inner next) levels e =
+records : (in_file : Bool) (last : Option Redefinable) (F : Forest) → Outer F → forest_rules (outermost in_file) last F ≡ [] → Records (is_some last) F
+records in_file last End levels e = tt
+records in_file last (Tree one conditions inner next) levels e =
+    let at = outermost in_file in
     let item : Item = item_with nothing_around one inner in
     let bytes : ℕ = occurrences one * item.length in
     let after : Option Redefinable = remembered one bytes last in
-    let parts = three_parts (forest_rules (below (outermost false) one inner) None inner) (own_rules (outermost false) one item inner last) (each (condition_rules item) conditions) (forest_rules (outermost false) after next) e in
-    let own : KeepsOwn (outermost false) one inner last = keeps_own (outermost false) one inner last parts.1 in
-    let so : redefines one ≡ true → is_some last ≡ true = redefines_some false one bytes one.redefines last own.redefinition in (
+    let parts = three_parts (forest_rules (below at one inner) None inner) (own_rules at one item inner last) (each (condition_rules item) conditions) (forest_rules at after next) e in
+    let own : KeepsOwn at one inner last = keeps_own at one inner last parts.1 in
+    let so : redefines one ≡ true → is_some last ≡ true = redefines_some (is_outermost at && at.in_file) one bytes one.redefines last own.redefinition in (
       so,
       own.some,
       room_in nothing_around one inner own.picture,
-      sized (below (outermost false) one inner) None inner levels.0 parts.0,
-      subst (λ b. Records b next) (some_if (redefines one) last _ so) (records after next levels.1 parts.2),
+      sized (below at one inner) None inner levels.0 parts.0,
+      subst (λ b. Records b next) (some_if (redefines one) last _ so) (records in_file after next levels.1 parts.2),
     )
 
 -- ---- areas
@@ -147,11 +153,69 @@ begins : (F : Forest) → Records false F → longest nothing_around (redefining
 begins End h = omega arith
 begins (Tree one conditions inner next) h = no_front (redefines one) (Tree one conditions inner (redefining next)) h.0
 
-pub within_by_recursion : (entries : List Entry) → entry_rules entries ≡ [] → AllByRecursion (IsWithin (area_lengths (nested entries))) (items_of entries)
-within_by_recursion entries e =
+storage_within : (entries : List Entry) → entry_rules entries ≡ [] → AllByRecursion (IsWithin (area_lengths (nested entries))) (items_of entries)
+storage_within entries e =
     let parts = rule_parts entries e in
-    let all : Records false (nested entries) = records None (nested entries) (outer_nested entries parts.0) parts.1 in
+    let all : Records false (nested entries) = records false None (nested entries) (outer_nested entries parts.0) parts.1 in
     within_storage 0 [] false (nested entries) refl (λ so. cc) all (begins (nested entries) all)
 
-pub within_areas : (entries : List Entry) → entry_rules entries ≡ [] → All (IsWithin (area_lengths (nested entries))) (items_of entries)
-within_areas entries e = All-from_recursion (IsWithin (area_lengths (nested entries))) (items_of entries) (within_by_recursion entries e)
+-- ---- records of files
+
+own_shorter : (own rest limit : ℕ) → max own rest ≤ limit → own ≤ limit
+own_shorter own rest limit h = omega arith
+
+rest_shorter : (own rest limit : ℕ) → max own rest ≤ limit → rest ≤ limit
+rest_shorter own rest limit h = omega arith
+
+within_record : (lengths : List ℕ) (area : ℕ) (file : Name) (limit : ℕ) → limit ≤ get_or lengths area 0 → (some : Bool) (F : Forest) → Records some F → longest nothing_around F ≤ limit
+    → AllByRecursion (IsWithin lengths) (record_places area file F)
+within_record lengths area file limit fits some End kept h = tt
+within_record lengths area file limit fits some (Tree one conditions inner next) kept h =
+    let own : ℕ = occurrences one * (item_with nothing_around one inner).length in
+    let rest : ℕ = longest nothing_around next in
+    let most : own ≤ limit = own_shorter own rest limit h in
+    let own_area : own ≤ get_or lengths area 0 = omega arith in
+    let items = places (top area (file ∷ [])) 0 0 (Tree one conditions inner End) in
+    let ends : AllByRecursion (Ends area own) items =
+    within_group (top area (file ∷ [])) own 0 0 own (Tree one conditions inner End)
+    (record { some = kept.1; shorter = λ so. omega arith; room = kept.2 }, kept.3, tt) (omega arith) (none_taken (redefines one) own) in
+    all_append (IsWithin lengths) items (record_places area file next)
+    (all_weaker (Ends area own) (IsWithin lengths) items (ends_within lengths area own own_area) ends)
+    (within_record lengths area file limit fits true next kept.4 (rest_shorter own rest limit h))
+
+kept_records : (one : FileDescription) → Description one → Records false (nested one.entries)
+kept_records one kept = records true None (nested one.entries) (outer_nested one.entries kept.levels) kept.forest
+
+files_within : (before : List ℕ) (area : ℕ) (files : List FileDescription) → length before ≡ area → AllByRecursion Description files
+    → AllByRecursion (IsWithin (before ++ record_area_lengths files)) (file_places area files)
+files_within before area [] e h = tt
+files_within before area (one ∷ more) e h =
+    let size : ℕ = record_length one.entries in
+    let lengths : List ℕ = before ++ size ∷ record_area_lengths more in
+    let here : get_or lengths area 0 ≡ size = ap (λ n. get_or lengths n 0) (sym e) ∙ get_or-append_seam before size (record_area_lengths more) 0 in
+    let behind : length (before ++ size ∷ []) ≡ area + 1 = omega (arith, e, length-append before (size ∷ [])) in
+    all_append (IsWithin lengths) (record_places area one.name (nested one.entries)) (file_places (area + 1) more)
+    (within_record lengths area one.name size (omega arith) false (nested one.entries) (kept_records one h.0) (omega arith))
+    (subst (λ l. AllByRecursion (IsWithin l) (file_places (area + 1) more)) (append_assoc before (size ∷ []) (record_area_lengths more))
+    (files_within (before ++ size ∷ []) (area + 1) more behind h.1))
+
+-- ---- all of a program
+
+more_areas : (lengths more : List ℕ) (n : ℕ) → get_or lengths n 0 ≤ get_or (lengths ++ more) n 0
+more_areas [] more n = omega arith
+more_areas (one ∷ others) more zero = omega arith
+more_areas (one ∷ others) more (suc n) = more_areas others more n
+
+still_within : (lengths more : List ℕ) (one : Placed) → IsWithin lengths one → IsWithin (lengths ++ more) one
+still_within lengths more one h = let longer = more_areas lengths more one.area in omega (arith, h, longer)
+
+pub within_by_recursion : (program : Program) → entry_rules program.storage ≡ [] → descriptions_rules program.storage program.files ≡ [] → AllByRecursion (IsWithin (program_area_lengths program)) (program_items program)
+within_by_recursion program e f =
+    let lengths = area_lengths (nested program.storage) in
+    let more = record_area_lengths program.files in
+    all_append (IsWithin (lengths ++ more)) (items_of program.storage) (file_places (storage_areas program.storage) program.files)
+    (all_weaker (IsWithin lengths) (IsWithin (lengths ++ more)) (items_of program.storage) (still_within lengths more) (storage_within program.storage e))
+    (files_within lengths (storage_areas program.storage) program.files refl (descriptions program.storage program.files f))
+
+pub within_areas : (program : Program) → entry_rules program.storage ≡ [] → descriptions_rules program.storage program.files ≡ [] → All (IsWithin (program_area_lengths program)) (program_items program)
+within_areas program e f = All-from_recursion (IsWithin (program_area_lengths program)) (program_items program) (within_by_recursion program e f)

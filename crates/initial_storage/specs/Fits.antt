@@ -9,8 +9,9 @@ use Rattle.edited_move.specs.Moves.{is_number_sender}
 use Rattle.source_tree.specs.declared.literal.Literal.{Literal}
 use Rattle.source_tree.specs.declared.entry.Around.{Around}
 use Rattle.source_tree.specs.declared.entry.ItemEntry.{ItemEntry}
-use Rattle.source_tree.specs.Levels.{Forest, End, Tree, level_of}
-use Rattle.source_tree.specs.Clauses.{inside, occurrences}
+use Rattle.source_tree.specs.declared.select.FileDescription.{FileDescription}
+use Rattle.source_tree.specs.Levels.{Forest, End, Tree, level_of, nested}
+use Rattle.source_tree.specs.Clauses.{nothing_around, inside, occurrences}
 use Rattle.source_tree.specs.Rooms.{item_with}
 use Rattle.source_tree.specs.Literals.{literal_sender}
 use Rattle.source_tree.specs.ClauseRules.{most_item_bytes, most_occurrences}
@@ -35,6 +36,10 @@ pub record FitsEntry (around : Around) (one : ItemEntry) (inner : Forest) : Type
 abbrev pub Fits : Around → Forest → Type 0
 Fits around End = Unit {0}
 Fits around (Tree one conditions inner next) = FitsEntry around one inner × Fits (inside around one) inner × Fits around next
+
+-- the same of the records of a file
+abbrev pub FitsFile : FileDescription → Type 0
+FitsFile one = Fits nothing_around (nested one.entries)
 
 -- A numeric item has its form, and the length of its usage.
 abbrev pub IsKindOf : Kind → ℕ → Type 0

@@ -5,8 +5,9 @@ use Rattle.items.specs.declared.item.Item.{Item}
 use Rattle.items.specs.Items.{IsItem}
 use Rattle.source_tree.specs.declared.entry.Around.{Around}
 use Rattle.edited_move.specs.Moves.{IsPlainKind, IsEditedBy}
-use Rattle.source_tree.specs.Clauses.{inside, editing_of}
-use Rattle.source_tree.specs.Levels.{Forest, End, Tree}
+use Rattle.source_tree.specs.declared.select.FileDescription.{FileDescription}
+use Rattle.source_tree.specs.Clauses.{nothing_around, inside, editing_of}
+use Rattle.source_tree.specs.Levels.{Forest, End, Tree, nested}
 use Rattle.source_tree.specs.Places.{Placed}
 use Rattle.source_tree.specs.Rooms.{item_with}
 
@@ -28,3 +29,7 @@ abbrev pub AreFormed : Around → Forest → Type 0
 AreFormed around End = Unit {0}
 AreFormed around (Tree one conditions inner next) =
     HasForm (item_with around one inner) (editing_of around one) × AreFormed (inside around one) inner × AreFormed around next
+
+-- the same of the records of a file
+abbrev pub FormsFile : FileDescription → Type 0
+FormsFile one = AreFormed nothing_around (nested one.entries)

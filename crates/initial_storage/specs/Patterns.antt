@@ -4,8 +4,10 @@ use Rattle.picture.specs.declared.picture.Picture.{Picture}
 use Rattle.items.specs.declared.item.Item.{Item}
 use Rattle.source_tree.specs.declared.entry.Around.{Around}
 use Rattle.source_tree.specs.declared.entry.ItemEntry.{ItemEntry}
+use Rattle.source_tree.specs.declared.select.FileDescription.{FileDescription}
+use Rattle.source_tree.specs.declared.program.Program.{Program}
 use Rattle.source_tree.specs.Levels.{Forest, End, Tree, nested}
-use Rattle.source_tree.specs.Clauses.{inside, editing_of}
+use Rattle.source_tree.specs.Clauses.{nothing_around, inside, editing_of}
 use Rattle.source_tree.specs.Rooms.{item_with}
 use Rattle.source_tree.specs.Places.{Placed}
 use Rattle.source_tree.specs.Initializing.{Pattern, by_kind, entries_pattern, initialized, named_pattern}
@@ -52,6 +54,14 @@ outline around one inner =
 abbrev pub outlines : Around → Forest → List Outline
 outlines around End = []
 outlines around (Tree one conditions inner next) = outline around one inner ∷ (outlines (inside around one) inner ++ outlines around next)
+
+-- those of the records of files
+abbrev pub file_outlines : List FileDescription → List Outline
+file_outlines [] = []
+file_outlines (one ∷ more) = outlines nothing_around (nested one.entries) ++ file_outlines more
+
+abbrev pub program_outlines : Program → List Outline
+program_outlines program = outlines nothing_around (nested program.storage) ++ file_outlines program.files
 
 -- what INITIALIZE puts into it
 abbrev pub outline_pattern : Outline → Pattern

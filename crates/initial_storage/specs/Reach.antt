@@ -1,7 +1,20 @@
 -- Items and their areas.
-use Rattle.std.specs.Prelude.{◌≡◌, ℕ, ◌+◌, ◌-◌, ◌*◌, ◌≤◌, List, [], ◌∷◌, length, Some, slice_get, slice_index}
+use Rattle.std.specs.Prelude.{◌≡◌, ℕ, ◌+◌, ◌-◌, ◌*◌, ◌≤◌, map, List, [], ◌∷◌, ◌++◌, length, Some, slice_get, slice_index}
 use Rattle.source_tree.specs.declared.table.Dimension.{Dimension}
+use Rattle.source_tree.specs.declared.select.FileDescription.{FileDescription}
+use Rattle.source_tree.specs.declared.program.Program.{Program}
+use Rattle.source_tree.specs.Levels.{nested}
 use Rattle.source_tree.specs.Places.{Placed}
+use Rattle.source_tree.specs.Records.{record_length}
+use Rattle.source_tree.specs.Rooms.{area_lengths}
+
+-- the lengths of the record areas of files
+abbrev pub record_area_lengths : List FileDescription → List ℕ
+record_area_lengths files = map (λ (one : FileDescription). record_length one.entries) files
+
+-- the lengths of all areas of a program
+abbrev pub program_area_lengths : Program → List ℕ
+program_area_lengths program = area_lengths (nested program.storage) ++ record_area_lengths program.files
 
 -- The bytes from an item's first occurrence to its last.
 abbrev pub reach : List Dimension → ℕ

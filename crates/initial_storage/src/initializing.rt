@@ -2,15 +2,16 @@
 
 ghost use Rattle.std.specs.Prelude.{◌≡◌, ◌++◌, [], slice_get, IfOk, OnOk};
 ghost use Rattle.source_tree.specs.EntryRules.{entry_rules};
+ghost use Rattle.source_tree.specs.FileRules.{descriptions_rules};
 ghost use Rattle.source_tree.specs.Levels.{nested};
-ghost use Rattle.source_tree.specs.Places.{items_of};
+ghost use Rattle.source_tree.specs.Records.{program_items};
 ghost use Rattle.initial_storage.specs.Patterns as spec;
 ghost use Rattle.initial_storage.specs.Patterns.{StandsWell, bytes_of_pattern, marks_of_pattern};
 
-use crate::outlines::{Found, item_at};
+use crate::outlines::{Found, program_item_at};
 use crate::patterns::{put_initialized, put_within};
-use entries::{editing, elementary, inside, levels_are_told, picture_of};
-use source_tree::Entry;
+use entries::{editing, elementary, inside, levels_are_told, picture_of, record_levels_are_told};
+use source_tree::Program;
 use sqlite_items::Items;
 use std::alloc::{AllocError, Global};
 
@@ -63,15 +64,17 @@ fn put_named(alloc: Global, found: Found<'_>, out: &mut Vec<Option<u8>>) -> Resu
 /// What comes in the place of each byte of the item of that number; of none where there is no such item.
 fn pattern_at(
     alloc: Global,
-    entries: &[Entry],
+    program: &Program,
     number: usize,
 ) -> Result<Vec<Option<u8>>, AllocError>
-    requires { entry_rules entries.now ≡ [] }
-    ensures { IfOk result (λ pattern. pattern.items ≡ spec.pattern_at (slice_get (items_of entries.now) number)) }
+    requires storage { entry_rules program.now.storage ≡ [] }
+    requires files { descriptions_rules program.now.storage program.now.files ≡ [] }
+    ensures { IfOk result (λ pattern. pattern.items ≡ spec.pattern_at (slice_get (program_items program.now) number)) }
 {
     levels_are_told();
+    record_levels_are_told();
     let mut pattern = Vec::new(alloc);
-    match item_at(entries, number) {
+    match program_item_at(program, number) {
         None => Ok(pattern),
         Some(found) => {
             put_named(alloc, found, &mut pattern)?;
@@ -80,18 +83,19 @@ fn pattern_at(
     }
 }
 
-/// What INITIALIZE puts into the item of that number in the order of the entries, which keep the rules. Numbers count from 0; where
-/// there is no such item there are no bytes.
+/// What INITIALIZE puts into the item of that number in a program whose entries and files' descriptions keep the rules. Numbers count
+/// from 0, those of records behind those of working storage; where there is no such item there are no bytes.
 pub fn initialized_item(
     alloc: Global,
-    entries: &[Entry],
+    program: &Program,
     number: usize,
 ) -> Result<NewBytes, AllocError>
-    requires { entry_rules entries.now ≡ [] }
-    ensures bytes { IfOk result (λ new. new.bytes ≡ bytes_of_pattern (spec.pattern_at (slice_get (items_of entries.now) number))) }
-    ensures marks { IfOk result (λ new. new.marks ≡ marks_of_pattern (spec.pattern_at (slice_get (items_of entries.now) number))) }
+    requires storage { entry_rules program.now.storage ≡ [] }
+    requires files { descriptions_rules program.now.storage program.now.files ≡ [] }
+    ensures bytes { IfOk result (λ new. new.bytes ≡ bytes_of_pattern (spec.pattern_at (slice_get (program_items program.now) number))) }
+    ensures marks { IfOk result (λ new. new.marks ≡ marks_of_pattern (spec.pattern_at (slice_get (program_items program.now) number))) }
 {
-    let pattern = pattern_at(alloc, entries, number)?;
+    let pattern = pattern_at(alloc, program, number)?;
     let bytes = bytes_of(alloc, &pattern)?;
     let marks = marks_of(alloc, &pattern)?;
     Ok(NewBytes { bytes, marks })

@@ -1,4 +1,4 @@
-//! What working storage holds at the start of a run, the bytes of each area, with VALUE; and what INITIALIZE puts into an item.
+//! What the areas of a program hold at the start of a run, with VALUE; and what INITIALIZE puts into an item.
 #![tactic(auto)]
 
 mod initializing;

@@ -1,16 +1,17 @@
 //! Items by their numbers in the order of the entries.
 
 ghost use Rattle.std.specs.Prelude.{◌≡◌, length};
+ghost use Rattle.std.specs.List.{AllByRecursion};
 ghost use Rattle.source_tree.specs.declared.entry.Around as surrounding;
 ghost use Rattle.source_tree.specs.Levels.{nested};
 ghost use Rattle.source_tree.specs.Clauses.{nothing_around};
-ghost use Rattle.initial_storage.specs.Fits.{Fits};
-ghost use Rattle.initial_storage.specs.Formed.{AreFormed};
-ghost use Rattle.initial_storage.specs.Patterns.{IsFoundAt, outlines};
+ghost use Rattle.initial_storage.specs.Fits.{Fits, FitsFile};
+ghost use Rattle.initial_storage.specs.Formed.{AreFormed, FormsFile};
+ghost use Rattle.initial_storage.specs.Patterns.{IsFoundAt, outlines, file_outlines, program_outlines};
 
 use crate::storage::NOTHING_AROUND;
 use entries::{Sibling, inside, next_item};
-use source_tree::{Around, Entry};
+use source_tree::{Around, Entry, FileDescription, Program};
 
 /// An item, and what the groups around it say of it.
 #[derive(Clone, Copy)]
@@ -33,7 +34,7 @@ fn count_items(entries: &[Entry]) -> usize
 }
 
 /// The item of that number, which counts from 0, with what stands around it. Each entry is looked at once for each group around it.
-pub fn item_at(entries: &[Entry], number: usize) -> Option<Found<'_>>
+fn item_at(entries: &[Entry], number: usize) -> Option<Found<'_>>
     requires fits { Fits nothing_around (nested entries.now) }
     requires formed { AreFormed nothing_around (nested entries.now) }
     ensures { IsFoundAt (outlines nothing_around (nested entries.now)) number result }
@@ -56,4 +57,38 @@ pub fn item_at(entries: &[Entry], number: usize) -> Option<Found<'_>>
         }
     }
     None
+}
+
+/// The item of that number among those of the records of files.
+fn record_item_at(files: &[FileDescription], number: usize) -> Option<Found<'_>>
+    requires fits { AllByRecursion FitsFile files.now }
+    requires formed { AllByRecursion FormsFile files.now }
+    ensures { IsFoundAt (file_outlines files.now) number result }
+{
+    let mut left = number;
+    for file in files {
+        let entries = file.entries.as_slice();
+        let within = count_items(entries);
+        if left < within {
+            return item_at(entries, left);
+        }
+        left -= within;
+    }
+    None
+}
+
+/// The item of that number in a program: those of working storage come first, and then those of the records of its files.
+pub fn program_item_at(program: &Program, number: usize) -> Option<Found<'_>>
+    requires fits { Fits nothing_around (nested program.now.storage) }
+    requires formed { AreFormed nothing_around (nested program.now.storage) }
+    requires files_fit { AllByRecursion FitsFile program.now.files }
+    requires files_formed { AllByRecursion FormsFile program.now.files }
+    ensures { IsFoundAt (program_outlines program.now) number result }
+{
+    let storage = program.storage.as_slice();
+    let within = count_items(storage);
+    if number < within {
+        return item_at(storage, number);
+    }
+    record_item_at(program.files.as_slice(), number - within)
 }

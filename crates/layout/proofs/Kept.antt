@@ -19,25 +19,25 @@ use Rattle.source_tree.specs.ValueRules.{value_rules, condition_rules}
 use Rattle.source_tree.specs.EntryRules.{Position, outermost, is_outermost, is_level, level_rules, wrong_level, redefinition_rules, own_rules, below, forest_rules, storage_rules, excess, homeless, most_entries, entry_rules}
 use Rattle.layout.specs.Fits.{FitsEntry, Fits}
 
-front_nil : {A : Type 0} (xs ys : List A) → xs ++ ys ≡ [] → xs ≡ []
+pub front_nil : {A : Type 0} (xs ys : List A) → xs ++ ys ≡ [] → xs ≡ []
 front_nil [] ys e = refl
 front_nil (x ∷ xs) ys e = cc
 
-back_nil : {A : Type 0} (xs ys : List A) → xs ++ ys ≡ [] → ys ≡ []
+pub back_nil : {A : Type 0} (xs ys : List A) → xs ++ ys ≡ [] → ys ≡ []
 back_nil [] ys e = e
 back_nil (x ∷ xs) ys e = cc
 
-kept : (test : Bool) (rule : ℕ) (place : Place) → where_so test rule place ≡ [] → test ≡ false
+pub kept : (test : Bool) (rule : ℕ) (place : Place) → where_so test rule place ≡ [] → test ≡ false
 kept true rule place e = cc
 kept false rule place e = refl
 
 -- ---- the number of entries
 
-few : (entries : List Entry) → each excess entries ≡ [] → entries ≡ []
+pub few : (entries : List Entry) → each excess entries ≡ [] → entries ≡ []
 few [] e = refl
 few (one ∷ more) e = cc
 
-dropped_all : (n : ℕ) (entries : List Entry) → drop n entries ≡ [] → length entries ≤ n
+pub dropped_all : (n : ℕ) (entries : List Entry) → drop n entries ≡ [] → length entries ≤ n
 dropped_all n entries e =
     let none : length (drop n entries) ≡ 0 = ap length e in
     let left : length (drop n entries) ≡ length entries - n = length-drop n entries in
@@ -83,7 +83,7 @@ known_level : (one : ItemEntry) → level_rules (Item one) ≡ [] → level_of o
 known_level one e =
     known_by (number_of one.level == 77) (number_of one.level) (true_where (is_level (number_of one.level)) (kept (not (is_level (number_of one.level))) 43 one.level.place e))
 
-leveled : (entries : List Entry) → each level_rules entries ≡ [] → Leveled (nested entries)
+pub leveled : (entries : List Entry) → each level_rules entries ≡ [] → Leveled (nested entries)
 leveled [] e = tt
 leveled (Item one ∷ more) e =
     let rest = leveled more (back_nil (level_rules (Item one)) (each level_rules more) e) in
@@ -92,7 +92,7 @@ leveled (Condition one ∷ more) e = leveled more e
 
 -- ---- lengths
 
-at_most : (limit n : ℕ) → nat_lt limit n ≡ false → n ≤ limit
+pub at_most : (limit n : ℕ) → nat_lt limit n ≡ false → n ≤ limit
 at_most limit n e = grind arith
 
 none_of : (p : Option PictureText) (b : Bool) → (is_some p || b) ≡ false → p ≡ None

@@ -1,3 +1,4 @@
 pub mod Agreement
 pub mod Kept
+pub mod KeptFiles
 pub mod Trees

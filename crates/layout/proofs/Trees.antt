@@ -1,17 +1,18 @@
 -- What is known of a forest whose first item is known.
-use Rattle.std.proofs.Common.{◌≡◌, ℕ, ◌+◌, ◌-◌, if◌then◌else◌, List, [], ◌∷◌, ◌++◌, sym, ap, subst, ◌∙◌, append_assoc, ◌≤◌, Bool, true, false, arith}
+use Rattle.std.proofs.Common.{◌≡◌, ℕ, ◌+◌, ◌-◌, if◌then◌else◌, List, [], ◌∷◌, ◌++◌, sym, ap, subst, ◌∙◌, append_assoc, ◌≤◌, ◌<◌, Bool, true, false, length, get_or, drop, drop-cons, add-one, arith}
 use Rattle.std.proofs.lemmas.List.{append-nil}
 use Rattle.source_tree.specs.declared.table.Dimension.{Dimension}
 use Rattle.source_tree.specs.declared.entry.Around.{Around}
 use Rattle.source_tree.specs.declared.entry.ItemEntry.{ItemEntry}
 use Rattle.source_tree.specs.declared.entry.ConditionEntry.{ConditionEntry}
-use Rattle.source_tree.specs.Levels.{Forest, End, Tree}
+use Rattle.source_tree.specs.declared.select.FileDescription.{FileDescription}
+use Rattle.source_tree.specs.Levels.{Forest, End, Tree, nested}
 use Rattle.source_tree.specs.Clauses.{nothing_around, inside}
 use Rattle.source_tree.specs.Rooms.{redefines, room}
 use Rattle.entries.specs.Nesting.{HasLevel}
 use Rattle.layout.specs.declared.placed.PlacedItem.{PlacedItem}
-use Rattle.layout.specs.Fits.{FitsEntry, Fits}
-use Rattle.layout.specs.Placing.{taken, entry_items, group_items, storage_items}
+use Rattle.layout.specs.Fits.{FitsEntry, Fits, FitsFile, FitFiles}
+use Rattle.layout.specs.Placing.{taken, entry_items, group_items, storage_items, record_items, file_items}
 
 pub fits_tree : (around : Around) (F : Forest) (one : ItemEntry) (conditions : List ConditionEntry) (inner next : Forest)
     → F ≡ Tree one conditions inner next → Fits around F → FitsEntry around one inner × Fits (inside around one) inner × Fits around next
@@ -82,3 +83,34 @@ storage_step new out all areas area F one conditions inner next e is added befor
 pub storage_end : (out all : List PlacedItem) (areas : ℕ) (F : Forest) → F ≡ End → out ++ storage_items areas F ≡ all → out ≡ all
 unfolding storage_items
 storage_end out all areas F e before = sym (append-nil out) ∙ ap (λ G. out ++ storage_items areas G) (sym e) ∙ before
+
+pub record_step : (new out all : List PlacedItem) (area : ℕ) (F : Forest) (one : ItemEntry) (conditions : List ConditionEntry) (inner next : Forest)
+    → F ≡ Tree one conditions inner next → new ≡ out ++ entry_items nothing_around area [] one inner 0 → out ++ record_items area F ≡ all → new ++ record_items area next ≡ all
+unfolding record_items
+record_step new out all area F one conditions inner next e added before =
+    ap (λ l. l ++ record_items area next) added ∙ append_assoc out (entry_items nothing_around area [] one inner 0) (record_items area next)
+    ∙ ap (λ G. out ++ record_items area G) (sym e) ∙ before
+
+pub record_end : (out all : List PlacedItem) (area : ℕ) (F : Forest) → F ≡ End → out ++ record_items area F ≡ all → out ≡ all
+unfolding record_items
+record_end out all area F e before = sym (append-nil out) ∙ ap (λ G. out ++ record_items area G) (sym e) ∙ before
+
+-- ---- files, one after another
+
+pub rest_at : (files : List FileDescription) (i : ℕ) (one : FileDescription) → i < length files → one ≡ get_or files i one → drop i files ≡ one ∷ drop (i + 1) files
+rest_at files i one h is = drop-cons files i one h ∙ ap (λ k. get_or files i one ∷ drop k files) (sym (add-one i)) ∙ ap (λ x. x ∷ drop (i + 1) files) (sym is)
+
+pub fits_first : (files more : List FileDescription) (one : FileDescription) → files ≡ one ∷ more → FitFiles files → FitsFile one × FitFiles more
+fits_first files more one e h = subst FitFiles e h
+
+pub file_step : (new out all : List PlacedItem) (area after : ℕ) (files more : List FileDescription) (one : FileDescription) → files ≡ one ∷ more → after ≡ area + 1
+    → new ≡ out ++ record_items area (nested one.entries) → out ++ file_items area files ≡ all → new ++ file_items after more ≡ all
+unfolding file_items
+file_step new out all area after files more one e next added before =
+    ap (λ l. l ++ file_items after more) added ∙ append_assoc out (record_items area (nested one.entries)) (file_items after more)
+    ∙ ap (λ n. out ++ (record_items area (nested one.entries) ++ file_items n more)) next
+    ∙ ap (λ l. out ++ file_items area l) (sym e) ∙ before
+
+pub file_end : (out all : List PlacedItem) (area : ℕ) (files : List FileDescription) → files ≡ [] → out ++ file_items area files ≡ all → out ≡ all
+unfolding file_items
+file_end out all area files e before = sym (append-nil out) ∙ ap (λ l. out ++ file_items area l) (sym e) ∙ before

@@ -4,7 +4,8 @@ use Rattle.items.specs.declared.item.Item.{Item}
 use Rattle.source_tree.specs.declared.table.Dimension.{Dimension}
 use Rattle.source_tree.specs.declared.entry.Around.{Around}
 use Rattle.source_tree.specs.declared.entry.ItemEntry.{ItemEntry}
-use Rattle.source_tree.specs.Levels.{Forest, End, Tree}
+use Rattle.source_tree.specs.declared.select.FileDescription.{FileDescription}
+use Rattle.source_tree.specs.Levels.{Forest, End, Tree, nested}
 use Rattle.source_tree.specs.Clauses.{nothing_around, inside, editing_of, occurrences}
 use Rattle.source_tree.specs.Rooms.{redefines, item_with}
 use Rattle.source_tree.specs.Places.{Placed, with_dimension}
@@ -48,3 +49,13 @@ storage_items areas End = []
 storage_items areas (Tree one conditions inner next) =
     let area : ℕ = if redefines one then areas - 1 else areas in
     entry_items nothing_around area [] one inner 0 ++ storage_items (area + 1) next
+
+-- the items of a file's records, of which each begins the area
+unfoldable pub record_items : ℕ → Forest → List PlacedItem
+record_items area End = []
+record_items area (Tree one conditions inner next) = entry_items nothing_around area [] one inner 0 ++ record_items area next
+
+-- those of files of which the first has this area
+unfoldable pub file_items : ℕ → List FileDescription → List PlacedItem
+file_items area [] = []
+file_items area (one ∷ more) = record_items area (nested one.entries) ++ file_items (area + 1) more

@@ -16,6 +16,11 @@ use source_tree::{Around, Dimension, Entry, ItemEntry};
 use sqlite_items::Items;
 use std::alloc::{AllocError, Global};
 
+pub(crate) const NOTHING_AROUND: Around = Around {
+    usage: None,
+    sign: None,
+};
+
 /// What stands around entries: the clauses of their groups, their area, and the tables that hold them.
 #[derive(Clone, Copy)]
 pub struct Surroundings<'a> {

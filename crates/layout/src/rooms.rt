@@ -20,6 +20,15 @@ pub struct Described {
     pub editing: Option<Picture>,
 }
 
+/// The bytes of all occurrences of an item of so many.
+pub fn extent(entry: &ItemEntry, length: u32) -> u32
+    requires times { clauses.occurrences entry.now ≤ most_occurrences }
+    requires most { length ≤ most_item_bytes }
+    ensures { result ≡ clauses.occurrences entry.now * length }
+{
+    occurrences(entry) * length
+}
+
 /// The bytes that an entry takes where its item has so many: none of its own where it redefines another.
 pub fn taken(entry: &ItemEntry, length: u32) -> u32
     requires times { clauses.occurrences entry.now ≤ most_occurrences }
@@ -29,7 +38,7 @@ pub fn taken(entry: &ItemEntry, length: u32) -> u32
     if entry.redefines.is_some() {
         0
     } else {
-        occurrences(entry) * length
+        extent(entry, length)
     }
 }
 

@@ -1,32 +1,19 @@
-//! The layout of working storage.
+//! Where the items of working storage stand, and how many areas it has.
 
-ghost use Rattle.std.specs.Prelude.{◌≡◌, ◌-◌, ◌≤◌, ◌++◌, [], length, map, IfOk, OnOk, if◌then◌else◌};
+ghost use Rattle.std.specs.Prelude.{◌≡◌, ◌-◌, ◌≤◌, ◌++◌, [], length, OnOk, if◌then◌else◌};
 ghost use Rattle.source_tree.specs.Levels.{nested};
 ghost use Rattle.source_tree.specs.Clauses.{nothing_around};
 ghost use Rattle.source_tree.specs.EntryRules.{entry_rules, most_entries};
+ghost use Rattle.source_tree.specs.Records as tree;
 ghost use Rattle.source_tree.specs.Rooms.{redefines};
-ghost use Rattle.source_tree.specs.Places.{items_of};
 ghost use Rattle.layout.specs.Fits.{Fits};
 ghost use Rattle.layout.specs.Placing as spec;
 
 use crate::placed::PlacedItem;
-use crate::places::{Surroundings, place_item};
+use crate::places::{NOTHING_AROUND, Surroundings, place_item};
 use entries::next_item;
-use source_tree::{Around, Entry, ItemEntry};
-use sqlite_items::Items;
+use source_tree::{Entry, ItemEntry};
 use std::alloc::{AllocError, Global};
-
-const NOTHING_AROUND: Around = Around {
-    usage: None,
-    sign: None,
-};
-
-/// Where the items of working storage stand (COBOL-85, Nucleus, "Data description entry").
-#[derive(Debug, Drop)]
-pub struct Layout {
-    /// In the order of their entries.
-    pub items: Items<PlacedItem>,
-}
 
 /// The area of a 01 or 77 with so many areas before it: a new one, or the last one where it redefines.
 fn area_of(entry: &ItemEntry, areas: u32) -> u32
@@ -40,7 +27,7 @@ fn area_of(entry: &ItemEntry, areas: u32) -> u32
 }
 
 /// Places the items of each 01 and 77. One that redefines has the area of the last one that doesn't.
-fn place_storage(
+pub(crate) fn place_storage(
     alloc: Global,
     entries: &[Entry],
     out: &mut Vec<PlacedItem>,
@@ -65,17 +52,19 @@ fn place_storage(
     Ok(())
 }
 
-impl Layout {
-    /// The layout of entries that keep the rules.
-    pub fn of(alloc: Global, entries: &[Entry]) -> Result<Layout, AllocError>
-        requires { entry_rules entries.now ≡ [] }
-        // Each item stands where its clauses and those around it say.
-        ensures { IfOk result (λ layout. layout.items ≡ map spec.placed_item (items_of entries.now)) }
-    {
-        let mut items = Vec::new(alloc);
-        place_storage(alloc, entries, &mut items)?;
-        Ok(Layout {
-            items: Items::from_vec(items),
-        })
+/// How many areas working storage of entries that keep the rules has: one for each 01 and 77 that redefines nothing.
+pub fn storage_areas(entries: &[Entry]) -> u32
+    requires { entry_rules entries.now ≡ [] }
+    ensures value { result ≡ tree.storage_areas entries.now }
+    ensures most { result ≤ most_entries }
+{
+    let mut areas = 0;
+    let mut rest = entries;
+    'areas: while let Some(one) = next_item(rest) {
+        if one.entry.redefines.is_none() {
+            areas += 1;
+        }
+        rest = one.next;
     }
+    areas
 }

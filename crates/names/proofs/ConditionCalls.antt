@@ -1,24 +1,29 @@
--- The condition names along the flat list of entries are those of the items.
-use Rattle.std.proofs.Common.{◌≡◌, ℕ, zero, suc, ◌+◌, ◌-◌, ◌*◌, ◌<◌, Bool, true, false, if◌then◌else◌, List, [], ◌∷◌, ◌++◌, length, drop, get_or, Some, refl, sym, ap, subst, ◌∙◌, append_assoc, drop-cons, add-one, ◌≤◌, arith}
+-- The condition names along the flat lists of entries are those of the items.
+use Rattle.std.proofs.Common.{◌≡◌, ℕ, suc, ◌+◌, ◌-◌, ◌*◌, ◌<◌, Bool, true, false, if◌then◌else◌, List, [], ◌∷◌, ◌++◌, length, drop, get_or, Some, refl, sym, ap, subst, ◌∙◌, append_assoc, drop-cons, add-one, ◌≤◌, arith}
 use Rattle.std.specs.Prelude.{map, slice_get, nat_lt}
 use Rattle.std.specs.Option.{option_map}
-use Rattle.std.proofs.lemmas.List.{map-append, append-nil, length-map}
+use Rattle.std.proofs.lemmas.List.{map-append, append-nil, length-map, length-append}
 use Rattle.std.proofs.lemmas.Option.{slice_get-map, get_or_from_slice_get}
+use Rattle.source_tree.specs.declared.name.Name.{Name}
 use Rattle.source_tree.specs.declared.entry.ItemEntry.{ItemEntry}
 use Rattle.source_tree.specs.declared.entry.ConditionEntry.{ConditionEntry}
 use Rattle.source_tree.specs.declared.entry.Entry.{Entry}
 use Rattle.source_tree.specs.declared.entry.Entry.TheVariants.{Item, Condition}
+use Rattle.source_tree.specs.declared.select.FileDescription.{FileDescription}
+use Rattle.source_tree.specs.declared.program.Program.{Program}
 use Rattle.source_tree.specs.Levels.{Forest, End, Tree, level_of, deeper, beyond, leading, nested}
 use Rattle.source_tree.specs.Clauses.{occurrences}
 use Rattle.source_tree.specs.Rooms.{redefines, item_with}
 use Rattle.source_tree.specs.Places.{Placed, Surroundings, within, places, top, storage_places, items_of}
+use Rattle.source_tree.specs.Records.{storage_areas, record_places, file_places, program_items}
 use Rattle.source_tree.specs.LookUp.{NamedCondition, conditions_of, all_conditions}
 use Rattle.names.specs.declared.conditions.ConditionNames.{ConditionNames}
 use Rattle.names.specs.Positions.{Called, nothing}
 use Rattle.names.specs.Items.{called_item}
 use Rattle.names.specs.Table.{IsTable, calls_in}
 use Rattle.names.specs.declared.conditions.DeclaredCondition.{DeclaredCondition}
-use Rattle.names.specs.Conditions.{called_condition, pair_of, condition_at, condition_of, item_numbers, AreConditions}
+use Rattle.names.specs.Conditions.{called_condition, pair_of, pairs_in, condition_at, condition_of, item_numbers, AreConditions}
+use Rattle.names.specs.Passing.{of_last, behind, item_count, behind_records, record_item_count, AreCalled}
 
 -- the condition names of each item, in order
 abbrev lists : Forest → List (List ConditionEntry)
@@ -29,22 +34,6 @@ lists (Tree one conditions inner next) = conditions ∷ (lists inner ++ lists ne
 abbrev numbered : ℕ → List (List ConditionEntry) → List (ConditionEntry × ℕ)
 numbered n [] = []
 numbered n (one ∷ more) = map (λ c. (c, n)) one ++ numbered (suc n) more
-
--- A condition name belongs to the last of so many items; in front of the first it belongs to none.
-abbrev pub of_last : ℕ → ConditionEntry → List (ConditionEntry × ℕ)
-of_last zero one = []
-of_last (suc n) one = (one, n) ∷ []
-
--- those of the entries behind so many items
-abbrev pub behind : ℕ → List Entry → List (ConditionEntry × ℕ)
-behind n [] = []
-behind n (Item one ∷ more) = behind (suc n) more
-behind n (Condition one ∷ more) = of_last n one ++ behind n more
-
-abbrev pub item_count : List Entry → ℕ
-item_count [] = 0
-item_count (Item one ∷ more) = suc (item_count more)
-item_count (Condition one ∷ more) = item_count more
 
 -- ---- the flat list's are the tree's
 
@@ -57,16 +46,30 @@ split : (level : ℕ) (F : Forest) → lists (deeper level F) ++ lists (beyond l
 split level End = refl
 split level (Tree one conditions inner next) = split_by (nat_lt level (level_of one)) one conditions inner (deeper level next) (beyond level next) next (split level next)
 
-after : (n : ℕ) (entries : List Entry) → behind (suc n) entries ≡ map (λ c. (c, n)) (leading entries) ++ numbered (suc n) (lists (nested entries))
-after n [] = refl
-after n (Item one ∷ more) =
-    after (suc n) more ∙ sym (ap (λ l. map (λ c. (c, suc n)) (leading more) ++ numbered (suc (suc n)) l) (split (level_of one) (nested more)))
-after n (Condition one ∷ more) = ap (λ l. (one, n) ∷ l) (after n more)
+passed : (before n : ℕ) (one : ConditionEntry) → before ≤ n → of_last before (suc n) one ≡ (one, n) ∷ []
+passed before n one h = by (nat_lt before (suc n)) (grind arith)
+  where
+    by : (b : Bool) → b ≡ true → ◌≡◌ {A = List (ConditionEntry × ℕ)} (if b then (one, suc n - 1) ∷ [] else []) ((one, n) ∷ [])
+    by true e = let same : suc n - 1 ≡ n = omega arith in ap (λ (m : ℕ). (one, m) ∷ []) same
+    by false e = cc
 
-from_start : (entries : List Entry) → behind 0 entries ≡ numbered 0 (lists (nested entries))
-from_start [] = refl
-from_start (Item one ∷ more) = after 0 more ∙ sym (ap (λ l. map (λ c. (c, 0)) (leading more) ++ numbered 1 l) (split (level_of one) (nested more)))
-from_start (Condition one ∷ more) = from_start more
+none_passed : (n : ℕ) (one : ConditionEntry) → of_last n n one ≡ []
+none_passed n one = by (nat_lt n n) (grind arith)
+  where
+    by : (b : Bool) → b ≡ false → ◌≡◌ {A = List (ConditionEntry × ℕ)} (if b then (one, n - 1) ∷ [] else []) []
+    by true e = cc
+    by false e = refl
+
+after : (before n : ℕ) (entries : List Entry) → before ≤ n → behind before (suc n) entries ≡ map (λ c. (c, n)) (leading entries) ++ numbered (suc n) (lists (nested entries))
+after before n [] h = refl
+after before n (Item one ∷ more) h =
+    after before (suc n) more (omega arith) ∙ sym (ap (λ l. map (λ c. (c, suc n)) (leading more) ++ numbered (suc (suc n)) l) (split (level_of one) (nested more)))
+after before n (Condition one ∷ more) h = ap (λ l. l ++ behind before (suc n) more) (passed before n one h) ∙ ap (λ l. (one, n) ∷ l) (after before n more h)
+
+from_start : (n : ℕ) (entries : List Entry) → behind n n entries ≡ numbered n (lists (nested entries))
+from_start n [] = refl
+from_start n (Item one ∷ more) = after n n more (omega arith) ∙ sym (ap (λ l. map (λ c. (c, n)) (leading more) ++ numbered (suc n) l) (split (level_of one) (nested more)))
+from_start n (Condition one ∷ more) = ap (λ l. l ++ behind n n more) (none_passed n one) ∙ from_start n more
 
 counted : (entries : List Entry) → item_count entries ≡ length (lists (nested entries))
 counted [] = refl
@@ -93,6 +96,43 @@ of_storage areas (Tree one conditions inner next) =
     ∙ ap (λ l. l ++ map (λ (p : Placed). p.conditions) (storage_places (area + 1) next)) (of_group (top area []) 0 0 (Tree one conditions inner End) ∙ append-nil (conditions ∷ lists inner))
     ∙ ap (λ l. (conditions ∷ lists inner) ++ l) (of_storage (area + 1) next)
 
+of_records : (area : ℕ) (file : Name) (F : Forest) → map (λ (p : Placed). p.conditions) (record_places area file F) ≡ lists F
+of_records area file End = refl
+of_records area file (Tree one conditions inner next) =
+    map-append (λ (p : Placed). p.conditions) (places (top area (file ∷ [])) 0 0 (Tree one conditions inner End)) (record_places area file next)
+    ∙ ap (λ l. l ++ map (λ (p : Placed). p.conditions) (record_places area file next)) (of_group (top area (file ∷ [])) 0 0 (Tree one conditions inner End) ∙ append-nil (conditions ∷ lists inner))
+    ∙ ap (λ l. (conditions ∷ lists inner) ++ l) (of_records area file next)
+
+numbered_append : (n : ℕ) (xs ys : List (List ConditionEntry)) → numbered n (xs ++ ys) ≡ numbered n xs ++ numbered (n + length xs) ys
+numbered_append n [] ys = let same : n ≡ n + 0 = omega arith in ap (λ m. numbered m ys) same
+numbered_append n (one ∷ more) ys =
+    let same : suc n + length more ≡ n + suc (length more) = omega arith in
+    ap (λ l. map (λ c. (c, n)) one ++ l) (numbered_append (suc n) more ys ∙ ap (λ m. numbered (suc n) more ++ numbered m ys) same)
+    ∙ sym (append_assoc (map (λ c. (c, n)) one) (numbered (suc n) more) (numbered (n + suc (length more)) ys))
+
+-- those of the records of files, where so many items stand before them
+of_files : (area n : ℕ) (files : List FileDescription) → behind_records n files ≡ numbered n (map (λ (p : Placed). p.conditions) (file_places area files))
+of_files area n [] = refl
+of_files area n (one ∷ more) =
+    let own = lists (nested one.entries) in
+    let rest = map (λ (p : Placed). p.conditions) (file_places (area + 1) more) in
+    ap (λ l. l ++ behind_records (n + item_count one.entries) more) (from_start n one.entries)
+    ∙ ap (λ l. numbered n own ++ l) (of_files (area + 1) (n + item_count one.entries) more)
+    ∙ ap (λ m. numbered n own ++ numbered (n + m) rest) (counted one.entries)
+    ∙ sym (numbered_append n own rest)
+    ∙ ap (λ l. numbered n (l ++ rest)) (sym (of_records area one.name (nested one.entries)))
+    ∙ ap (numbered n) (sym (map-append (λ (p : Placed). p.conditions) (record_places area one.name (nested one.entries)) (file_places (area + 1) more)))
+
+records_counted : (area : ℕ) (files : List FileDescription) → record_item_count files ≡ length (file_places area files)
+records_counted area [] = refl
+records_counted area (one ∷ more) =
+    let own = counted one.entries in
+    let same = ap length (of_records area one.name (nested one.entries)) in
+    let mapped = length-map (record_places area one.name (nested one.entries)) (λ (p : Placed). p.conditions) in
+    let rest = records_counted (area + 1) more in
+    let both = length-append (record_places area one.name (nested one.entries)) (file_places (area + 1) more) in
+    omega arith
+
 module _ {B : Type 0} (items : List Placed) (told : ConditionEntry × ℕ → B) (meant : NamedCondition → B) (same : (c : ConditionEntry) (n : ℕ) (one : Placed) → slice_get items n ≡ Some one → told (c, n) ≡ meant (record { condition = c; item = one })) where
   of_item : (n : ℕ) (one : Placed) → slice_get items n ≡ Some one → (conditions : List ConditionEntry) → map told (map (λ c. (c, n)) conditions) ≡ map meant (conditions_of one conditions)
   of_item n one e [] = refl
@@ -107,18 +147,37 @@ module _ {B : Type 0} (items : List Placed) (told : ConditionEntry × ℕ → B)
       ∙ ap (λ l. map meant (conditions_of one one.conditions) ++ l) (of_items (suc n) more (λ i x e. subst (λ m. slice_get items m ≡ Some x) (omega arith) (at (suc i) x e)))
       ∙ sym (map-append meant (conditions_of one one.conditions) (all_conditions more))
 
-of_items_all : (entries : List Entry) → behind 0 entries ≡ numbered 0 (map (λ (p : Placed). p.conditions) (items_of entries))
-of_items_all entries = from_start entries ∙ ap (numbered 0) (sym (of_storage 0 (nested entries)))
+-- what is told of a program's
+abbrev program_pairs : Program → List (ConditionEntry × ℕ)
+program_pairs program = behind 0 0 program.storage ++ behind_records (item_count program.storage) program.files
 
-told_all : {B : Type 0} (entries : List Entry) (told : ConditionEntry × ℕ → B) (meant : NamedCondition → B)
-    → ((c : ConditionEntry) (n : ℕ) (one : Placed) → slice_get (items_of entries) n ≡ Some one → told (c, n) ≡ meant (record { condition = c; item = one }))
-    → map told (behind 0 entries) ≡ map meant (all_conditions (items_of entries))
-told_all entries told meant same =
-    ap (map told) (of_items_all entries)
-    ∙ of_items (items_of entries) told meant same 0 (items_of entries) (λ i one e. subst (λ m. slice_get (items_of entries) m ≡ Some one) (omega arith) e)
+of_program : (program : Program) → program_pairs program ≡ numbered 0 (map (λ (p : Placed). p.conditions) (program_items program))
+of_program program =
+    let area = storage_areas program.storage in
+    let storage = lists (nested program.storage) in
+    let records = map (λ (p : Placed). p.conditions) (file_places area program.files) in
+    ap (λ l. l ++ behind_records (item_count program.storage) program.files) (from_start 0 program.storage)
+    ∙ ap (λ l. numbered 0 storage ++ l) (of_files area (item_count program.storage) program.files)
+    ∙ ap (λ m. numbered 0 storage ++ numbered m records) (let same = counted program.storage in let sum : item_count program.storage ≡ 0 + length storage = omega arith in sum)
+    ∙ sym (numbered_append 0 storage records)
+    ∙ ap (λ l. numbered 0 (l ++ records)) (sym (of_storage 0 (nested program.storage)))
+    ∙ ap (numbered 0) (sym (map-append (λ (p : Placed). p.conditions) (items_of program.storage) (file_places area program.files)))
 
-pub items_are_counted : (entries : List Entry) → item_count entries ≡ length (items_of entries)
-items_are_counted entries = counted entries ∙ ap length (sym (of_storage 0 (nested entries))) ∙ length-map (items_of entries) (λ (p : Placed). p.conditions)
+told_all : {B : Type 0} (program : Program) (told : ConditionEntry × ℕ → B) (meant : NamedCondition → B)
+    → ((c : ConditionEntry) (n : ℕ) (one : Placed) → slice_get (program_items program) n ≡ Some one → told (c, n) ≡ meant (record { condition = c; item = one }))
+    → map told (program_pairs program) ≡ map meant (all_conditions (program_items program))
+told_all program told meant same =
+    ap (map told) (of_program program)
+    ∙ of_items (program_items program) told meant same 0 (program_items program) (λ i one e. subst (λ m. slice_get (program_items program) m ≡ Some one) (omega arith) e)
+
+pub items_are_counted : (program : Program) → item_count program.storage + record_item_count program.files ≡ length (program_items program)
+items_are_counted program =
+    let own = counted program.storage in
+    let same = ap length (of_storage 0 (nested program.storage)) in
+    let mapped = length-map (items_of program.storage) (λ (p : Placed). p.conditions) in
+    let rest = records_counted (storage_areas program.storage) program.files in
+    let both = length-append (items_of program.storage) (file_places (storage_areas program.storage) program.files) in
+    omega arith
 
 called_at : (items : List Placed) (c : ConditionEntry) (n : ℕ) (one : Placed) → slice_get items n ≡ Some one → condition_at (map called_item items) (c, n) ≡ called_condition (record { condition = c; item = one })
 called_at items c n one e =
@@ -140,92 +199,95 @@ numbers_from n (one ∷ more) =
     ∙ ap (λ l. l ++ map number (numbered (suc n) (map (λ (p : Placed). p.conditions) more))) (map_map number (λ c. (c, n)) one.conditions)
     ∙ ap (λ l. map (λ _. n) one.conditions ++ l) (numbers_from (suc n) more)
 
-numbers_are : (entries : List Entry) (all : List DeclaredCondition) → map pair_of all ≡ behind 0 entries
-    → map (λ (one : DeclaredCondition). one.item) all ≡ item_numbers 0 (items_of entries)
-numbers_are entries all pairs = sym (map_map number pair_of all) ∙ ap (map number) (pairs ∙ of_items_all entries) ∙ numbers_from 0 (items_of entries)
+numbers_are : (program : Program) (all : ConditionNames) → pairs_in all ≡ program_pairs program
+    → map (λ (one : DeclaredCondition). one.item) all.conditions.items ≡ item_numbers 0 (program_items program)
+numbers_are program all pairs = sym (map_map number pair_of all.conditions.items) ∙ ap (map number) (pairs ∙ of_program program) ∙ numbers_from 0 (program_items program)
 
--- ---- the walk along the entries
-
--- Of the entries before these, which so many items are in front of, all condition names are told.
-pub record AreTold (calls : List Called) (entries : List Entry) (rest : List Entry) (count : ℕ) (all : ConditionNames) : Type 0 where
-  pub table : IsTable all.names
-  pub calls_are : calls_in all.names ≡ map (condition_at calls) (map pair_of all.conditions.items)
-  pub pairs : map pair_of all.conditions.items ++ behind count rest ≡ behind 0 entries
-  pub range : count + item_count rest ≡ item_count entries
-
-pub told_end : (calls : List Called) (entries : List Entry) (count : ℕ) (all : ConditionNames) → calls ≡ map called_item (items_of entries) → AreTold calls entries [] count all → AreConditions (items_of entries) all
-told_end calls entries count all e h =
-    let pairs = sym (append-nil (map pair_of all.conditions.items)) ∙ h.pairs in
+pub all_told : (calls : List Called) (program : Program) (all : ConditionNames) → calls ≡ map called_item (program_items program) → AreCalled calls all
+    → pairs_in all ≡ behind 0 0 program.storage ++ behind_records (item_count program.storage) program.files → AreConditions (program_items program) all
+all_told calls program all e told pairs =
+    let items = program_items program in
     record {
-      table = h.table;
-      calls = h.calls_are ∙ ap (λ l. map (condition_at calls) l) pairs ∙ ap (λ (l : List Called). map (condition_at l) (behind 0 entries)) e
-          ∙ told_all entries (condition_at (map called_item (items_of entries))) called_condition (called_at (items_of entries));
-      found = sym (map_map (condition_of (items_of entries)) pair_of all.conditions.items) ∙ ap (map (condition_of (items_of entries))) pairs
-          ∙ told_all entries (condition_of (items_of entries)) Some (λ c n one at. ap (option_map (λ (item : Placed). record { condition = c; item = item })) at);
-      numbers = numbers_are entries all.conditions.items pairs;
+      table = told.table;
+      calls = told.calls_are ∙ ap (λ l. map (condition_at calls) l) pairs ∙ ap (λ (l : List Called). map (condition_at l) (program_pairs program)) e
+          ∙ told_all program (condition_at (map called_item items)) called_condition (called_at items);
+      found = sym (map_map (condition_of items) pair_of all.conditions.items) ∙ ap (map (condition_of items)) pairs
+          ∙ told_all program (condition_of items) Some (λ c n one at. ap (option_map (λ (item : Placed). record { condition = c; item = item })) at);
+      numbers = numbers_are program all pairs;
     }
 
-pub few : (entries : List Entry) → item_count entries ≤ length entries
-few [] = omega arith
-few (Item one ∷ more) = let h = few more in omega arith
-few (Condition one ∷ more) = let h = few more in omega arith
+-- ---- the walk along entries
+
+-- Of the entries before these, which so many items are in front of, all condition names are told, behind those that were there.
+pub record AreTold (calls : List Called) (before : ℕ) (old : List (ConditionEntry × ℕ)) (entries rest : List Entry) (count : ℕ) (all : ConditionNames) : Type 0 where
+  pub called : AreCalled calls all
+  pub pairs : pairs_in all ++ behind before count rest ≡ old ++ behind before before entries
+  pub range : count + item_count rest ≡ before + item_count entries
+
+pub told_start : (calls : List Called) (entries : List Entry) (before : ℕ) (all : ConditionNames) → AreCalled calls all → AreTold calls before (pairs_in all) entries entries before all
+told_start calls entries before all h = record { called = h; pairs = refl; range = refl }
 
 pub rest_is : (entries : List Entry) (i : ℕ) (d one : Entry) → i < length entries → d ≡ get_or entries i d → d ≡ one → drop i entries ≡ one ∷ drop (i + 1) entries
 rest_is entries i d one h is e =
     drop-cons entries i d h ∙ ap (λ k. get_or entries i d ∷ drop k entries) (sym (add-one i)) ∙ ap (λ x. x ∷ drop (i + 1) entries) (sym is ∙ e)
 
-module _ (calls : List Called) (entries rest more : List Entry) (count : ℕ) (all : ConditionNames) where
+some_last : (before n : ℕ) (one : ConditionEntry) → before < n → of_last before n one ≡ (one, n - 1) ∷ []
+some_last before n one h = by (nat_lt before n) (grind arith)
+  where
+    by : (b : Bool) → b ≡ true → ◌≡◌ {A = List (ConditionEntry × ℕ)} (if b then (one, n - 1) ∷ [] else []) ((one, n - 1) ∷ [])
+    by true e = refl
+    by false e = cc
+
+no_last : (before n : ℕ) (one : ConditionEntry) → n ≤ before → of_last before n one ≡ []
+no_last before n one h = by (nat_lt before n) (grind arith)
+  where
+    by : (b : Bool) → b ≡ false → ◌≡◌ {A = List (ConditionEntry × ℕ)} (if b then (one, n - 1) ∷ [] else []) []
+    by true e = cc
+    by false e = refl
+
+module _ (calls : List Called) (before : ℕ) (old : List (ConditionEntry × ℕ)) (entries rest more : List Entry) (count : ℕ) (all : ConditionNames) where
   -- an item, of which there is room for one more
-  pub item_within : (one : ItemEntry) → rest ≡ Item one ∷ more → AreTold calls entries rest count all → count + 1 ≤ length entries
+  pub item_within : (one : ItemEntry) → rest ≡ Item one ∷ more → AreTold calls before old entries rest count all → count + 1 ≤ before + item_count entries
   item_within one e h =
       let here : item_count rest ≡ suc (item_count more) = ap item_count e in
       let range = h.range in
-      let most = few entries in
       omega arith
 
-  pub item_step : (one : ItemEntry) → rest ≡ Item one ∷ more → AreTold calls entries rest count all → AreTold calls entries more (count + 1) all
+  pub item_step : (one : ItemEntry) → rest ≡ Item one ∷ more → AreTold calls before old entries rest count all → AreTold calls before old entries more (count + 1) all
   item_step one e h =
       let here : item_count rest ≡ suc (item_count more) = ap item_count e in
       let range = h.range in
       let next : count + 1 ≡ suc count = omega arith in
       record {
-        table = h.table;
-        calls_are = h.calls_are;
-        pairs = ap (λ n. map pair_of all.conditions.items ++ behind n more) next ∙ sym (ap (λ l. map pair_of all.conditions.items ++ behind count l) e) ∙ h.pairs;
+        called = h.called;
+        pairs = ap (λ n. pairs_in all ++ behind before n more) next ∙ sym (ap (λ l. pairs_in all ++ behind before count l) e) ∙ h.pairs;
         range = omega arith;
       }
 
-  of_some : (n : ℕ) (one : ConditionEntry) → 0 < n → of_last n one ≡ (one, n - 1) ∷ []
-  of_some zero one h = absurd (omega arith)
-  of_some (suc n) one h = let e : n ≡ suc n - 1 = omega arith in ap (λ (m : ℕ). (one, m) ∷ []) e
-
-  of_none : (n : ℕ) (one : ConditionEntry) → n ≤ 0 → of_last n one ≡ []
-  of_none zero one h = refl
-  of_none (suc n) one h = absurd (omega arith)
-
-  pub condition_step : (one : ConditionEntry) (new : ConditionNames) → rest ≡ Condition one ∷ more → 0 < count → IsTable new.names → calls_in new.names ≡ calls_in all.names ++ condition_at calls (one, count - 1) ∷ []
-      → map pair_of new.conditions.items ≡ map pair_of all.conditions.items ++ (one, count - 1) ∷ [] → AreTold calls entries rest count all → AreTold calls entries more count new
+  pub condition_step : (one : ConditionEntry) (new : ConditionNames) → rest ≡ Condition one ∷ more → before < count → IsTable new.names → calls_in new.names ≡ calls_in all.names ++ condition_at calls (one, count - 1) ∷ []
+      → pairs_in new ≡ pairs_in all ++ (one, count - 1) ∷ [] → AreTold calls before old entries rest count all → AreTold calls before old entries more count new
   condition_step one new e some table added told h =
       let here : item_count rest ≡ item_count more = ap item_count e in
       let range = h.range in
       record {
-        table = table;
-        calls_are = added ∙ ap (λ l. l ++ condition_at calls (one, count - 1) ∷ []) h.calls_are
-            ∙ sym (map-append (condition_at calls) (map pair_of all.conditions.items) ((one, count - 1) ∷ [])) ∙ ap (map (condition_at calls)) (sym told);
-        pairs = ap (λ l. l ++ behind count more) told ∙ append_assoc (map pair_of all.conditions.items) ((one, count - 1) ∷ []) (behind count more)
-            ∙ ap (λ l. map pair_of all.conditions.items ++ (l ++ behind count more)) (sym (of_some count one some))
-            ∙ sym (ap (λ l. map pair_of all.conditions.items ++ behind count l) e) ∙ h.pairs;
+        called = record {
+          table = table;
+          calls_are = added ∙ ap (λ l. l ++ condition_at calls (one, count - 1) ∷ []) h.called.calls_are
+              ∙ sym (map-append (condition_at calls) (pairs_in all) ((one, count - 1) ∷ [])) ∙ ap (map (condition_at calls)) (sym told);
+        };
+        pairs = ap (λ l. l ++ behind before count more) told ∙ append_assoc (pairs_in all) ((one, count - 1) ∷ []) (behind before count more)
+            ∙ ap (λ l. pairs_in all ++ (l ++ behind before count more)) (sym (some_last before count one some))
+            ∙ sym (ap (λ l. pairs_in all ++ behind before count l) e) ∙ h.pairs;
         range = omega arith;
       }
 
-  pub skipped_step : (one : ConditionEntry) → rest ≡ Condition one ∷ more → count ≤ 0 → AreTold calls entries rest count all → AreTold calls entries more count all
+  pub skipped_step : (one : ConditionEntry) → rest ≡ Condition one ∷ more → count ≤ before → AreTold calls before old entries rest count all → AreTold calls before old entries more count all
   skipped_step one e none h =
       let here : item_count rest ≡ item_count more = ap item_count e in
       let range = h.range in
       record {
-        table = h.table;
-        calls_are = h.calls_are;
-        pairs = ap (λ l. map pair_of all.conditions.items ++ (l ++ behind count more)) (sym (of_none count one none))
-            ∙ sym (ap (λ l. map pair_of all.conditions.items ++ behind count l) e) ∙ h.pairs;
+        called = h.called;
+        pairs = ap (λ l. pairs_in all ++ (l ++ behind before count more)) (sym (no_last before count one none))
+            ∙ sym (ap (λ l. pairs_in all ++ behind before count l) e) ∙ h.pairs;
         range = omega arith;
       }

@@ -5,14 +5,17 @@ use Rattle.std.proofs.lemmas.List.{map-append, append-nil}
 use Rattle.source_tree.specs.declared.name.Name.{Name}
 use Rattle.source_tree.specs.declared.entry.ItemEntry.{ItemEntry}
 use Rattle.source_tree.specs.declared.entry.ConditionEntry.{ConditionEntry}
-use Rattle.source_tree.specs.Levels.{Forest, End, Tree, level_of}
+use Rattle.source_tree.specs.declared.select.FileDescription.{FileDescription}
+use Rattle.source_tree.specs.declared.program.Program.{Program}
+use Rattle.source_tree.specs.Levels.{Forest, End, Tree, level_of, nested}
 use Rattle.source_tree.specs.Names.{with_name}
 use Rattle.source_tree.specs.Clauses.{occurrences}
 use Rattle.source_tree.specs.Rooms.{redefines, item_with}
-use Rattle.source_tree.specs.Places.{Surroundings, within, places, top, storage_places}
+use Rattle.source_tree.specs.Places.{Surroundings, within, places, top, storage_places, items_of}
+use Rattle.source_tree.specs.Records.{storage_areas, record_places, file_places, program_items}
 use Rattle.entries.specs.Nesting.{HasLevel, AreTold}
 use Rattle.names.specs.Positions.{Called}
-use Rattle.names.specs.Items.{called_item, item_calls, entry_calls}
+use Rattle.names.specs.Items.{called_item, item_calls, entry_calls, record_calls}
 
 pub has_level : (F : Forest) → AreTold F → HasLevel F
 has_level End h = tt
@@ -40,13 +43,33 @@ of_group around last here (Tree one conditions inner next) =
     ∙ ap (λ l. l ++ map called_item (places around at behind next)) (of_group (within around one item) at at inner)
     ∙ ap (λ l. item_calls (with_name one.name around.groups) inner ++ l) (of_group around at behind next))
 
-pub of_storage : (areas : ℕ) (F : Forest) → map called_item (storage_places areas F) ≡ item_calls [] F
+of_storage : (areas : ℕ) (F : Forest) → map called_item (storage_places areas F) ≡ item_calls [] F
 of_storage areas End = refl
 of_storage areas (Tree one conditions inner next) =
     let area : ℕ = if redefines one then areas - 1 else areas in
     map-append called_item (places (top area []) 0 0 (Tree one conditions inner End)) (storage_places (area + 1) next)
     ∙ ap (λ l. l ++ map called_item (storage_places (area + 1) next)) (of_group (top area []) 0 0 (Tree one conditions inner End) ∙ append-nil (entry_calls [] one inner))
     ∙ ap (λ l. entry_calls [] one inner ++ l) (of_storage (area + 1) next)
+
+of_records : (area : ℕ) (file : Name) (F : Forest) → map called_item (record_places area file F) ≡ item_calls (file ∷ []) F
+of_records area file End = refl
+of_records area file (Tree one conditions inner next) =
+    map-append called_item (places (top area (file ∷ [])) 0 0 (Tree one conditions inner End)) (record_places area file next)
+    ∙ ap (λ l. l ++ map called_item (record_places area file next)) (of_group (top area (file ∷ [])) 0 0 (Tree one conditions inner End) ∙ append-nil (entry_calls (file ∷ []) one inner))
+    ∙ ap (λ l. entry_calls (file ∷ []) one inner ++ l) (of_records area file next)
+
+of_files : (area : ℕ) (files : List FileDescription) → map called_item (file_places area files) ≡ record_calls files
+of_files area [] = refl
+of_files area (one ∷ more) =
+    map-append called_item (record_places area one.name (nested one.entries)) (file_places (area + 1) more)
+    ∙ ap (λ l. l ++ map called_item (file_places (area + 1) more)) (of_records area one.name (nested one.entries))
+    ∙ ap (λ l. item_calls (one.name ∷ []) (nested one.entries) ++ l) (of_files (area + 1) more)
+
+pub of_program : (program : Program) → map called_item (program_items program) ≡ item_calls [] (nested program.storage) ++ record_calls program.files
+of_program program =
+    map-append called_item (items_of program.storage) (file_places (storage_areas program.storage) program.files)
+    ∙ ap (λ l. l ++ map called_item (file_places (storage_areas program.storage) program.files)) (of_storage 0 (nested program.storage))
+    ∙ ap (λ l. item_calls [] (nested program.storage) ++ l) (of_files (storage_areas program.storage) program.files)
 
 pub entered : (all declared old : List Called) (name told : Option Name) (groups around under : List Name) (inner : Forest) → all ≡ declared ++ item_calls under inner → declared ≡ old ++ record { name = told; around = around } ∷ []
     → told ≡ name → around ≡ groups → under ≡ with_name name groups → all ≡ old ++ (record { name = name; around = groups } ∷ item_calls (with_name name groups) inner)

@@ -3,5 +3,7 @@ pub mod Grown
 pub mod Within
 pub mod ItemCalls
 pub mod Picked
+pub mod Records
 pub mod ConditionCalls
+pub mod NamedFiles
 pub mod Noting

@@ -1,4 +1,4 @@
--- The condition names of entries, with their names and those around them.
+-- The condition names of a program, with their names and those around them.
 use Rattle.std.specs.Prelude.{◌≡◌, ℕ, suc, List, [], ◌∷◌, ◌++◌, map, Option, Some, get_or, slice_get}
 use Rattle.std.specs.Option.{option_map}
 use Rattle.source_tree.specs.declared.entry.ConditionEntry.{ConditionEntry}
@@ -20,6 +20,9 @@ called_condition one = record { name = Some one.condition.name; around = with_na
 -- a condition name and the number of its item
 abbrev pub pair_of : DeclaredCondition → ConditionEntry × ℕ
 pair_of one = (one.condition.now, one.item)
+
+abbrev pub pairs_in : ConditionNames → List (ConditionEntry × ℕ)
+pairs_in all = map pair_of all.conditions.items
 
 -- the same, among items of these names
 abbrev pub condition_at : List Called → ConditionEntry × ℕ → Called

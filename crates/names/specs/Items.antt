@@ -3,8 +3,9 @@ use Rattle.std.specs.Prelude.{List, [], ◌∷◌, ◌++◌}
 use Rattle.source_tree.specs.declared.name.Name.{Name}
 use Rattle.source_tree.specs.declared.entry.ItemEntry.{ItemEntry}
 use Rattle.source_tree.specs.declared.reference.QualifiedName.{QualifiedName}
+use Rattle.source_tree.specs.declared.select.FileDescription.{FileDescription}
 use Rattle.source_tree.specs.LookUp as tree
-use Rattle.source_tree.specs.Levels.{Forest, End, Tree}
+use Rattle.source_tree.specs.Levels.{Forest, End, Tree, nested}
 use Rattle.source_tree.specs.Names.{with_name}
 use Rattle.source_tree.specs.Places.{Placed}
 use Rattle.names.specs.declared.look_up.LookUp.{LookUp}
@@ -21,6 +22,11 @@ item_calls groups (Tree one conditions inner next) =
 
 abbrev pub entry_calls : List Name → ItemEntry → Forest → List Called
 entry_calls groups one inner = record { name = one.name; around = groups } ∷ item_calls (with_name one.name groups) inner
+
+-- The items of records, each in a group of its file's name.
+abbrev pub record_calls : List FileDescription → List Called
+record_calls [] = []
+record_calls (one ∷ more) = item_calls (one.name ∷ []) (nested one.entries) ++ record_calls more
 
 -- What was found is what the name names: nothing, the item of that number alone, or several items.
 abbrev pub IsNamed : List Placed → QualifiedName → LookUp → Type 0

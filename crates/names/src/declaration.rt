@@ -2,17 +2,19 @@
 
 ghost use Rattle.std.specs.Prelude.{◌≡◌, ◌++◌, [], map, length, IfOk};
 ghost use Rattle.std.specs.Option.{option_copied};
+ghost use Rattle.source_tree.specs.Broken.{each};
 ghost use Rattle.source_tree.specs.EntryRules.{entry_rules};
+ghost use Rattle.source_tree.specs.FileRules.{description_rules};
 ghost use Rattle.source_tree.specs.Levels.{nested};
 ghost use Rattle.source_tree.specs.Names.{with_name};
-ghost use Rattle.source_tree.specs.Places.{items_of};
+ghost use Rattle.source_tree.specs.Records.{program_items};
 ghost use Rattle.entries.specs.Nesting.{AreTold};
 ghost use Rattle.names.specs.Items as spec;
 ghost use Rattle.names.specs.Table.{IsTable, calls_in, names_of};
 
 use crate::table::NameTable;
-use entries::{Sibling, levels_are_told, next_item};
-use source_tree::{Entry, Name};
+use entries::{Sibling, levels_are_told, next_item, record_levels_are_told};
+use source_tree::{Entry, FileDescription, Name, Program};
 use std::alloc::{AllocError, Global};
 
 /// The names around what stands in an item of that name, the nearest first.
@@ -72,12 +74,36 @@ fn declare_group<'a>(
     Ok(declared)
 }
 
-/// The table of the items of working storage, by their numbers in the order of the entries, which keep the rules.
-pub fn item_names<'a>(alloc: Global, entries: &'a [Entry]) -> Result<NameTable<'a>, AllocError>
-    requires { entry_rules entries.now ≡ [] }
+/// Declares the items of records, each in a group of its file's name.
+fn declare_records<'a>(
+    alloc: Global,
+    files: &'a [FileDescription],
+    table: NameTable<'a>,
+) -> Result<NameTable<'a>, AllocError>
+    requires rules { each description_rules files.now ≡ [] }
+    requires table { IsTable table }
     ensures table { IfOk result IsTable }
-    ensures calls { IfOk result (λ new. calls_in new ≡ map spec.called_item (items_of entries.now)) }
+    ensures calls { IfOk result (λ new. calls_in new ≡ calls_in table.entry ++ spec.record_calls files.now) }
+{
+    record_levels_are_told();
+    let mut declared = table;
+    for file in files {
+        let groups = [&file.name];
+        declared = declare_group(alloc, file.entries.as_slice(), &groups, declared)?;
+    }
+    Ok(declared)
+}
+
+/// The table of the items of a program, by their numbers: those of working storage in the order of the entries, and then those of
+/// the records of its files. All of them keep the rules.
+pub fn item_names<'a>(alloc: Global, program: &'a Program) -> Result<NameTable<'a>, AllocError>
+    requires storage { entry_rules program.now.storage ≡ [] }
+    requires files { each description_rules program.now.files ≡ [] }
+    ensures table { IfOk result IsTable }
+    ensures calls { IfOk result (λ new. calls_in new ≡ map spec.called_item (program_items program.now)) }
 {
     levels_are_told();
-    declare_group(alloc, entries, &[], NameTable::new(alloc))
+    let storage = program.storage.as_slice();
+    let table = declare_group(alloc, storage, &[], NameTable::new(alloc))?;
+    declare_records(alloc, program.files.as_slice(), table)
 }

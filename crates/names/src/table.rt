@@ -29,7 +29,7 @@ pub struct NameTable<'a> {
 }
 
 /// Notes the number of a thing as the last one of its name. Answers the one before it.
-fn noted<'a>(
+pub(crate) fn noted<'a>(
     last: &mut IndexMap<&'a [u8], usize>,
     name: Option<&'a Name>,
     number: usize,

@@ -1,47 +1,28 @@
-use Rattle.std.proofs.Common.{◌≡◌, [], List, ◌++◌, Ok, Err, subst, sym, ap, ◌∙◌}
+use Rattle.std.proofs.Common.{◌≡◌, [], ◌++◌, Ok, Err, subst, sym, ap, ◌∙◌}
 use Rattle.std.specs.Prelude.{Result}
 use Rattle.std.proofs.lemmas.Result.{err_from_is_err_and}
 use Rattle.std.specs.Result.{OnOk, result_map_both}
-use Rattle.source_tree.specs.declared.entry.Entry.{Entry}
-use Rattle.source_tree.specs.declared.program.Section.{Section}
-use Rattle.source_tree.specs.EntryRules.{entry_rules}
-use Rattle.source_tree.specs.PerformRules.{procedure_name_rules}
-use Rattle.source_tree.specs.Rules.{sections_rules, procedure_rules, all_permitted}
+use Rattle.source_tree.specs.declared.program.Program.{Program}
+use Rattle.source_tree.specs.Recursion.{HasOrder}
+use Rattle.source_tree.specs.Rules.{sections_rules, procedure_rules, program_rules, all_permitted}
 use Rattle.source_tree.specs.Setting.{scope}
-use Rattle.entry_rules.specs.Checks.{IsFirst, fault_of}
+use Rattle.entry_rules.specs.Checks.{fault_of}
+use Rattle.check_rules.specs.Declaring.{declaration_rules}
 use Rattle.check_rules.specs.Kept.{KeepsRules}
-use Rattle.check_rules.proofs.Firsts.{is_first_front, is_first_behind, fails_is_first, told_first}
+use Rattle.check_rules.proofs.Firsts.{is_first_front, told_first}
 use Rattle.check_rules.proofs.checked.check.Goals as goal
 use Rattle.check_rules.proofs.checked.check.Goals.{In_ok-declarations-2}
 
-pub returns-in_err-check_entries-clause-exact : goal.returns-in_err-check_entries-clause-exact
-returns-in_err-check_entries-clause-exact c =
-    let error = err_from_is_err_and c.from_residual.result c.from_residual.ensures.1 in
-    let program = c.args.program.now in
-    let fault = fault_of c.in_err-check_entries.field-0.0 in
-    let entries = entry_rules program.storage in
-    let names = procedure_name_rules program.sections in
-    let statements = sections_rules (scope program) all_permitted program.sections in
-    let found = fails_is_first (tt {0}) fault (entry_rules c.as_slice-storage.result.now) c.in_err-check_entries.ensures.exact in
-    rw (error.1, error.2)
-    (told_first program fault (is_first_front fault (entries ++ names ++ statements) (procedure_rules program)
-    (is_first_front fault (entries ++ names) statements
-    (is_first_front fault entries names (subst (λ (l : List Entry). IsFirst fault (entry_rules l)) c.as_slice-storage.ensures found)))))
-
 pub returns-in_err-declarations-clause-exact : goal.returns-in_err-declarations-clause-exact
 returns-in_err-declarations-clause-exact c =
-    let error = err_from_is_err_and c.from_residual-in_err-declarations.result c.from_residual-in_err-declarations.ensures.1 in
+    let error = err_from_is_err_and c.from_residual.result c.from_residual.ensures.1 in
     let program = c.args.program.now in
-    let entries = entry_rules program.storage in
-    let names = procedure_name_rules program.sections in
-    let statements = sections_rules (scope program) all_permitted program.sections in
     let fault = fault_of c.in_err-declarations.field-0.0 in
-    let kept_entries : entries ≡ [] = ap entry_rules (sym c.as_slice-storage.ensures) ∙ c.in_ok-check_entries.ensures.kept in
+    let declared = declaration_rules program in
+    let statements = sections_rules (scope program) all_permitted program.sections in
     rw (error.1, error.2)
-    (told_first program fault (is_first_front fault (entries ++ names ++ statements) (procedure_rules program)
-    (is_first_front fault (entries ++ names) statements
-    (is_first_behind fault entries names kept_entries
-    (subst (λ (l : List Section). IsFirst fault (procedure_name_rules l)) c.as_slice-sections.ensures c.in_err-declarations.ensures.names)))))
+    (told_first program fault (is_first_front fault (declared ++ statements) (procedure_rules program)
+    (is_first_front fault declared statements c.in_err-declarations.ensures.rules)))
 
 -- What was made is held where nothing failed behind it.
 nothing_failed : {A E : Type 0} (first : A) (behind : Result (Unit {0}) E) (held : A) (end : Unit {0}) → result_map_both {U = A × Unit {0}} (λ b. (first, b)) (λ e. e) behind ≡ Ok (held, end)
@@ -57,17 +38,20 @@ at_ok {P} r x h e = subst (λ r. OnOk r P) e h
 ruled : (c : In_ok-declarations-2) → (c.in_ok-declarations-2.declarations ≡ c.in_ok-declarations.declarations) × (c.procedure_division_rules-ruled.result ≡ Ok tt)
 ruled c = nothing_failed c.in_ok-declarations.declarations c.procedure_division_rules-ruled.result c.in_ok-declarations-2.declarations tt (sym c.beside.ensures ∙ c.in_ok-declarations-2.was)
 
+pub returns-clause-kept : goal.returns-clause-kept
+returns-clause-kept c =
+    subst (λ (p : Program). program_rules p ≡ []) c.in_ok-declarations.ensures.program
+    (at_ok c.procedure_division_rules-ruled.result tt c.procedure_division_rules-ruled.ensures.kept (ruled c).1)
+
 pub returns-clause-order : goal.returns-clause-order
-returns-clause-order c = at_ok c.procedure_division_rules-ruled.result tt c.procedure_division_rules-ruled.ensures.order (ruled c).1
+returns-clause-order c =
+    subst HasOrder c.in_ok-declarations.ensures.program (at_ok c.procedure_division_rules-ruled.result tt c.procedure_division_rules-ruled.ensures.order (ruled c).1)
 
 pub invariant_of-result : goal.invariant_of-result
 invariant_of-result c =
-    let program = c.args.program.now in
     let h = ruled c in
-    subst (KeepsRules program) (sym h.0) (record {
+    subst KeepsRules (sym h.0) (record {
       rules = at_ok c.procedure_division_rules-ruled.result tt c.procedure_division_rules-ruled.ensures.kept h.1;
       order = at_ok c.procedure_division_rules-ruled.result tt c.procedure_division_rules-ruled.ensures.order h.1;
       declared = c.in_ok-declarations.ensures.declared;
-      entries = c.in_ok-declarations.ensures.entries ∙ c.as_slice-storage.ensures;
-      sections = c.in_ok-declarations.ensures.sections ∙ c.as_slice-sections.ensures;
     })

@@ -5,4 +5,4 @@ use Rattle.source_tree.specs.EntryRules.{excess}
 use Rattle.entry_rules.proofs.levels.count_rules.Goals as goal
 
 pub returns-in-None-clause-rules : goal.returns-in-None-clause-rules
-returns-in-None-clause-rules c = ap (each excess) (drop_all 5000 c.args.entries.now (grind arith))
+returns-in-None-clause-rules c = ap (each excess) (drop_all c.args.most c.args.entries.now (grind arith))

@@ -1,13 +1,24 @@
+use Rattle.std.proofs.Common.{◌++◌, None, Some, false, drop}
 use Rattle.std.proofs.lemmas.Result.{err_from_is_err_and}
-use Rattle.entry_rules.proofs.Firsts.{err_front, same_or}
+use Rattle.source_tree.specs.Broken.{each}
+use Rattle.source_tree.specs.EntryRules.{most_entries, excess, level_rules, homeless, forest_rules, outermost, storage_rules}
+use Rattle.source_tree.specs.Levels.{leading, nested}
+use Rattle.entry_rules.specs.Checks.{broken_of}
+use Rattle.entry_rules.proofs.Firsts.{same_front, same_back}
 use Rattle.entry_rules.proofs.storage.check_entries.Goals as goal
 
-pub returns-in_err-count_rules-clause-exact : goal.returns-in_err-count_rules-clause-exact
-returns-in_err-count_rules-clause-exact c =
+pub returns-in_err-count_rules-clause-rules : goal.returns-in_err-count_rules-clause-rules
+returns-in_err-count_rules-clause-rules c =
     let p = err_from_is_err_and c.from_residual.result c.from_residual.ensures.1 in
-    rw (p.1, p.2) (err_front tt _ _ _ c.in_err-count_rules.ensures.rules)
+    let entries = c.args.entries.now in
+    let behind = each level_rules entries ++ (each homeless (leading entries) ++ (forest_rules (outermost false) None (nested entries) ++ storage_rules 0 (nested entries))) in
+    rw (p.1, p.2) (same_front (Some (broken_of c.in_err-count_rules.field-0.0)) (each excess (drop most_entries entries)) behind c.in_err-count_rules.ensures.rules)
 
-pub returns-in_err-level_rules-clause-exact : goal.returns-in_err-level_rules-clause-exact
-returns-in_err-level_rules-clause-exact c =
+pub returns-in_err-level_rules-clause-rules : goal.returns-in_err-level_rules-clause-rules
+returns-in_err-level_rules-clause-rules c =
     let p = err_from_is_err_and c.from_residual-in_err-level_rules.result c.from_residual-in_err-level_rules.ensures.1 in
-    rw (p.1, p.2) (same_or tt _ _ _ c.in_ok-count_rules.ensures.rules (err_front tt _ _ _ c.in_err-level_rules.ensures.rules))
+    let entries = c.args.entries.now in
+    let fault = Some (broken_of c.in_err-level_rules.field-0.0) in
+    let behind = each homeless (leading entries) ++ (forest_rules (outermost false) None (nested entries) ++ storage_rules 0 (nested entries)) in
+    rw (p.1, p.2) (same_back fault (each excess (drop most_entries entries)) (each level_rules entries ++ behind) c.in_ok-count_rules.ensures.rules
+    (same_front fault (each level_rules entries) behind c.in_err-level_rules.ensures.rules))

@@ -1,9 +1,10 @@
-use Rattle.std.proofs.Common.{◌++◌, None, false, ap, sym, refl, ◌∙◌, arith}
+use Rattle.std.proofs.Common.{◌++◌, None, false, ap, sym, refl, ◌∙◌, sum, arith}
 use Rattle.std.proofs.lemmas.Result.{err_from_is_err_and}
 use Rattle.source_tree.specs.EntryRules as rules
 use Rattle.source_tree.specs.EntryRules.{forest_rules, outermost, storage_rules}
 use Rattle.source_tree.specs.Levels.{leading, nested}
 use Rattle.source_tree.specs.LookUp.{first}
+use Rattle.source_tree.specs.Rooms.{area_lengths}
 use Rattle.entry_rules.specs.declared.storage.Areas.{Areas}
 use Rattle.entry_rules.specs.Areas.{bytes_in, past_rules, run}
 use Rattle.entry_rules.specs.Checks.{fault_of}
@@ -13,6 +14,7 @@ use Rattle.entry_rules.proofs.Firsts.{same_front}
 use Rattle.entry_rules.proofs.Forests.{found_in, none_in, known_remembered}
 use Rattle.entry_rules.proofs.LevelLaws.{levels_tree}
 use Rattle.entry_rules.proofs.Sums.{from_start, area_step, with_bytes}
+use Rattle.entry_rules.proofs.Totals as totals
 use Rattle.entry_rules.proofs.storage.check_storage.Goals as goal
 
 pub items-init : goal.items-init
@@ -24,11 +26,12 @@ items-init c =
       shorter = omega arith;
       rules = refl;
       areas = ap first (sym (from_start 0 (nested c.args.entries.now))) ∙ ap (λ (a : Areas). first (past_rules a.past ++ run a.before a.last (nested c.args.entries.now))) (sym c.none-areas.ensures);
+      total = totals.from_zero (nested c.args.entries.now) ∙ ap (λ (a : Areas). totals.total a.before a.last (nested c.args.entries.now)) (sym c.none-areas.ensures);
       bound = omega (arith, none);
     }
 
-pub returns-in_err-bytes : goal.returns-in_err-bytes
-returns-in_err-bytes c =
+pub returns-in_err-bytes-clause-rules : goal.returns-in_err-bytes-clause-rules
+returns-in_err-bytes-clause-rules c =
     let p = err_from_is_err_and c.from_residual.result c.from_residual.ensures.1 in
     let one = c.in-Some.one in
     rw (p.1, p.2) (same_front (fault_of c.in_err-bytes.field-0.0) (forest_rules (outermost false) None (nested c.args.entries.now)) (storage_rules 0 (nested c.args.entries.now))
@@ -52,5 +55,7 @@ items-preserved c =
           ∙ ap (λ at. forest_rules at (redefinable_of c.remembered-last.result) (nested one.next.now)) c.outermost.ensures;
       areas = area_step (storage_rules 0 (nested c.args.entries.now)) c.items.areas c.with-areas.result (nested c.items.rest.now) one.entry.now (leading one.inner.now) (nested one.inner.now) (nested one.next.now) c.in_ok-bytes.bytes
           e c.items.invariant.areas bytes c.with-areas.ensures;
+      total = totals.total_step (sum (area_lengths (nested c.args.entries.now))) c.items.areas c.with-areas.result (nested c.items.rest.now) one.entry.now (leading one.inner.now) (nested one.inner.now) (nested one.next.now) c.in_ok-bytes.bytes
+          e c.items.invariant.total bytes c.with-areas.ensures;
       bound = omega (arith, more, c.in-Some.ensures.1, c.items.invariant.bound, c.in_ok-bytes.ensures.bound);
     }

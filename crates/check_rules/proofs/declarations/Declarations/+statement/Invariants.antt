@@ -23,6 +23,18 @@ decreases-statements_rules l = 8 * goal.size-statements_rules l + 1
 abbrev pub decreases-phrase_rules : goal.decreases-phrase_rules
 decreases-phrase_rules l = 8 * goal.size-phrase_rules l + 2
 
+abbrev pub decreases-opposite_rules : goal.decreases-opposite_rules
+decreases-opposite_rules l = 8 * goal.size-opposite_rules l + 3
+
+abbrev pub decreases-file_phrases_rules : goal.decreases-file_phrases_rules
+decreases-file_phrases_rules l = 8 * goal.size-file_phrases_rules l + 4
+
+abbrev pub decreases-filed_rules : goal.decreases-filed_rules
+decreases-filed_rules l = 8 * goal.size-filed_rules l + 5
+
+abbrev pub decreases-file_statement_rules : goal.decreases-file_statement_rules
+decreases-file_statement_rules l = 8 * goal.size-file_statement_rules l + 6
+
 abbrev pub decreases-selected_rules : goal.decreases-selected_rules
 decreases-selected_rules l = 8 * goal.size-selected_rules l + 2
 

@@ -1,0 +1,71 @@
+-- Parts of the rules of file statements.
+use Rattle.std.specs.Prelude.{◌≡◌, ◌+◌, ◌==◌, Bool, false, not, ◌&&◌, ◌||◌, is_none, List, ◌++◌, Option, Some, None}
+use Rattle.std.specs.Borrow.{Bor}
+use Rattle.std.specs.List.{list_any}
+use Rattle.lexical.specs.declared.place.Place.{Place}
+use Rattle.records.specs.declared.file_spec.Organization.{Organization}
+use Rattle.records.specs.Spec.{same_place}
+use Rattle.records.specs.Steps.{is_relative}
+use Rattle.source_tree.specs.declared.phrases.FilePhrases.{FilePhrases}
+use Rattle.source_tree.specs.declared.reference.Reference.{Reference}
+use Rattle.source_tree.specs.Broken.{Broken, where_so}
+use Rattle.source_tree.specs.Filing.{is_in_sequence}
+use Rattle.source_tree.specs.FileRules.{is_key_kind}
+use Rattle.source_tree.specs.FilingRules.{is_sequential_file, is_random, has_at_end, has_invalid_key, keys_by, is_text, begins_key}
+use Rattle.source_tree.specs.ProgramFiles.{ProgramFile}
+use Rattle.source_tree.specs.References.{ItemPlace}
+use Rattle.layout.specs.declared.placed.PlacedItem.{PlacedItem}
+use Rattle.program_files.specs.declared.file.ProgramFile as compiled
+use Rattle.program_files.specs.Files.{file_in}
+use Rattle.source_tree.specs.Places.{Placed}
+use Rattle.check_rules.specs.FiledKeys.{place_of}
+use Rattle.check_rules.specs.Selecting.{is_plain}
+
+abbrev pub phrase_kind_rules : {S : Type 0} → Place → Organization → FilePhrases S → List Broken
+phrase_kind_rules place organization phrases = where_so (has_at_end phrases || (has_invalid_key phrases && is_sequential_file organization)) 62 place
+
+abbrev pub read_phrase_rules : {S : Type 0} → Place → Bool → FilePhrases S → List Broken
+read_phrase_rules place in_sequence phrases =
+    where_so ((has_at_end phrases && not in_sequence) || (has_invalid_key phrases && in_sequence)) 62 place
+
+-- NEXT and the phrases of READ
+abbrev pub read_file_rules : {S : Type 0} → Place → Bool → FilePhrases S → ProgramFile → List Broken
+read_file_rules place next phrases file =
+    where_so (next && is_random file.entry.access) 62 place ++ read_phrase_rules place (is_in_sequence file next) phrases
+
+-- organization, access and RELATIVE KEY for START
+abbrev pub start_file_rules : Place → ProgramFile → List Broken
+start_file_rules place file =
+    where_so (is_sequential_file file.entry.spec.organization || is_random file.entry.access) 61 place
+    ++ where_so (is_relative file.entry.spec.organization && is_none file.places.relative_key) 60 place
+
+-- ---- items of keys
+
+abbrev pub is_in_record : compiled.ProgramFile → Reference → PlacedItem → Bool
+is_in_record file reference one = is_plain reference one && (one.area == file.area)
+
+abbrev pub is_key_item : compiled.ProgramFile → Reference → PlacedItem → Bool
+is_key_item file reference one =
+    is_in_record file reference one && is_key_kind one.item.kind && list_any (same_place (place_of one)) (keys_by file.organization file.alternates.items)
+
+abbrev pub begins_key_item : compiled.ProgramFile → Reference → PlacedItem → Bool
+begins_key_item file reference one =
+    is_in_record file reference one && is_text one.item.kind && list_any (begins_key (place_of one)) (keys_by file.organization file.alternates.items)
+
+abbrev pub is_place : Option ItemPlace → PlacedItem → Bool
+is_place None one = false
+is_place (Some place) one = (place.area == one.area) && (place.offset == one.offset) && (place.item.length == one.item.length)
+
+-- the RELATIVE KEY of a relative file
+abbrev pub is_relative_key : ProgramFile → Reference → PlacedItem → Bool
+is_relative_key file reference one = is_relative file.entry.spec.organization && is_plain reference one && is_place file.places.relative_key one
+
+-- what KEY of START may name
+abbrev pub is_start_item : List Placed → compiled.ProgramFile → Reference → PlacedItem → Bool
+is_start_item items file reference one =
+    is_key_item file reference one || begins_key_item file reference one || is_relative_key (file_in items file) reference one
+
+-- the item that stands there
+abbrev pub IsPlaced : Option ItemPlace → Option (Bor PlacedItem) → Type 0
+IsPlaced place None = place ≡ None
+IsPlaced place (Some one) = place ≡ Some (record { item = one.now.item; editing = one.now.editing; area = one.now.area; offset = one.now.offset + 0 })

@@ -1,0 +1,353 @@
+//! The rules of file statements: 40 and 41 of files and records, 49 of the moves of INTO and FROM, 60 a START of a relative file without
+//! RELATIVE KEY, 61 what organization or access doesn't permit, 62 phrases, KEY and NEXT, 63 the KEY of START (COBOL-85, Sequential,
+//! Relative and Indexed I-O).
+
+ghost use Rattle.std.specs.Prelude.{◌≡◌};
+ghost use Rattle.entry_rules.specs.Checks.{Finds};
+ghost use Rattle.source_tree.specs.Broken.{each};
+ghost use Rattle.source_tree.specs.FileRules.{clause_item};
+ghost use Rattle.source_tree.specs.FilingRules as spec;
+ghost use Rattle.program_files.specs.Files.{file_in, place_at};
+ghost use Rattle.check_rules.specs.Filed as filed;
+ghost use Rattle.check_rules.specs.Named as declared;
+ghost use Rattle.check_rules.specs.Named.{IsDeclared, files_in, items_in};
+
+use crate::asked::Asked;
+use crate::declarations::Declarations;
+use crate::declared_items::item_number;
+use crate::file_keys::{begins_key_item, is_key_item};
+use crate::file_phrases::{
+    is_in_sequence, is_random, is_relative, is_sequential, phrase_kind_rules, read_phrase_rules,
+};
+use crate::keys::is_plain;
+use crate::sent::Sent;
+use entry_rules::{BrokenRule, Rule};
+use layout::PlacedItem;
+use program_files::ProgramFile;
+use source_tree::{
+    FilePhrases, Filing, Name, OpenMode, Opening, Place, Reference, Relation, StartKey, Statement,
+};
+use std::slice;
+
+/// =, > or NOT <, which START permits.
+fn is_start_relation(relation: Relation) -> bool
+    ensures { result ≡ spec.is_start_relation relation }
+{
+    matches!(
+        relation,
+        Relation::Equal | Relation::Greater | Relation::GreaterOrEqual
+    )
+}
+
+impl<'a> Declarations<'a> {
+    /// The item of RELATIVE KEY.
+    fn relative_key(&self, file: &ProgramFile<'_>) -> Option<&PlacedItem>
+        requires { IsDeclared self.now }
+        ensures { filed.IsPlaced (place_at (items_in self.now) file.now.relative_key) result }
+    {
+        let number = file.relative_key?;
+        self.layout.items.as_slice().get(number)
+    }
+
+    /// A file of OPEN: only sequential files are extended.
+    fn opening_rules(&self, one: &Opening) -> Result<(), BrokenRule>
+        requires { IsDeclared self.now }
+        ensures { Finds result (spec.open_rules (items_in self.now) (files_in self.now) one.now) }
+    {
+        let file = self.file_named(&one.file)?;
+        let is_extended = matches!(one.mode, OpenMode::Extend) && !is_sequential(file.organization);
+        Rule::FileStatement.broken_if(is_extended, one.file.place)
+    }
+
+    fn openings_rules(&self, all: &[Opening]) -> Result<(), BrokenRule>
+        requires { IsDeclared self.now }
+        ensures { Finds result (each (spec.open_rules (items_in self.now) (files_in self.now)) all.now) }
+    {
+        for one in all {
+            self.opening_rules(one)?;
+        }
+        Ok(())
+    }
+
+    fn closing_rules(&self, one: &Name) -> Result<(), BrokenRule>
+        requires { IsDeclared self.now }
+        ensures { Finds result (spec.close_rules (items_in self.now) (files_in self.now) one.now) }
+    {
+        self.file_named(one)?;
+        Ok(())
+    }
+
+    fn closings_rules(&self, all: &[Name]) -> Result<(), BrokenRule>
+        requires { IsDeclared self.now }
+        ensures { Finds result (each (spec.close_rules (items_in self.now) (files_in self.now)) all.now) }
+    {
+        for one in all {
+            self.closing_rules(one)?;
+        }
+        Ok(())
+    }
+
+    /// The item of KEY of READ, which is a key of the file.
+    fn read_key_item_rules(&self, file: &ProgramFile<'_>, key: &Reference) -> Result<(), BrokenRule>
+        requires { IsDeclared self.now }
+        ensures { Finds result (clause_item (items_in self.now) (spec.read_key_item (file_in (items_in self.now) file.now)) key.now) }
+    {
+        let found = self.item_named(&key.item)?;
+        Rule::FilePhrase.broken_if(!is_key_item(file, key, found), key.item.name.place)
+    }
+
+    /// KEY of READ, which a READ in sequence hasn't.
+    fn read_key_rules(
+        &self,
+        in_sequence: bool,
+        file: &ProgramFile<'_>,
+        key: &Option<Reference>,
+    ) -> Result<(), BrokenRule>
+        requires { IsDeclared self.now }
+        ensures { Finds result (spec.read_key_rules (items_in self.now) (files_in self.now) in_sequence (file_in (items_in self.now) file.now) key.now) }
+    {
+        let Some(one) = key else {
+            return Ok(());
+        };
+        Rule::FilePhrase.broken_if(in_sequence, one.item.name.place)?;
+        self.read_key_item_rules(file, one)
+    }
+
+    /// INTO, to which what the file sends may be moved.
+    fn into_rules(&self, file: &ProgramFile<'_>, into: &Option<Reference>) -> Result<(), BrokenRule>
+        requires { IsDeclared self.now }
+        ensures { Finds result (spec.into_rules (items_in self.now) (files_in self.now) (file_in (items_in self.now) file.now) into.now) }
+    {
+        match into {
+            None => Ok(()),
+            Some(one) => self.item_rules(Asked::Receives(Sent::by_item(file.sent)), one),
+        }
+    }
+
+    /// A READ of a file that was found: with NEXT it has no random access.
+    fn read_file_rules(
+        &self,
+        next: bool,
+        file: &ProgramFile<'_>,
+        place: Place,
+        phrases: &FilePhrases<Statement>,
+    ) -> Result<(), BrokenRule>
+        requires { IsDeclared self.now }
+        ensures { Finds result (filed.read_file_rules place next phrases.now (file_in (items_in self.now) file.now)) }
+    {
+        let access = file.select.access;
+        Rule::FilePhrase.broken_if(next && is_random(access), place)?;
+        read_phrase_rules(place, is_in_sequence(access, next), phrases)
+    }
+
+    /// A READ of a file, which is named at that place.
+    fn read_found_rules(
+        &self,
+        file: &ProgramFile<'_>,
+        place: Place,
+        next: bool,
+        into: &Option<Reference>,
+        key: &Option<Reference>,
+        phrases: &FilePhrases<Statement>,
+    ) -> Result<(), BrokenRule>
+        requires { IsDeclared self.now }
+        ensures { Finds result (spec.read_rules (items_in self.now) (files_in self.now) place next into.now key.now phrases.now (file_in (items_in self.now) file.now)) }
+    {
+        self.read_file_rules(next, file, place, phrases)?;
+        self.read_key_rules(is_in_sequence(file.select.access, next), file, key)?;
+        self.into_rules(file, into)
+    }
+
+    fn read_rules(
+        &self,
+        name: &Name,
+        next: bool,
+        into: &Option<Reference>,
+        key: &Option<Reference>,
+        phrases: &FilePhrases<Statement>,
+    ) -> Result<(), BrokenRule>
+        requires { IsDeclared self.now }
+        ensures { Finds result (spec.file_named_rules (items_in self.now) (files_in self.now) name.now (spec.read_rules (items_in self.now) (files_in self.now) name.now.place next into.now key.now phrases.now)) }
+    {
+        let file = self.file_named(name)?;
+        self.read_found_rules(file, name.place, next, into, key, phrases)
+    }
+
+    /// The record of WRITE and REWRITE: the 01 record of an FD.
+    fn record_named_rules(
+        &self,
+        one: &Reference,
+        phrases: &FilePhrases<Statement>,
+    ) -> Result<(), BrokenRule>
+        requires { IsDeclared self.now }
+        ensures { Finds result (declared.named_rules (items_in self.now) (spec.record_item (items_in self.now) (files_in self.now) phrases.now) one.now) }
+    {
+        let place = one.item.name.place;
+        let number = item_number(&self.names, &one.item)?;
+        let found = &self.layout.items.as_slice()[number];
+        let wanted = found.dimensions.as_slice().len();
+        Rule::Subscripts.broken_if(one.subscripts.as_slice().len() != wanted, place)?;
+        Rule::UnknownName.broken_if(!self.is_record(number), place)?;
+        let file = self.file_with(place, found.area)?;
+        phrase_kind_rules(place, file.organization, phrases)
+    }
+
+    /// FROM, which is moved to the record.
+    fn from_rules(&self, to: &Reference, from: &Option<Reference>) -> Result<(), BrokenRule>
+        requires { IsDeclared self.now }
+        ensures { Finds result (spec.from_rules (items_in self.now) (files_in self.now) to.now from.now) }
+    {
+        match from {
+            None => Ok(()),
+            Some(item) => self.move_item_rules(item, slice::from_ref(to)),
+        }
+    }
+
+    fn record_rules(
+        &self,
+        one: &Reference,
+        from: &Option<Reference>,
+        phrases: &FilePhrases<Statement>,
+    ) -> Result<(), BrokenRule>
+        requires { IsDeclared self.now }
+        ensures { Finds result (spec.record_rules (items_in self.now) (files_in self.now) one.now from.now phrases.now) }
+    {
+        self.record_named_rules(one, phrases)?;
+        self.subscripts_rules(one.subscripts.as_slice())?;
+        self.from_rules(one, from)
+    }
+
+    fn delete_rules(&self, name: &Name, phrases: &FilePhrases<Statement>) -> Result<(), BrokenRule>
+        requires { IsDeclared self.now }
+        ensures { Finds result (spec.file_named_rules (items_in self.now) (files_in self.now) name.now (spec.delete_rules (items_in self.now) (files_in self.now) name.now.place phrases.now)) }
+    {
+        let file = self.file_named(name)?;
+        Rule::FileStatement.broken_if(is_sequential(file.organization), name.place)?;
+        phrase_kind_rules(name.place, file.organization, phrases)
+    }
+
+    /// The item of RELATIVE KEY of a relative file.
+    fn is_relative_key(
+        &self,
+        file: &ProgramFile<'_>,
+        reference: &Reference,
+        one: &PlacedItem,
+    ) -> bool
+        requires { IsDeclared self.now }
+        ensures { result ≡ filed.is_relative_key (file_in (items_in self.now) file.now) reference.now one.now }
+    {
+        let Some(key) = self.relative_key(file) else {
+            return false;
+        };
+        is_relative(file.organization)
+            && is_plain(reference, one)
+            && (key.area == one.area
+                && key.offset == one.offset
+                && key.item.length == one.item.length)
+    }
+
+    /// A key of the file, what begins one, or RELATIVE KEY.
+    fn is_start_item(&self, file: &ProgramFile<'_>, reference: &Reference, one: &PlacedItem) -> bool
+        requires { IsDeclared self.now }
+        ensures { result ≡ filed.is_start_item (items_in self.now) file.now reference.now one.now }
+    {
+        is_key_item(file, reference, one)
+            || begins_key_item(file, reference, one)
+            || self.is_relative_key(file, reference, one)
+    }
+
+    /// The item of KEY of START.
+    fn start_item_rules(&self, file: &ProgramFile<'_>, key: &Reference) -> Result<(), BrokenRule>
+        requires { IsDeclared self.now }
+        ensures { Finds result (clause_item (items_in self.now) (spec.start_key_item (file_in (items_in self.now) file.now)) key.now) }
+    {
+        let found = self.item_named(&key.item)?;
+        let is_start = self.is_start_item(file, key, found);
+        Rule::StartKey.broken_if(!is_start, key.item.name.place)
+    }
+
+    fn start_key_rules(
+        &self,
+        file: &ProgramFile<'_>,
+        key: &Option<StartKey>,
+    ) -> Result<(), BrokenRule>
+        requires { IsDeclared self.now }
+        ensures { Finds result (spec.start_key_rules (items_in self.now) (files_in self.now) (file_in (items_in self.now) file.now) key.now) }
+    {
+        let Some(one) = key else {
+            return Ok(());
+        };
+        Rule::StartKey.broken_if(!is_start_relation(one.relation), one.key.item.name.place)?;
+        self.start_item_rules(file, &one.key)
+    }
+
+    /// START stands not on sequential files, not with random access, and on relative files with RELATIVE KEY alone.
+    fn start_file_rules(&self, file: &ProgramFile<'_>, place: Place) -> Result<(), BrokenRule>
+        requires { IsDeclared self.now }
+        ensures { Finds result (filed.start_file_rules place (file_in (items_in self.now) file.now)) }
+    {
+        let is_unordered = is_sequential(file.organization) || is_random(file.select.access);
+        Rule::FileStatement.broken_if(is_unordered, place)?;
+        let has_no_key = is_relative(file.organization) && self.relative_key(file).is_none();
+        Rule::RelativeKey.broken_if(has_no_key, place)
+    }
+
+    /// A START of a file, which is named at that place.
+    fn start_found_rules(
+        &self,
+        file: &ProgramFile<'_>,
+        place: Place,
+        key: &Option<StartKey>,
+        phrases: &FilePhrases<Statement>,
+    ) -> Result<(), BrokenRule>
+        requires { IsDeclared self.now }
+        ensures { Finds result (spec.start_rules (items_in self.now) (files_in self.now) place key.now phrases.now (file_in (items_in self.now) file.now)) }
+    {
+        self.start_file_rules(file, place)?;
+        self.start_key_rules(file, key)?;
+        phrase_kind_rules(place, file.organization, phrases)
+    }
+
+    fn start_rules(
+        &self,
+        name: &Name,
+        key: &Option<StartKey>,
+        phrases: &FilePhrases<Statement>,
+    ) -> Result<(), BrokenRule>
+        requires { IsDeclared self.now }
+        ensures { Finds result (spec.file_named_rules (items_in self.now) (files_in self.now) name.now (spec.start_rules (items_in self.now) (files_in self.now) name.now.place key.now phrases.now)) }
+    {
+        let file = self.file_named(name)?;
+        self.start_found_rules(file, name.place, key, phrases)
+    }
+
+    /// A file statement without those in its phrases.
+    pub fn filing_rules(&self, one: &Filing<Statement>) -> Result<(), BrokenRule>
+        requires { IsDeclared self.now }
+        ensures { Finds result (spec.filing_rules (items_in self.now) (files_in self.now) one.now) }
+    {
+        match one {
+            Filing::Open { files } => self.openings_rules(files.as_slice()),
+            Filing::Close { files } => self.closings_rules(files.as_slice()),
+            Filing::Read {
+                file,
+                next,
+                into,
+                key,
+                phrases,
+            } => self.read_rules(file, *next, into, key, phrases),
+            Filing::Write {
+                record,
+                from,
+                phrases,
+            } => self.record_rules(record, from, phrases),
+            Filing::Rewrite {
+                record,
+                from,
+                phrases,
+            } => self.record_rules(record, from, phrases),
+            Filing::Delete { file, phrases } => self.delete_rules(file, phrases),
+            Filing::Start { file, key, phrases } => self.start_rules(file, key, phrases),
+        }
+    }
+}

@@ -1,0 +1,15 @@
+use Rattle.std.proofs.Common.{◌≡◌, max, length}
+use Rattle.source_tree.specs.Levels.{nested}
+use Rattle.source_tree.specs.Clauses.{nothing_around}
+use Rattle.source_tree.specs.Rooms.{longest}
+use Rattle.initial_storage.specs.Fits.{Fits}
+use Rattle.initial_storage.proofs.storage.longest_record.Given as goal
+
+abbrev pub invariant-records : goal.invariant-records
+invariant-records l = record {
+  fits : Fits nothing_around (nested l.rest);
+  most : max l.bytes (longest nothing_around (nested l.rest)) ≡ longest nothing_around (nested l.entries);
+}
+
+abbrev pub decreases-records : goal.decreases-records
+decreases-records l = length l.rest

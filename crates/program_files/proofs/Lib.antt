@@ -1,0 +1,5 @@
+pub mod FoundDescription
+pub mod KeyOrder
+pub mod KeptClauses
+pub mod NumberedItems
+pub mod SameFile

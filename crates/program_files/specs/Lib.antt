@@ -1,0 +1,5 @@
+pub mod Sources
+pub mod Clauses
+pub mod Keys
+pub mod Descriptions
+pub mod Files
