@@ -6,24 +6,27 @@ use Rattle.image_tables.specs.Reading.{◌>>=◌, table_at}
 use Rattle.image_tables.specs.Tables.{tables_bytes}
 use Rattle.image_tables.proofs.Forms.{bind_is, part_again}
 use Rattle.image_tables.proofs.DataTables.{tables_form}
+use Rattle.file_tables.specs.Spelling.{file_bytes}
 use Rattle.code_image.specs.declared.code.Code.{Code}
 use Rattle.code_image.specs.Spelling.{mark, instruction_bytes, spelling, HasSpelling}
 use Rattle.code_image.specs.Reading.{after_mark, instruction_at, code_at}
 use Rattle.code_image.proofs.Forms.{mark_again}
-use Rattle.code_image.proofs.Images.{end_from, instructions_from, starts_from, tables_from, start_table, instruction_table}
+use Rattle.code_image.proofs.Images.{end_from, instructions_from, starts_from, files_from, tables_from, file_table, start_table, instruction_table}
 
-regroup : (a b c d : List ℕ) → a ++ b ++ c ++ d ≡ a ++ (b ++ (c ++ d))
-regroup a b c d = simp append_assoc
+regroup : (a b c d e : List ℕ) → a ++ b ++ c ++ d ++ e ≡ a ++ (b ++ (c ++ (d ++ e)))
+regroup a b c d e = simp append_assoc
 
 pub code_again : (code : Code) → HasSpelling code → code_at (spelling code) ≡ Ok code
 unfolding code_at
 code_again code fits =
     let t = tables_bytes code.tables in
+    let f = table_bytes file_bytes code.files in
     let s = table_bytes count_bytes code.starts in
     let i = table_bytes instruction_bytes code.instructions in
-    ap (λ (bytes : List ℕ). after_mark bytes >>= tables_from) (regroup mark t s i)
-    ∙ bind_is (after_mark (mark ++ (t ++ (s ++ i)))) tables_from (t ++ (s ++ i)) (mark_again (t ++ (s ++ i)))
-    ∙ part_again tables_form code.tables (s ++ i) starts_from fits.tables
-    ∙ part_again start_table code.starts i (instructions_from code.tables) fits.starts
-    ∙ ap (λ (bytes : List ℕ). table_at instruction_at bytes >>= end_from code.tables code.starts) (sym (append-nil i))
-    ∙ part_again instruction_table code.instructions [] (end_from code.tables code.starts) fits.instructions
+    ap (λ (bytes : List ℕ). after_mark bytes >>= tables_from) (regroup mark t f s i)
+    ∙ bind_is (after_mark (mark ++ (t ++ (f ++ (s ++ i))))) tables_from (t ++ (f ++ (s ++ i))) (mark_again (t ++ (f ++ (s ++ i))))
+    ∙ part_again tables_form code.tables (f ++ (s ++ i)) files_from fits.tables
+    ∙ part_again file_table code.files (s ++ i) (starts_from code.tables) fits.files
+    ∙ part_again start_table code.starts i (instructions_from code.tables code.files) fits.starts
+    ∙ ap (λ (bytes : List ℕ). table_at instruction_at bytes >>= end_from code.tables code.files code.starts) (sym (append-nil i))
+    ∙ part_again instruction_table code.instructions [] (end_from code.tables code.files code.starts) fits.instructions

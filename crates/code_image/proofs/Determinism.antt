@@ -9,13 +9,17 @@ use Rattle.source_tree.specs.Performing.{turns_by}
 use Rattle.source_tree.specs.Given.{Given}
 use Rattle.source_tree.specs.Meaning.{Run}
 use Rattle.source_tree.specs.Accepting.{next_line}
+use Rattle.records.specs.declared.verb.Verb.{Verb}
+use Rattle.source_tree.specs.FileStatements.{step_on}
+use Rattle.file_tables.specs.declared.file.CodeFile.{CodeFile}
+use Rattle.file_tables.specs.Files.{places_of, entries_of}
 use Rattle.code_image.specs.declared.code.Code.{Code}
 use Rattle.code_image.specs.declared.instruction.Instruction.{Instruction}
-use Rattle.code_image.specs.declared.instruction.Instruction.TheVariants.{Tick, Show, Stop, Count, CountNumber, Turn, Accept, Date, Branch, Jump, Join, Perform, Back, Data}
+use Rattle.code_image.specs.declared.instruction.Instruction.TheVariants.{Tick, Show, Stop, Count, CountNumber, Turn, Accept, Date, Branch, Jump, Join, Perform, Back, File, TestStatus, Unheard, Data}
 use Rattle.data_instructions.specs.Scratch.{Step, Went, Faulted, Stuck}
 use Rattle.data_instructions.specs.Table.{work, accepted, dated}
 use Rattle.code_image.specs.Points.{Return, Point, scratch_of, first_point}
-use Rattle.code_image.specs.Table.{Next, onward, tick_from, shown_point, worked_point, data_from, counted_turns, counted_by, counted_from, turn_from, branch_from, performing, perform_at, back_if, back_from, line_taken, act, exec_code, Runs}
+use Rattle.code_image.specs.Table.{Next, onward, tick_from, shown_point, worked_point, data_from, counted_turns, counted_by, counted_from, turn_from, branch_from, performing, perform_at, back_if, back_from, line_taken, received_point, filed_from, tested_point, act, exec_code, Runs}
 
 -- where f is over, g is over with the same run
 abbrev Extends : Next → Next → Type 0
@@ -71,6 +75,12 @@ module _ (f g : Next) (h : Extends f g) where
   back_extends [] paragraph p run e = h (record p { address = p.address + 1 }) run e
   back_extends (newest ∷ older) paragraph p run e = back_if_extends (newest.last == paragraph) newest older p run e
 
+  filed_extends : (code : Code) (number : ℕ) (verb : Verb) (file : Option CodeFile) (p : Point) (run : Run)
+      → filed_from code number verb file f p ≡ Some run → filed_from code number verb file g p ≡ Some run
+  filed_extends code number verb None p run e = absurd cc
+  filed_extends code number verb (Some one) p run e =
+      h (received_point code number one (step_on (entries_of code.tables code.files) (places_of code.tables number one) verb p.state) p) run e
+
   act_extends : (code : Code) (i : Option Instruction) (p : Point) (run : Run) → act code i f p ≡ Some run → act code i g p ≡ Some run
   act_extends code None p run e = e
   act_extends code (Some (Tick line)) p run e = tick_extends p.state.budget line p p.state run e
@@ -88,6 +98,9 @@ module _ (f g : Next) (h : Extends f g) where
   act_extends code (Some Join) p run e = h (record p { address = p.address + 1 }) run e
   act_extends code (Some (Perform line first last)) p run e =
       perform_extends p.state.budget line (slice_index code.starts first.number) last.number p p.state run e
+  act_extends code (Some (File file verb)) p run e = filed_extends code file.number verb (slice_get code.files file.number) p run e
+  act_extends code (Some (TestStatus class)) p run e = h (tested_point class p) run e
+  act_extends code (Some Unheard) p run e = e
   act_extends code (Some (Back paragraph)) p run e = back_extends p.own.returns paragraph.number p run e
 
 longer : (code : Code) (m n : ℕ) → m ≤ n → Extends (exec_code code m) (exec_code code n)

@@ -1,6 +1,6 @@
 -- Worked examples: the code of a program that shows HELLO and stops, two loops, code that works on data, ways on, a way back, code
 -- paragraphs, console lines, and images.
-use Rattle.std.proofs.Common.{◌≡◌, ◌≤◌, ℕ, ◌+◌, true, false, List, [], ◌∷◌, ◌++◌, zero, suc, length, take, Option, Some, None, Ok, Err, map, refl, subst, inl, inr, ℤ, pos, negsuc, arith}
+use Rattle.std.proofs.Common.{◌≡◌, ◌≤◌, ℕ, ◌+◌, true, false, List, [], ◌∷◌, ◌++◌, zero, suc, length, take, Option, Some, None, Ok, Err, map, refl, sym, subst, inl, inr, ℤ, pos, negsuc, arith}
 use Rattle.std.specs.Prelude.{◌<◌, All, codes, slice_get, slice_index, slice_index_or}
 use Rattle.std.proofs.lemmas.List.Elements.{All-nil, All-cons}
 use Rattle.items.specs.declared.item.Kind.TheVariants as kind
@@ -9,10 +9,18 @@ use Rattle.items.specs.declared.usage.Usage.TheVariants as usage
 use Rattle.items.specs.Values.{bytes_of}
 use Rattle.decimal18.specs.Quotient.{quotient, greatest}
 use Rattle.decimal18.specs.Receiver.{fitted}
-use Rattle.station.specs.State.{Shown}
+use Rattle.station.specs.State.{Event, Shown, Noted}
+use Rattle.records.specs.declared.file_spec.Organization.TheVariants as organization
+use Rattle.records.specs.declared.key.KeyOfReference.TheVariants.{Alternate}
+use Rattle.records.specs.declared.select.Access.TheVariants as access
+use Rattle.records.specs.declared.verb.OpenMode.TheVariants as mode
+use Rattle.records.specs.declared.verb.Verb.{Verb}
+use Rattle.records.specs.declared.verb.Verb.TheVariants as v
+use Rattle.records.specs.Files.{Files}
+use Rattle.source_tree.specs.FileStatements.{stored_by, step_by}
 use Rattle.source_tree.specs.Evaluated as evaluated
 use Rattle.source_tree.specs.Evaluated.{Subscript}
-use Rattle.source_tree.specs.State.{Stopped, Budget, Faulted}
+use Rattle.source_tree.specs.State.{Stopped, Budget, Faulted, all_files}
 use Rattle.source_tree.specs.Meaning.{Run}
 use Rattle.data_instructions.specs.declared.tables.DataItem.{DataItem}
 use Rattle.data_instructions.specs.declared.tables.DataTables.{DataTables}
@@ -21,22 +29,28 @@ use Rattle.data_instructions.specs.declared.instruction.DataInstruction.TheVaria
 use Rattle.data_instructions.specs.declared.test.Test.TheVariants as t
 use Rattle.data_instructions.specs.Shapes.{empty}
 use Rattle.image_tables.specs.declared.fault.ImageFault.TheVariants as faults
-use Rattle.image_tables.specs.Spelling.{count_bytes, short_bytes}
-use Rattle.image_tables.specs.Reading.{byte_at, count_at, short_at, entries_at, table_at, text_at}
-use Rattle.image_tables.specs.Items.{kind_at, item_at, plain_kind_of}
+use Rattle.image_tables.specs.Spelling.{count_bytes, short_bytes, small_bytes}
+use Rattle.image_tables.specs.Reading.{byte_at, told_at, flag_of, count_at, short_at, small_at, entries_at, table_at, text_at}
+use Rattle.image_tables.specs.Items as items
+use Rattle.image_tables.specs.Items.{kind_at, plain_kind_of}
 use Rattle.image_tables.specs.Tables.{data_item_at, tables_at}
 use Rattle.image_tables.specs.Instructions.{data_instruction_at, plain_instruction_of}
 use Rattle.perform_order.specs.declared.performed.PerformedRange.{PerformedRange}
 use Rattle.perform_order.specs.Order.{IsRange, Falls, heights}
+use Rattle.file_tables.specs.declared.class.StatusClass.TheVariants.{AtEnd}
+use Rattle.file_tables.specs.declared.file.CodeFile.{CodeFile}
+use Rattle.file_tables.specs.Classes.{has_class}
+use Rattle.file_tables.specs.Files.{spec_of, entries_of, NamesPlaces, IsCodeFile}
+use Rattle.file_tables.specs.Spelling.{file_at, spec_at, organization_at, access_of, item_at, verb_at, plain_verb_of}
 use Rattle.code_image.specs.declared.code.Code.{Code}
 use Rattle.code_image.specs.declared.counter.CounterIndex.{CounterIndex}
 use Rattle.code_image.specs.declared.paragraph.ParagraphIndex.{ParagraphIndex}
 use Rattle.code_image.specs.declared.instruction.Instruction.{Instruction}
-use Rattle.code_image.specs.declared.instruction.Instruction.TheVariants.{Tick, Show, Stop, Count, CountNumber, Turn, Accept, Date, Branch, Jump, Join, Perform, Back, Data}
+use Rattle.code_image.specs.declared.instruction.Instruction.TheVariants.{Tick, Show, Stop, Count, CountNumber, Turn, Accept, Date, Branch, Jump, Join, Perform, Back, File, TestStatus, Unheard, Data}
 use Rattle.code_image.specs.Spelling.{mark, instruction_bytes, spelling}
 use Rattle.code_image.specs.Reading.{after_mark, instruction_at, code_at}
 use Rattle.code_image.specs.Known.{known_along}
-use Rattle.code_image.specs.Demands.{NamesData, NamesCounter, NamesParagraph, Leads, AllLead, StartsAt, AllStart, HasOrder, IsVerified}
+use Rattle.code_image.specs.Demands.{NamesData, NamesCounter, NamesParagraph, NamesFile, SuitsFile, Leads, AllLead, StartsAt, AllStart, HasOrder, HasFiles, IsVerified}
 use Rattle.code_image.specs.Points.{Point, first_point}
 use Rattle.code_image.specs.Table.{Next, act, exec_code}
 
@@ -61,24 +75,25 @@ paragraph number = record { number = number }
 abbrev code : Code
 code = record {
   tables = with_texts (hello ∷ []);
+  files = [];
   starts = 0 ∷ [];
   instructions = Tick 5 ∷ append 0 ∷ Show ∷ Tick 6 ∷ Stop ∷ Stop ∷ [];
 }
 
 -- at the first instruction, on some day, with these console lines
 abbrev with_lines : Code → ℕ → List (List ℕ) → Point
-with_lines code budget lines = first_point code (record { budget = budget; day = codes "620730"; lines = lines })
+with_lines code budget lines = first_point code (record { budget = budget; day = codes "620730"; lines = lines; files = [] })
 
 abbrev with_budget : Code → ℕ → Point
 with_budget code budget = with_lines code budget []
 
-budget_2 : exec_code code 5 (with_budget code 2) ≡ Some (record { events = map Shown hello; end = Stopped; lines = [] })
+budget_2 : exec_code code 5 (with_budget code 2) ≡ Some (record { events = map Shown hello; end = Stopped; lines = []; files = [] ∷ [] })
 budget_2 = refl
 
-budget_1 : exec_code code 4 (with_budget code 1) ≡ Some (record { events = map Shown hello; end = Budget; lines = [] })
+budget_1 : exec_code code 4 (with_budget code 1) ≡ Some (record { events = map Shown hello; end = Budget; lines = []; files = [] ∷ [] })
 budget_1 = refl
 
-budget_0 : exec_code code 1 (with_budget code 0) ≡ Some (record { events = []; end = Budget; lines = [] })
+budget_0 : exec_code code 1 (with_budget code 0) ≡ Some (record { events = []; end = Budget; lines = []; files = [] ∷ [] })
 budget_0 = refl
 
 -- four instructions aren't enough for the whole run
@@ -86,15 +101,15 @@ not_over : exec_code code 4 (with_budget code 2) ≡ None
 not_over = refl
 
 -- a text outside the table ends nothing
-outside : exec_code (record { tables = with_texts []; starts = []; instructions = append 0 ∷ Stop ∷ [] }) 9 (with_budget code 1) ≡ None
+outside : exec_code (record { tables = with_texts []; files = []; starts = []; instructions = append 0 ∷ Stop ∷ [] }) 9 (with_budget code 1) ≡ None
 outside = refl
 
 -- neither does an instruction without its operands
-lacks_operands : exec_code (record { tables = with_texts []; starts = []; instructions = Data (i.Calculate c.Add) ∷ Stop ∷ [] }) 9 (with_budget code 1) ≡ None
+lacks_operands : exec_code (record { tables = with_texts []; files = []; starts = []; instructions = Data (i.Calculate c.Add) ∷ Stop ∷ [] }) 9 (with_budget code 1) ≡ None
 lacks_operands = refl
 
 -- code that runs out ends nothing
-runs_out : exec_code (record { tables = with_texts []; starts = []; instructions = Tick 1 ∷ [] }) 9 (with_budget code 1) ≡ None
+runs_out : exec_code (record { tables = with_texts []; files = []; starts = []; instructions = Tick 1 ∷ [] }) 9 (with_budget code 1) ≡ None
 runs_out = refl
 
 -- PERFORM 2 TIMES PERFORM 3 TIMES DISPLAY "A" NO ADVANCING END-PERFORM END-PERFORM: each PERFORM counts at the address of its
@@ -102,6 +117,7 @@ runs_out = refl
 abbrev two_by_three : Code
 two_by_three = record {
   tables = with_texts (codes "A" ∷ []);
+  files = [];
   starts = 0 ∷ [];
   instructions =
       Tick 1 ∷ Count (counter 1) 1 ∷ Tick 1
@@ -110,10 +126,10 @@ two_by_three = record {
       ∷ Turn (counter 4) 5 ∷ Turn (counter 1) 2 ∷ Stop ∷ [];
 }
 
-two_by_three_with_17 : exec_code two_by_three 99 (with_budget two_by_three 17) ≡ Some (record { events = map Shown (codes "AAAAAA"); end = Stopped; lines = [] })
+two_by_three_with_17 : exec_code two_by_three 99 (with_budget two_by_three 17) ≡ Some (record { events = map Shown (codes "AAAAAA"); end = Stopped; lines = []; files = [] ∷ [] })
 two_by_three_with_17 = refl
 
-two_by_three_with_16 : exec_code two_by_three 99 (with_budget two_by_three 16) ≡ Some (record { events = map Shown (codes "AAAAA"); end = Budget; lines = [] })
+two_by_three_with_16 : exec_code two_by_three 99 (with_budget two_by_three 16) ≡ Some (record { events = map Shown (codes "AAAAA"); end = Budget; lines = []; files = [] ∷ [] })
 two_by_three_with_16 = refl
 
 -- ---- data
@@ -142,6 +158,7 @@ table_of_three = record {
 abbrev fourth : Code
 fourth = record {
   tables = table_of_three;
+  files = [];
   starts = 0 ∷ [];
   instructions =
       Tick 7 ∷ append 0 ∷ Show
@@ -150,7 +167,7 @@ fourth = record {
 }
 
 -- The fault ends the run at the line of its statement, after what was shown before.
-fault : exec_code fourth 99 (with_budget fourth 9) ≡ Some (record { events = map Shown (codes "A"); end = Faulted Subscript 8; lines = [] })
+fault : exec_code fourth 99 (with_budget fourth 9) ≡ Some (record { events = map Shown (codes "A"); end = Faulted Subscript 8; lines = []; files = [] ∷ [] })
 fault = refl
 
 -- ---- ways on
@@ -170,6 +187,7 @@ dividing_by divisor = record {
     texts = codes "A" ∷ codes "B" ∷ codes "C" ∷ [];
     inspections = [];
   };
+  files = [];
   starts = 0 ∷ [];
   instructions =
       Tick 1 ∷ Data i.ClearTruth ∷ Data (i.Place (record { number = 0 })) ∷ number 0 ∷ number 1 ∷ Data (i.Calculate c.Divide) ∷ Data (i.Store false true)
@@ -183,11 +201,11 @@ computing : Unit {0}
 unfolding quotient greatest fitted bytes_of
 computing = tt
 
-size_error : exec_code (dividing_by 0) 99 (with_budget (dividing_by 0) 9) ≡ Some (record { events = map Shown (codes "AC"); end = Stopped; lines = [] })
+size_error : exec_code (dividing_by 0) 99 (with_budget (dividing_by 0) 9) ≡ Some (record { events = map Shown (codes "AC"); end = Stopped; lines = []; files = [] ∷ [] })
 unfolding computing
 size_error = refl
 
-no_size_error : exec_code (dividing_by 1) 99 (with_budget (dividing_by 1) 9) ≡ Some (record { events = map Shown (codes "BC"); end = Stopped; lines = [] })
+no_size_error : exec_code (dividing_by 1) 99 (with_budget (dividing_by 1) 9) ≡ Some (record { events = map Shown (codes "BC"); end = Stopped; lines = []; files = [] ∷ [] })
 unfolding computing
 no_size_error = refl
 
@@ -197,15 +215,16 @@ no_size_error = refl
 abbrev until_true : ℕ → Code
 until_true to = record {
   tables = with_texts [];
+  files = [];
   starts = 0 ∷ [];
   instructions = Data (i.Test t.Invert) ∷ Tick 1 ∷ Data (i.Test t.Invert) ∷ Branch to ∷ Stop ∷ [];
 }
 
 -- two turns
-until_true_with_2 : exec_code (until_true 1) 99 (with_budget (until_true 1) 2) ≡ Some (record { events = []; end = Stopped; lines = [] })
+until_true_with_2 : exec_code (until_true 1) 99 (with_budget (until_true 1) 2) ≡ Some (record { events = []; end = Stopped; lines = []; files = [] ∷ [] })
 until_true_with_2 = refl
 
-until_true_with_1 : exec_code (until_true 1) 99 (with_budget (until_true 1) 1) ≡ Some (record { events = []; end = Budget; lines = [] })
+until_true_with_1 : exec_code (until_true 1) 99 (with_budget (until_true 1) 1) ≡ Some (record { events = []; end = Budget; lines = []; files = [] ∷ [] })
 until_true_with_1 = refl
 
 leads_back : (address : ℕ) → Leads (until_true 1).instructions address (slice_get (until_true 1).instructions address)
@@ -225,6 +244,13 @@ all_of : (P : Instruction → Type 0) (is : List Instruction) → Each P is → 
 all_of P [] each = All-nil P
 all_of P (one ∷ more) each = All-cons P one more each.0 (all_of P more each.1)
 
+-- code without files and file statements
+no_files : (code : Code) → code.files ≡ [] → Each (SuitsFile (entries_of code.tables code.files)) code.instructions → HasFiles code
+no_files code none each = record {
+  sound = subst (All (IsCodeFile code.tables)) (sym none) (All-nil (IsCodeFile code.tables));
+  suit = all_of (SuitsFile (entries_of code.tables code.files)) code.instructions each;
+}
+
 starts_first : (number : ℕ) → number < 1 → StartsAt (until_true 1).instructions number (slice_index ((until_true 1).starts) number)
 starts_first zero within = record { front = inl refl; in_it = refl }
 starts_first (suc more) within = absurd (omega arith)
@@ -238,6 +264,8 @@ verified_back = record {
     counters = all_of (NamesCounter 5) (until_true 1).instructions (tt, (tt, (tt, (tt, (tt, tt)))));
     paragraphs = all_of (NamesParagraph 1) (until_true 1).instructions (tt, (tt, (tt, (tt, (tt, tt)))));
     starts = All-cons (λ k. k < 5) 0 [] (omega arith) (All-nil (λ k. k < 5));
+    files = all_of (NamesFile 0) (until_true 1).instructions (tt, (tt, (tt, (tt, (tt, tt)))));
+    places = All-nil (NamesPlaces (with_texts []));
   };
   shape = record {
     leads = λ address within. leads_back address;
@@ -249,6 +277,7 @@ verified_back = record {
     };
     stops = refl;
     finds = record { last = empty; along = refl };
+    files = no_files (until_true 1) refl (tt, (tt, (tt, (tt, (tt, tt)))));
   };
 }
 
@@ -263,6 +292,7 @@ no_way_back verified = elim (verified.shape.leads 3 (omega arith)) [ inl on ↦ 
 abbrev counting : ℤ → ℕ → Code
 counting coefficient scale = record {
   tables = record { areas = []; items = []; numbers = record { coefficient = coefficient; scale = scale } ∷ []; senders = []; texts = codes "A" ∷ []; inspections = [] };
+  files = [];
   starts = 0 ∷ [];
   instructions =
       Tick 1 ∷ number 0 ∷ CountNumber (counter 2) ∷ Branch 10
@@ -272,21 +302,21 @@ counting coefficient scale = record {
 abbrev counted : ℤ → ℕ → ℕ → Option Run
 counted coefficient scale budget = exec_code (counting coefficient scale) 99 (with_budget (counting coefficient scale) budget)
 
-two_turns : counted (pos 2) 0 9 ≡ Some (record { events = map Shown (codes "AA"); end = Stopped; lines = [] })
+two_turns : counted (pos 2) 0 9 ≡ Some (record { events = map Shown (codes "AA"); end = Stopped; lines = []; files = [] ∷ [] })
 two_turns = refl
 
 -- 20 with one decimal
-two_with_decimals : counted (pos 20) 1 9 ≡ Some (record { events = map Shown (codes "AA"); end = Stopped; lines = [] })
+two_with_decimals : counted (pos 20) 1 9 ≡ Some (record { events = map Shown (codes "AA"); end = Stopped; lines = []; files = [] ∷ [] })
 two_with_decimals = refl
 
-no_turn : counted (pos 0) 0 9 ≡ Some (record { events = []; end = Stopped; lines = [] })
+no_turn : counted (pos 0) 0 9 ≡ Some (record { events = []; end = Stopped; lines = []; files = [] ∷ [] })
 no_turn = refl
 
-none_below_zero : counted (negsuc 1) 0 9 ≡ Some (record { events = []; end = Stopped; lines = [] })
+none_below_zero : counted (negsuc 1) 0 9 ≡ Some (record { events = []; end = Stopped; lines = []; files = [] ∷ [] })
 none_below_zero = refl
 
 -- 2.5 is no integer
-no_integer : counted (pos 25) 1 9 ≡ Some (record { events = []; end = Faulted evaluated.Data 1; lines = [] })
+no_integer : counted (pos 25) 1 9 ≡ Some (record { events = []; end = Faulted evaluated.Data 1; lines = []; files = [] ∷ [] })
 no_integer = refl
 
 -- ---- code paragraphs
@@ -296,6 +326,7 @@ no_integer = refl
 abbrev performing : ℕ → ℕ → Code
 performing last to = record {
   tables = with_texts (codes "A" ∷ codes "B" ∷ codes "C" ∷ []);
+  files = [];
   starts = 0 ∷ 6 ∷ 12 ∷ [];
   instructions =
       Perform 1 (paragraph 1) (paragraph last) ∷ Tick 2 ∷ append 2 ∷ Show ∷ Stop ∷ Back (paragraph 0)
@@ -304,14 +335,14 @@ performing last to = record {
 }
 
 -- a `perform` uses one of the budget, and A falls into B, since only B is the last one
-performed_with_4 : exec_code (performing 2 11) 99 (with_budget (performing 2 11) 4) ≡ Some (record { events = map Shown (codes "ABC"); end = Stopped; lines = [] })
+performed_with_4 : exec_code (performing 2 11) 99 (with_budget (performing 2 11) 4) ≡ Some (record { events = map Shown (codes "ABC"); end = Stopped; lines = []; files = [] ∷ [] })
 performed_with_4 = refl
 
-performed_with_3 : exec_code (performing 2 11) 99 (with_budget (performing 2 11) 3) ≡ Some (record { events = map Shown (codes "AB"); end = Budget; lines = [] })
+performed_with_3 : exec_code (performing 2 11) 99 (with_budget (performing 2 11) 3) ≡ Some (record { events = map Shown (codes "AB"); end = Budget; lines = []; files = [] ∷ [] })
 performed_with_3 = refl
 
 -- the run comes back from A where that is the last one
-only_first : exec_code (performing 1 11) 99 (with_budget (performing 1 11) 4) ≡ Some (record { events = map Shown (codes "AC"); end = Stopped; lines = [] })
+only_first : exec_code (performing 1 11) 99 (with_budget (performing 1 11) 4) ≡ Some (record { events = map Shown (codes "AC"); end = Stopped; lines = []; files = [] ∷ [] })
 only_first = refl
 
 -- a demand on one address after the other, from one on
@@ -386,6 +417,9 @@ verified_paragraphs = record {
     paragraphs = all_of (NamesParagraph 3) (performing 2 11).instructions
         ((omega arith, omega arith), (tt, (tt, (tt, (tt, (omega arith, (tt, (tt, (tt, (tt, (tt, (omega arith, (tt, (tt, (tt, (omega arith, (tt, tt)))))))))))))))));
     starts = all_below 17 (0 ∷ 6 ∷ 12 ∷ []) (omega arith, (omega arith, (omega arith, tt)));
+    files = all_of (NamesFile 0) (performing 2 11).instructions
+        (tt, (tt, (tt, (tt, (tt, (tt, (tt, (tt, (tt, (tt, (tt, (tt, (tt, (tt, (tt, (tt, (tt, tt)))))))))))))))));
+    places = All-nil (NamesPlaces (performing 2 11).tables);
   };
   shape = record {
     leads = ways_stay;
@@ -393,6 +427,7 @@ verified_paragraphs = record {
     order = paragraphs_order;
     stops = refl;
     finds = record { last = empty; along = refl };
+    files = no_files (performing 2 11) refl (tt, (tt, (tt, (tt, (tt, (tt, (tt, (tt, (tt, (tt, (tt, (tt, (tt, (tt, (tt, (tt, (tt, tt)))))))))))))))));
   };
 }
 
@@ -406,7 +441,7 @@ no_way_out verified =
 
 -- MAIN performs itself, which isn't verified either.
 abbrev recursive : Code
-recursive = record { tables = with_texts []; starts = 0 ∷ []; instructions = Perform 1 (paragraph 0) (paragraph 0) ∷ Stop ∷ Back (paragraph 0) ∷ Stop ∷ [] }
+recursive = record { tables = with_texts []; files = []; starts = 0 ∷ []; instructions = Perform 1 (paragraph 0) (paragraph 0) ∷ Stop ∷ Back (paragraph 0) ∷ Stop ∷ [] }
 
 no_recursion : IsVerified recursive → ⊥
 no_recursion verified =
@@ -416,7 +451,7 @@ no_recursion verified =
 
 -- and a start inside of MAIN isn't
 abbrev starting_at : ℕ → Code
-starting_at start = record { tables = with_texts []; starts = start ∷ []; instructions = Tick 1 ∷ Stop ∷ Back (paragraph 0) ∷ Stop ∷ [] }
+starting_at start = record { tables = with_texts []; files = []; starts = start ∷ []; instructions = Tick 1 ∷ Stop ∷ Back (paragraph 0) ∷ Stop ∷ [] }
 
 no_start_inside : IsVerified (starting_at 1) → ⊥
 no_start_inside verified = elim (verified.shape.starts 0 (omega arith)).front [ inl first ↦ absurd (omega (arith, first)) | inr back ↦ back ]
@@ -436,11 +471,11 @@ three_characters = record {
 
 -- ACCEPT A
 abbrev accepting : Code
-accepting = record { tables = three_characters; starts = []; instructions = Data (i.Place (record { number = 0 })) ∷ Accept ∷ [] }
+accepting = record { tables = three_characters; files = []; starts = []; instructions = Data (i.Place (record { number = 0 })) ∷ Accept ∷ [] }
 
 -- tells of a point what the first area has there, and the console lines that are left
 abbrev area_told : Next
-area_told p = Some (record { events = map Shown (slice_index_or p.state.storage 0 []); end = Stopped; lines = p.state.lines })
+area_told p = Some (record { events = map Shown (slice_index_or p.state.storage 0 []); end = Stopped; lines = p.state.lines; files = all_files p.state })
 
 -- both instructions, with these lines
 abbrev accepted_from : List (List ℕ) → Option Run
@@ -448,15 +483,107 @@ accepted_from lines =
     act accepting (slice_get accepting.instructions 0) (λ p. act accepting (slice_get accepting.instructions p.address) area_told p) (with_lines accepting 1 lines)
 
 -- the next line is cut, and those behind it are left
-line_cut : accepted_from (codes "HELLO" ∷ codes "X" ∷ []) ≡ Some (record { events = map Shown (codes "HEL"); end = Stopped; lines = codes "X" ∷ [] })
+line_cut : accepted_from (codes "HELLO" ∷ codes "X" ∷ []) ≡ Some (record { events = map Shown (codes "HEL"); end = Stopped; lines = codes "X" ∷ []; files = [] ∷ [] })
 line_cut = refl
 
-line_padded : accepted_from (codes "X" ∷ []) ≡ Some (record { events = map Shown (codes "X  "); end = Stopped; lines = [] })
+line_padded : accepted_from (codes "X" ∷ []) ≡ Some (record { events = map Shown (codes "X  "); end = Stopped; lines = []; files = [] ∷ [] })
 line_padded = refl
 
 -- past the end of input there are spaces
-no_line : accepted_from [] ≡ Some (record { events = map Shown (codes "   "); end = Stopped; lines = [] })
+no_line : accepted_from [] ≡ Some (record { events = map Shown (codes "   "); end = Stopped; lines = []; files = [] ∷ [] })
 no_line = refl
+
+-- ---- files
+
+-- F, a sequential file of 2 bytes a record, with its status in the second area
+abbrev f : CodeFile
+f = record {
+  name = codes "F";
+  organization = organization.Sequential;
+  record_length = 2;
+  alternates = [];
+  access = access.Sequential;
+  optional = false;
+  area = 0;
+  relative_key = None;
+  status = Some (record { number = 0 });
+}
+
+-- what is done with it, one after the other
+abbrev filing : List Instruction → Code
+filing instructions = record {
+  tables = record {
+    areas = codes ".." ∷ codes "  " ∷ [];
+    items = record { item = record { kind = kind.Alphanumeric false; length = 2 }; editing = None; area = 1; offset = 0 } ∷ [];
+    numbers = [];
+    senders = [];
+    texts = [];
+    inspections = [];
+  };
+  files = f ∷ [];
+  starts = [];
+  instructions = instructions;
+}
+
+abbrev on_f : Verb → Instruction
+on_f verb = File (record { number = 0 }) verb
+
+-- F, with the records AB and CD
+abbrev volume : Files
+volume =
+    record {
+      name = codes "F";
+      file = record {
+        spec = spec_of f;
+        rows = record { number = 1; bytes = codes "AB"; arrivals = [] } ∷ record { number = 2; bytes = codes "CD"; arrivals = [] } ∷ [];
+        next_arrival = 3;
+      };
+    } ∷ []
+
+abbrev with_volume : Code → Point
+with_volume code = first_point code (record { budget = 9; day = codes "620730"; lines = []; files = volume })
+
+abbrev received_00 : Event
+received_00 = Noted (record { file = 0; status = codes "00" })
+
+filing_steps : Unit {0}
+unfolding entries_of step_by stored_by has_class
+filing_steps = tt
+
+-- tells of a point its events, and what the first area has there
+abbrev record_told : Next
+record_told p = Some (record { events = p.state.events ++ map Shown (slice_index_or p.state.storage 0 []); end = Stopped; lines = p.state.lines; files = all_files p.state })
+
+-- three instructions from here on, and what the record area has then
+abbrev three_then : Code → Next
+three_then code p = act code (slice_get code.instructions p.address) (λ q. act code (slice_get code.instructions q.address) (λ r. act code (slice_get code.instructions r.address) record_told r) q) p
+
+-- READ takes the second record after the first, and each status is received.
+abbrev reading_two : Code
+reading_two = filing (on_f (v.Open mode.Input) ∷ on_f v.ReadNext ∷ on_f v.ReadNext ∷ [])
+
+second_read : three_then reading_two (with_volume reading_two)
+    ≡ Some (record {
+      events = received_00 ∷ received_00 ∷ received_00 ∷ map Shown (codes "CD");
+      end = Stopped;
+      lines = [];
+      files = volume ∷ volume ∷ volume ∷ volume ∷ [];
+    })
+unfolding filing_steps
+second_read = refl
+
+-- A READ of a file that isn't open has status 47, which nothing takes.
+abbrev reading_closed : Code
+reading_closed = filing (Tick 3 ∷ on_f v.ReadNext ∷ TestStatus AtEnd ∷ Branch 5 ∷ Stop ∷ Unheard ∷ Stop ∷ [])
+
+not_open : exec_code reading_closed 9 (with_volume reading_closed)
+    ≡ Some (record { events = Noted (record { file = 0; status = codes "47" }) ∷ []; end = Faulted evaluated.FileStatus 3; lines = []; files = volume ∷ volume ∷ [] })
+unfolding filing_steps
+not_open = refl
+
+-- A file that isn't in the table ends nothing.
+no_file : exec_code (record code { instructions = on_f v.Close ∷ Stop ∷ [] }) 9 (with_budget code 1) ≡ None
+no_file = refl
 
 -- ---- what is known along code
 
@@ -538,12 +665,21 @@ count_number_spelt : instruction_bytes (CountNumber (counter 258)) ≡ 13 ∷ 0 
 unfolding count_bytes
 count_number_spelt = refl
 
--- no instruction begins with 0 or 14
+file_spelt : instruction_bytes (File (record { number = 14 }) (v.Read (Alternate 1))) ≡ 14 ∷ 14 ∷ 10 ∷ 1 ∷ 1 ∷ []
+file_spelt = refl
+
+test_status_spelt : instruction_bytes (TestStatus AtEnd) ≡ 15 ∷ 2 ∷ []
+test_status_spelt = refl
+
+unheard_spelt : instruction_bytes Unheard ≡ 47 ∷ []
+unheard_spelt = refl
+
+-- no instruction begins with 0 or 48
 no_instruction : instruction_at (0 ∷ []) ≡ Err faults.Value
 unfolding instruction_at data_instruction_at byte_at plain_instruction_of
 no_instruction = refl
 
-unknown : instruction_at (14 ∷ []) ≡ Err faults.Value
+unknown : instruction_at (48 ∷ []) ≡ Err faults.Value
 unfolding instruction_at data_instruction_at byte_at plain_instruction_of
 unknown = refl
 
@@ -570,20 +706,20 @@ mark_alone = refl
 
 -- no area, and one item, of a kind that there isn't
 no_kind : code_at (mark ++ count_bytes 0 ++ count_bytes 1 ++ 10 ∷ []) ≡ Err faults.Value
-unfolding code_at after_mark tables_at table_at entries_at data_item_at item_at kind_at plain_kind_of byte_at count_at count_bytes
+unfolding code_at after_mark tables_at table_at entries_at data_item_at items.item_at kind_at plain_kind_of byte_at count_at count_bytes
 no_kind = refl
 
 reading : Unit {0}
 unfolding code_at after_mark tables_at table_at entries_at text_at instruction_at data_instruction_at plain_instruction_of byte_at count_at short_at count_bytes short_bytes
 reading = tt
 
--- the code is read again from its spelling, of 104 bytes
+-- the code is read again from its spelling, of 112 bytes
 read_again : code_at (spelling code) ≡ Ok code
 unfolding reading
 read_again = refl
 
 -- not without the last one
-cut_short : code_at (take 103 (spelling code)) ≡ Err faults.Length
+cut_short : code_at (take 111 (spelling code)) ≡ Err faults.Length
 unfolding reading
 cut_short = refl
 
@@ -591,3 +727,11 @@ cut_short = refl
 byte_after : code_at (spelling code ++ 0 ∷ []) ≡ Err faults.Length
 unfolding reading
 byte_after = refl
+
+-- code with a file is read again too
+abbrev one_file : Code
+one_file = record { tables = with_texts []; files = f ∷ []; starts = []; instructions = on_f v.Close ∷ Unheard ∷ [] }
+
+file_again : code_at (spelling one_file) ≡ Ok one_file
+unfolding reading file_at spec_at organization_at small_at small_bytes told_at access_of flag_of item_at verb_at plain_verb_of
+file_again = refl

@@ -14,12 +14,16 @@ use Rattle.image_tables.specs.Spelling.{IsBytes, count_bytes, short_bytes}
 use Rattle.image_tables.specs.Reading.{Read, ◌>>=◌, count_at}
 use Rattle.image_tables.specs.Instructions.{data_instruction_bytes, HasShorts}
 use Rattle.image_tables.proofs.Forms.{IsBytes-drop, guard_passed, ok_is, failed, chosen, Takes, takes_then, takes_kind, IsForm, part, part_again, Took, form_of, byte_is, behind_took, alone_took}
-use Rattle.image_tables.proofs.Numbers.{count_form, short_form}
+use Rattle.image_tables.proofs.Numbers.{byte_form, count_form, short_form}
 use Rattle.image_tables.proofs.Instructions.{data_instruction_form}
+use Rattle.records.specs.declared.verb.Verb.{Verb}
+use Rattle.file_tables.specs.declared.class.StatusClass.{StatusClass}
+use Rattle.file_tables.specs.Spelling.{verb_bytes, verb_at}
+use Rattle.file_tables.proofs.Verbs.{class_form, verb_form}
 use Rattle.code_image.specs.declared.instruction.Instruction.{Instruction}
-use Rattle.code_image.specs.declared.instruction.Instruction.TheVariants.{Tick, Show, Stop, Count, CountNumber, Turn, Accept, Date, Branch, Jump, Join, Perform, Back, Data}
+use Rattle.code_image.specs.declared.instruction.Instruction.TheVariants.{Tick, Show, Stop, Count, CountNumber, Turn, Accept, Date, Branch, Jump, Join, Perform, Back, File, TestStatus, Unheard, Data}
 use Rattle.code_image.specs.Spelling.{mark, instruction_bytes, HasNumbers}
-use Rattle.code_image.specs.Reading.{after_mark, alone_at, count_instruction_at, turn_at, branch_at, jump_at, perform_at, back_at, count_number_at, data_at, instruction_at}
+use Rattle.code_image.specs.Reading.{after_mark, alone_at, count_instruction_at, turn_at, branch_at, jump_at, perform_at, back_at, count_number_at, file_instruction_at, test_status_at, data_at, instruction_at}
 
 -- ---- the mark
 
@@ -95,13 +99,56 @@ count_number_took : (rest : List ℕ) (x : Instruction × List ℕ) → IsBytes 
 count_number_took rest x is e =
     behind_took instruction_bytes HasNumbers count_form 13 (λ a. CountNumber (record { number = a })) (λ a. refl) (λ a h. h) rest x is e
 
+abbrev file_verb : ℕ → Verb × List ℕ → Read Instruction
+file_verb file verb = Ok (File (record { number = file }) verb.0, verb.1)
+
+abbrev file_from : ℕ × List ℕ → Read Instruction
+file_from file = verb_at file.1 >>= file_verb file.0
+
+file_took : (rest : List ℕ) (x : Instruction × List ℕ) → IsBytes rest → file_instruction_at rest ≡ Ok x → Reads 14 rest x
+file_took rest x is e =
+    let a = part byte_form rest file_from x is e in
+    let b = part verb_form a.rest (file_verb a.value) x a.takes.rest_fits a.goes in
+    let both = takes_then rest (a.value ∷ []) a.rest (verb_bytes b.value) b.rest a.takes b.takes in
+    let t = takes_kind 14 rest (a.value ∷ verb_bytes b.value) b.rest both in
+    let one : Instruction = File (record { number = a.value }) b.value in
+    subst (Reads 14 rest) {x = (one, b.rest)} (ok_is (one, b.rest) x b.goes) (t, (a.sound, b.sound))
+
+abbrev test_status : StatusClass → Instruction
+test_status class = TestStatus class
+
+test_status_took : (rest : List ℕ) (x : Instruction × List ℕ) → IsBytes rest → test_status_at rest ≡ Ok x → Reads 15 rest x
+test_status_took rest x is e = behind_took instruction_bytes HasNumbers class_form 15 test_status (λ a. refl) (λ a h. tt) rest x is e
+
+-- what is read where the first byte is none of the first thirteen
+abbrev filing_at : ℕ → List ℕ → Read Instruction
+filing_at n rest =
+    if n == 14 then file_instruction_at rest
+    else if n == 15 then test_status_at rest
+    else if n == 47 then alone_at Unheard rest
+    else data_at (n ∷ rest)
+
+filing_took : (n : ℕ) (rest : List ℕ) (x : Instruction × List ℕ) → IsBytes (n ∷ rest) → filing_at n rest ≡ Ok x → Reads n rest x
+filing_took n rest x all e =
+    let is : IsBytes rest = λ i. all (suc i) in
+    elim (chosen (eqb n 14) _ _ _ e) [
+      | inl p ↦ byte_is instruction_bytes HasNumbers 14 n rest x p.0 (file_took rest x is p.1)
+      | inr q ↦ elim (chosen (eqb n 15) _ _ _ q.1) [
+        | inl p ↦ byte_is instruction_bytes HasNumbers 15 n rest x p.0 (test_status_took rest x is p.1)
+        | inr r ↦ elim (chosen (eqb n 47) _ _ _ r.1) [
+          | inl p ↦ byte_is instruction_bytes HasNumbers 47 n rest x p.0 (alone_took instruction_bytes HasNumbers 47 Unheard rest x (refl, tt) is p.1)
+          | inr s ↦ data_took (n ∷ rest) x all s.1
+        ]
+      ]
+    ]
+
 -- what is read where the first byte is none of the first ten
 abbrev last_at : ℕ → List ℕ → Read Instruction
 last_at n rest =
     if n == 11 then perform_at rest
     else if n == 12 then back_at rest
     else if n == 13 then count_number_at rest
-    else data_at (n ∷ rest)
+    else filing_at n rest
 
 last_took : (n : ℕ) (rest : List ℕ) (x : Instruction × List ℕ) → IsBytes (n ∷ rest) → last_at n rest ≡ Ok x → Reads n rest x
 last_took n rest x all e =
@@ -112,7 +159,7 @@ last_took n rest x all e =
         | inl p ↦ byte_is instruction_bytes HasNumbers 12 n rest x p.0 (back_took rest x is p.1)
         | inr r ↦ elim (chosen (eqb n 13) _ _ _ r.1) [
           | inl p ↦ byte_is instruction_bytes HasNumbers 13 n rest x p.0 (count_number_took rest x is p.1)
-          | inr s ↦ data_took (n ∷ rest) x all s.1
+          | inr s ↦ filing_took n rest x all s.1
         ]
       ]
     ]
@@ -246,6 +293,11 @@ instruction_again (Perform line first last) rest h =
     ∙ part_again count_form last.number rest (last_from line first.number) h.2
 instruction_again (Back paragraph) rest h = part_again count_form paragraph.number rest (λ paragraph. Ok (Back (record { number = paragraph.0 }), paragraph.1)) h
 instruction_again (CountNumber counter) rest h = part_again count_form counter.number rest (λ counter. Ok (CountNumber (record { number = counter.0 }), counter.1)) h
+instruction_again (File file verb) rest h =
+    part_again byte_form file.number (verb_bytes verb ++ rest) file_from h.0
+    ∙ part_again verb_form verb rest (file_verb file.number) h.1
+instruction_again (TestStatus class) rest h = part_again class_form class rest (λ class. Ok (TestStatus class.0, class.1)) tt
+instruction_again Unheard rest h = refl
 instruction_again (Data one) rest h = data_again one rest h
 
 pub instruction_form : IsForm instruction_at instruction_bytes HasNumbers

@@ -9,6 +9,9 @@ use Rattle.image_tables.specs.Tables.{tables_at}
 use Rattle.image_tables.proofs.Forms.{IsForm}
 use Rattle.image_tables.proofs.Numbers.{count_form}
 use Rattle.image_tables.proofs.TableForms.{table_form}
+use Rattle.file_tables.specs.declared.file.CodeFile.{CodeFile}
+use Rattle.file_tables.specs.Spelling.{file_bytes, file_at, IsFileSpelled}
+use Rattle.file_tables.proofs.FileForms.{file_form}
 use Rattle.code_image.specs.declared.code.Code.{Code}
 use Rattle.code_image.specs.declared.instruction.Instruction.{Instruction}
 use Rattle.code_image.specs.Spelling.{instruction_bytes, HasNumbers}
@@ -16,17 +19,24 @@ use Rattle.code_image.specs.Reading.{instruction_at}
 use Rattle.code_image.proofs.Forms.{instruction_form}
 
 -- reading from each part on
-abbrev pub end_from : DataTables → List ℕ → List Instruction × List ℕ → Result Code ImageFault
-end_from tables starts x = cond (eqb (length x.1) 0) (Ok (record { tables = tables; starts = starts; instructions = x.0 })) (Err faults.Length)
+abbrev pub end_from : DataTables → List CodeFile → List ℕ → List Instruction × List ℕ → Result Code ImageFault
+end_from tables files starts x =
+    cond (eqb (length x.1) 0) (Ok (record { tables = tables; files = files; starts = starts; instructions = x.0 })) (Err faults.Length)
 
-abbrev pub instructions_from : DataTables → List ℕ × List ℕ → Result Code ImageFault
-instructions_from tables x = table_at instruction_at x.1 >>= end_from tables x.0
+abbrev pub instructions_from : DataTables → List CodeFile → List ℕ × List ℕ → Result Code ImageFault
+instructions_from tables files x = table_at instruction_at x.1 >>= end_from tables files x.0
 
-abbrev pub starts_from : DataTables × List ℕ → Result Code ImageFault
-starts_from x = table_at count_at x.1 >>= instructions_from x.0
+abbrev pub starts_from : DataTables → List CodeFile × List ℕ → Result Code ImageFault
+starts_from tables x = table_at count_at x.1 >>= instructions_from tables x.0
+
+abbrev pub files_from : DataTables × List ℕ → Result Code ImageFault
+files_from x = table_at file_at x.1 >>= starts_from x.0
 
 abbrev pub tables_from : List ℕ → Result Code ImageFault
-tables_from bytes = tables_at bytes >>= starts_from
+tables_from bytes = tables_at bytes >>= files_from
+
+pub file_table : IsForm (table_at file_at) (table_bytes file_bytes) (AreSpelled IsFileSpelled)
+file_table = table_form file_at file_bytes IsFileSpelled file_form
 
 pub start_table : IsForm (table_at count_at) (table_bytes count_bytes) (AreSpelled IsCount)
 start_table = table_form count_at count_bytes IsCount count_form

@@ -10,5 +10,7 @@ pub mod Paragraphs
 pub mod Exclusion
 pub mod Determinism
 pub mod Termination
+-- Code without files tells no status
+pub mod Quiet
 -- Definitions on small cases
 pub mod Examples

@@ -11,11 +11,12 @@ use Rattle.image_tables.specs.Spelling.{IsBytes, count_bytes, table_bytes}
 use Rattle.image_tables.specs.Tables.{tables_bytes}
 use Rattle.image_tables.proofs.Forms.{bind_ok, guard_passed, Takes, takes_then, part}
 use Rattle.image_tables.proofs.DataTables.{tables_form}
+use Rattle.file_tables.specs.Spelling.{file_bytes}
 use Rattle.code_image.specs.declared.code.Code.{Code}
 use Rattle.code_image.specs.Spelling.{mark, instruction_bytes, spelling, HasSpelling}
 use Rattle.code_image.specs.Reading.{after_mark, code_at}
 use Rattle.code_image.proofs.Forms.{mark_takes}
-use Rattle.code_image.proofs.Images.{end_from, instructions_from, starts_from, tables_from, start_table, instruction_table}
+use Rattle.code_image.proofs.Images.{end_from, instructions_from, starts_from, files_from, tables_from, file_table, start_table, instruction_table}
 
 -- nothing follows the last part
 whole : (bytes text rest : List ℕ) → Takes bytes text rest → rest ≡ [] → bytes ≡ text
@@ -26,19 +27,22 @@ unfolding code_at
 code_takes bytes code fits e =
     let a = bind_ok (after_mark bytes) tables_from code e in
     let first = mark_takes bytes a.0 fits a.1 in
-    let t = part tables_form a.0 starts_from code first.rest_fits a.2 in
-    let s = part start_table t.rest (instructions_from t.value) code t.takes.rest_fits t.goes in
-    let i = part instruction_table s.rest (end_from t.value s.value) code s.takes.rest_fits s.goes in
-    let made : Code = record { tables = t.value; starts = s.value; instructions = i.value } in
+    let t = part tables_form a.0 files_from code first.rest_fits a.2 in
+    let f = part file_table t.rest (starts_from t.value) code t.takes.rest_fits t.goes in
+    let s = part start_table f.rest (instructions_from t.value f.value) code f.takes.rest_fits f.goes in
+    let i = part instruction_table s.rest (end_from t.value f.value s.value) code s.takes.rest_fits s.goes in
+    let made : Code = record { tables = t.value; files = f.value; starts = s.value; instructions = i.value } in
     let g = guard_passed (eqb (length i.rest) 0) faults.Length made code i.goes in
     let tables = tables_bytes t.value in
+    let files = table_bytes file_bytes f.value in
     let starts = table_bytes count_bytes s.value in
     let two = takes_then bytes mark a.0 tables t.rest first t.takes in
-    let three = takes_then bytes (mark ++ tables) t.rest starts s.rest two s.takes in
-    let four = takes_then bytes (mark ++ tables ++ starts) s.rest (table_bytes instruction_bytes i.value) i.rest three i.takes in
+    let three = takes_then bytes (mark ++ tables) t.rest files f.rest two f.takes in
+    let four = takes_then bytes (mark ++ tables ++ files) f.rest starts s.rest three s.takes in
+    let five = takes_then bytes (mark ++ tables ++ files ++ starts) s.rest (table_bytes instruction_bytes i.value) i.rest four i.takes in
     let nothing : i.rest ≡ [] = nil_from_length i.rest (eqb-true _ _ g.0) in
-    let spelt : HasSpelling made = record { tables = t.sound; starts = s.sound; instructions = i.sound } in
-    (whole bytes (spelling made) i.rest four nothing ∙ ap spelling g.1, subst HasSpelling g.1 spelt)
+    let spelt : HasSpelling made = record { tables = t.sound; files = f.sound; starts = s.sound; instructions = i.sound } in
+    (whole bytes (spelling made) i.rest five nothing ∙ ap spelling g.1, subst HasSpelling g.1 spelt)
 
 pub is_found : (bytes : List ℕ) (r : Result Code ImageError) → IsBytes bytes → Gives (λ code. code) fault_of r (code_at bytes) → IfOk r (λ code. bytes ≡ spelling code)
 is_found bytes (Ok code) fits given = (code_takes bytes code fits given).0

@@ -1,13 +1,13 @@
 -- Verified code comes to an end, whatever the budget: each instruction finds what it needs, each way back, of a turn, a branch or a jump,
 -- goes to what uses one of the budget, and so does each code paragraph that is performed. Between two of them each step takes a `perform`
 -- that has not come back from those that there are, or it leaves them as they are and goes to a later address.
-use Rattle.std.proofs.Common.{◌≡◌, ◌==◌, ℕ, zero, suc, ◌+◌, ◌<◌, ◌≤◌, List, [], ◌∷◌, length, get_or, All, Bool, true, false, Option, Some, Ok, Err, refl, ◌∙◌, ap, subst, inl, inr, arith}
+use Rattle.std.proofs.Common.{◌≡◌, ◌==◌, ℕ, zero, suc, ◌+◌, ◌<◌, ◌≤◌, List, [], ◌∷◌, length, get_or, All, Bool, true, false, Option, None, Some, Ok, Err, refl, ◌∙◌, ap, subst, inl, inr, arith}
 use Rattle.std.specs.Prelude.{slice_get, slice_index, slice_set}
 use Rattle.std.proofs.lemmas.List.Elements.{All-cons, All-head, All-tail}
 use Rattle.std.proofs.lemmas.Option.{slice_get-get_or, same_Some}
 use Rattle.decimal18.specs.Fraction.{Fraction}
 use Rattle.source_tree.specs.State.{Stopped, Budget, Faulted}
-use Rattle.source_tree.specs.Evaluated.{Evaluated, ◌>>=◌, needed}
+use Rattle.source_tree.specs.Evaluated.{FileStatus, Evaluated, ◌>>=◌, needed}
 use Rattle.source_tree.specs.Performing.{turns_by}
 use Rattle.source_tree.specs.Given.{Given}
 use Rattle.source_tree.specs.Meaning.{Run}
@@ -20,14 +20,20 @@ use Rattle.data_instructions.specs.Table.{work, accepted, dated, after_showing}
 use Rattle.data_instructions.specs.Shapes.{empty, showing}
 use Rattle.data_instructions.proofs.Safety.{safe_accept, safe_date, safe_showing}
 use Rattle.data_instructions.proofs.EachSafety.{safe}
+use Rattle.records.specs.declared.verb.Verb.{Verb}
+use Rattle.source_tree.specs.FileStatements.{step_on}
+use Rattle.file_tables.specs.declared.class.StatusClass.{StatusClass}
+use Rattle.file_tables.specs.declared.file.CodeFile.{CodeFile}
+use Rattle.file_tables.specs.declared.file.FileIndex.{FileIndex}
+use Rattle.file_tables.specs.Files.{places_of, entries_of}
 use Rattle.code_image.specs.declared.code.Code.{Code}
 use Rattle.code_image.specs.declared.counter.CounterIndex.{CounterIndex}
 use Rattle.code_image.specs.declared.paragraph.ParagraphIndex.{ParagraphIndex}
 use Rattle.code_image.specs.declared.instruction.Instruction.{Instruction}
-use Rattle.code_image.specs.declared.instruction.Instruction.TheVariants.{Tick, Show, Stop, Count, CountNumber, Turn, Accept, Date, Branch, Jump, Join, Perform, Back, Data}
+use Rattle.code_image.specs.declared.instruction.Instruction.TheVariants.{Tick, Show, Stop, Count, CountNumber, Turn, Accept, Date, Branch, Jump, Join, Perform, Back, File, TestStatus, Unheard, Data}
 use Rattle.code_image.specs.Demands.{UsesBudget, IsVerified}
 use Rattle.code_image.specs.Points.{Return, Point, scratch_of, first_point}
-use Rattle.code_image.specs.Table.{onward, over, tick_from, shown_point, worked_point, data_from, counted_turns, counted_by, counted_from, turn_from, branch_from, performing, perform_at, back_if, back_from, line_taken, act, exec_code, Runs}
+use Rattle.code_image.specs.Table.{onward, over, tick_from, shown_point, worked_point, data_from, counted_turns, counted_by, counted_from, turn_from, branch_from, performing, perform_at, back_if, back_from, line_taken, received_point, filed_from, tested_point, act, exec_code, Runs}
 use Rattle.code_image.proofs.WellFormed.{IsWellFormed, BudgetAt, LeadsWithin, GoesWithin, PerformsWithin, well_formed, begins}
 use Rattle.code_image.proofs.Standing.{Known, known_next, known_behind_rest, known_behind_join, known_at_start, known_behind_perform, ComesBack, Stands, StandsAtRest, stands_first, rests_here, stands_elsewhere, stands_after_count, number_here, stands_after_number}
 
@@ -100,6 +106,9 @@ module _ (code : Code) (verified : IsVerified code) where
   budget_ends (Jump to) uses p here rest is sooner = absurd uses
   budget_ends Join uses p here rest is sooner = absurd uses
   budget_ends (Back paragraph) uses p here rest is sooner = absurd uses
+  budget_ends (File file verb) uses p here rest is sooner = absurd uses
+  budget_ends (TestStatus class) uses p here rest is sooner = absurd uses
+  budget_ends Unheard uses p here rest is sooner = absurd uses
   budget_ends (Data one) uses p here rest is sooner = absurd uses
 
   data_ends : (one : Step) (after : Shape) (p : Point) → Safe code.tables one after → Known code (p.address + 1) after
@@ -206,6 +215,30 @@ module _ (code : Code) (verified : IsVerified code) where
         let more = All-tail (ComesBack code) newest older all in
         back_if_ends (newest.last == paragraph.number) newest older comes_back more (omega (arith, le)) within onward_ends shorter
 
+  -- at a file statement, at rest
+  filed_ends : (file : FileIndex) (verb : Verb) (p : Point) → slice_get code.instructions p.address ≡ Some (File file verb)
+      → StandsAtRest code p → (found : Option CodeFile) (one : CodeFile) → found ≡ Some one → p.address + 1 < length code.instructions
+      → Onward p → (m : ℕ) × (run : Run) × (filed_from code file.number verb found (exec_code code m) p ≡ Some run)
+  filed_ends file verb p here rest None one there within onward_ends = absurd cc
+  filed_ends file verb p here rest (Some other) one there within onward_ends =
+      let step = step_on (entries_of code.tables code.files) (places_of code.tables file.number other) verb p.state in
+      onward_ends.by (received_point code file.number other step p) (omega arith) within (omega arith) (omega arith) (record {
+        shape = empty;
+        known = known_behind_rest code verified p.address (File file verb) here (λ tables s. refl);
+        fits = record { numbers = rest.fits.numbers; places = rest.fits.places; line = rest.fits.line; sender = rest.fits.sender };
+        returns = rest.returns;
+      })
+
+  tested_ends : (class : StatusClass) (p : Point) → slice_get code.instructions p.address ≡ Some (TestStatus class) → StandsAtRest code p
+      → p.address + 1 < length code.instructions → Onward p → Ends (tested_point class p)
+  tested_ends class p here rest within onward_ends =
+      onward_ends.by (tested_point class p) (omega arith) within (omega arith) (omega arith) (record {
+        shape = empty;
+        known = known_behind_rest code verified p.address (TestStatus class) here (λ tables s. refl);
+        fits = record { numbers = rest.fits.numbers; places = rest.fits.places; line = rest.fits.line; sender = rest.fits.sender };
+        returns = rest.returns;
+      })
+
   act_ends : (i : Instruction) (p : Point) → slice_get code.instructions p.address ≡ Some i → Stands code p → IsWellFormed code p.address i → Onward p
       → Shorter p.state.budget (length p.own.returns) → Sooner p.state.budget → Acts (Some i) p
   act_ends (Tick line) p here stands is onward_ends shorter sooner =
@@ -247,6 +280,12 @@ module _ (code : Code) (verified : IsVerified code) where
       budget_ends (Perform line first last) tt p here (rests_here code verified p stands (Perform line first last) here (λ tables s. refl)) is sooner
   act_ends (Back paragraph) p here stands is onward_ends shorter sooner =
       back_ends p paragraph here stands p.own.returns stands.returns (omega arith) is.next onward_ends shorter
+  act_ends (File file verb) p here stands is onward_ends shorter sooner =
+      filed_ends file verb p here (rests_here code verified p stands (File file verb) here (λ tables s. refl))
+      (slice_get code.files file.number) is.one is.there is.next onward_ends
+  act_ends (TestStatus class) p here stands is onward_ends shorter sooner =
+      tested_ends class p here (rests_here code verified p stands (TestStatus class) here (λ tables s. refl)) is onward_ends
+  act_ends Unheard p here stands is onward_ends shorter sooner = (0, over (Faulted FileStatus p.state.line) p.state, refl)
   act_ends (Data one) p here stands is onward_ends shorter sooner =
       let next = known_next code p.address stands.shape (Data one) stands.known here in
       data_ends (work code.tables one (scratch_of p.state p.own)) next.0 p

@@ -3,12 +3,13 @@ use Rattle.std.specs.Prelude.{ℕ, List, [], ◌∷◌, length, drop, Result, Ok
 use Rattle.std.specs.List.{starts_with}
 use Rattle.image_tables.specs.declared.fault.ImageFault.{ImageFault}
 use Rattle.image_tables.specs.declared.fault.ImageFault.TheVariants as faults
-use Rattle.image_tables.specs.Reading.{Read, ◌>>=◌, count_at, short_at, table_at}
+use Rattle.image_tables.specs.Reading.{Read, ◌>>=◌, byte_at, count_at, short_at, table_at}
 use Rattle.image_tables.specs.Tables.{tables_at}
 use Rattle.image_tables.specs.Instructions.{data_instruction_at}
+use Rattle.file_tables.specs.Spelling.{class_at, verb_at, file_at}
 use Rattle.code_image.specs.declared.code.Code.{Code}
 use Rattle.code_image.specs.declared.instruction.Instruction.{Instruction}
-use Rattle.code_image.specs.declared.instruction.Instruction.TheVariants.{Tick, Show, Stop, Count, CountNumber, Turn, Accept, Date, Branch, Jump, Join, Perform, Back, Data}
+use Rattle.code_image.specs.declared.instruction.Instruction.TheVariants.{Tick, Show, Stop, Count, CountNumber, Turn, Accept, Date, Branch, Jump, Join, Perform, Back, File, TestStatus, Unheard, Data}
 use Rattle.code_image.specs.Spelling.{mark}
 
 -- the bytes after the mark
@@ -62,6 +63,17 @@ count_number_at bytes = do
   counter ← count_at bytes
   Ok (CountNumber (record { number = counter.0 }), counter.1)
 
+abbrev pub file_instruction_at : List ℕ → Read Instruction
+file_instruction_at bytes = do
+  file ← byte_at bytes
+  verb ← verb_at file.1
+  Ok (File (record { number = file.0 }) verb.0, verb.1)
+
+abbrev pub test_status_at : List ℕ → Read Instruction
+test_status_at bytes = do
+  class ← class_at bytes
+  Ok (TestStatus class.0, class.1)
+
 -- an instruction on data, with its first byte
 abbrev pub data_at : List ℕ → Read Instruction
 data_at bytes = do
@@ -84,6 +96,9 @@ instruction_at (byte ∷ bytes) =
     else if byte == 11 then perform_at bytes
     else if byte == 12 then back_at bytes
     else if byte == 13 then count_number_at bytes
+    else if byte == 14 then file_instruction_at bytes
+    else if byte == 15 then test_status_at bytes
+    else if byte == 47 then alone_at Unheard bytes
     else data_at (byte ∷ bytes)
 
 -- all of the bytes
@@ -91,6 +106,7 @@ unfoldable pub code_at : List ℕ → Result Code ImageFault
 code_at bytes = do
   first ← after_mark bytes
   tables ← tables_at first
-  starts ← table_at count_at tables.1
+  files ← table_at file_at tables.1
+  starts ← table_at count_at files.1
   instructions ← table_at instruction_at starts.1
-  if length instructions.1 == 0 then Ok (record { tables = tables.0; starts = starts.0; instructions = instructions.0 }) else Err faults.Length
+  if length instructions.1 == 0 then Ok (record { tables = tables.0; files = files.0; starts = starts.0; instructions = instructions.0 }) else Err faults.Length

@@ -1,17 +1,18 @@
 -- The one spelling of code (own choice).
 use Rattle.std.specs.Prelude.{ℕ, List, [], ◌∷◌, ◌++◌}
-use Rattle.image_tables.specs.Spelling.{count_bytes, short_bytes, table_bytes, IsCount, IsShort, AreSpelled}
+use Rattle.image_tables.specs.Spelling.{count_bytes, short_bytes, table_bytes, IsByte, IsCount, IsShort, AreSpelled}
 use Rattle.image_tables.specs.Tables.{tables_bytes, HasTables}
 use Rattle.image_tables.specs.Instructions.{data_instruction_bytes, HasShorts}
+use Rattle.file_tables.specs.Spelling.{class_byte, verb_bytes, IsVerbSpelled, file_bytes, IsFileSpelled}
 use Rattle.code_image.specs.declared.code.Code.{Code}
 use Rattle.code_image.specs.declared.instruction.Instruction.{Instruction}
-use Rattle.code_image.specs.declared.instruction.Instruction.TheVariants.{Tick, Show, Stop, Count, CountNumber, Turn, Accept, Date, Branch, Jump, Join, Perform, Back, Data}
+use Rattle.code_image.specs.declared.instruction.Instruction.TheVariants.{Tick, Show, Stop, Count, CountNumber, Turn, Accept, Date, Branch, Jump, Join, Perform, Back, File, TestStatus, Unheard, Data}
 
 -- COBIMG01
 abbrev pub mark : List ℕ
 mark = 67 ∷ 79 ∷ 66 ∷ 73 ∷ 77 ∷ 71 ∷ 48 ∷ 49 ∷ []
 
--- Instructions on data have first bytes from 16 on.
+-- Instructions on data have other first bytes, from 16 on.
 abbrev pub instruction_bytes : Instruction → List ℕ
 instruction_bytes (Tick line) = 1 ∷ short_bytes line
 instruction_bytes Show = 2 ∷ []
@@ -26,11 +27,14 @@ instruction_bytes Join = 10 ∷ []
 instruction_bytes (Perform line first last) = 11 ∷ (short_bytes line ++ count_bytes first.number ++ count_bytes last.number)
 instruction_bytes (Back paragraph) = 12 ∷ count_bytes paragraph.number
 instruction_bytes (CountNumber counter) = 13 ∷ count_bytes counter.number
+instruction_bytes (File file verb) = 14 ∷ file.number ∷ verb_bytes verb
+instruction_bytes (TestStatus class) = 15 ∷ class_byte class ∷ []
+instruction_bytes Unheard = 47 ∷ []
 instruction_bytes (Data one) = data_instruction_bytes one
 
--- The mark; the tables of data; the starts of code paragraphs; the instructions.
+-- The mark; the tables of data; the files; the starts of code paragraphs; the instructions.
 abbrev pub spelling : Code → List ℕ
-spelling code = mark ++ tables_bytes code.tables ++ table_bytes count_bytes code.starts ++ table_bytes instruction_bytes code.instructions
+spelling code = mark ++ tables_bytes code.tables ++ table_bytes file_bytes code.files ++ table_bytes count_bytes code.starts ++ table_bytes instruction_bytes code.instructions
 
 abbrev pub HasNumbers : Instruction → Type 0
 HasNumbers (Tick line) = IsShort line
@@ -46,10 +50,14 @@ HasNumbers Join = Unit {0}
 HasNumbers (Perform line first last) = IsShort line × IsCount first.number × IsCount last.number
 HasNumbers (Back paragraph) = IsCount paragraph.number
 HasNumbers (CountNumber counter) = IsCount counter.number
+HasNumbers (File file verb) = IsByte file.number × IsVerbSpelled verb
+HasNumbers (TestStatus class) = Unit {0}
+HasNumbers Unheard = Unit {0}
 HasNumbers (Data one) = HasShorts one
 
 -- Each number of the code fits its bytes. This is so of each `Code` that a program holds.
 pub record HasSpelling (code : Code) : Type 0 where
   pub tables : HasTables code.tables
+  pub files : AreSpelled IsFileSpelled code.files
   pub starts : AreSpelled IsCount code.starts
   pub instructions : AreSpelled HasNumbers code.instructions

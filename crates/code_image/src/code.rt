@@ -2,6 +2,7 @@
 
 use crate::instruction::Instruction;
 use data_instructions::DataTables;
+use file_tables::CodeFile;
 use sqlite_items::Items;
 
 /// The tables of a program, and its instructions, of which the first runs first.
@@ -9,6 +10,8 @@ use sqlite_items::Items;
 pub struct Code {
     /// What instructions on data name.
     pub tables: DataTables,
+    /// The files, in the order of their SELECTs.
+    pub files: Items<CodeFile>,
     /// The address at which each code paragraph starts, in order. An address is the index of an instruction, from 0.
     pub starts: Items<usize>,
     pub instructions: Items<Instruction>,

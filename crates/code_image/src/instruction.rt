@@ -1,19 +1,22 @@
 //! The machine's instructions.
 
-ghost use Rattle.std.specs.Prelude.{◌≡◌, ◌↔◌, ◌++◌, ◌∷◌, IsTrue, OnOk};
+ghost use Rattle.std.specs.Prelude.{◌≡◌, ◌↔◌, ◌++◌, ◌∷◌, [], IsTrue, OnOk};
 ghost use Rattle.answers.specs.Answer.{Gives};
 ghost use Rattle.image_tables.specs.Faults.{fault_of};
-ghost use Rattle.image_tables.specs.Spelling.{count_bytes, short_bytes, IsCount, IsShort};
-ghost use Rattle.code_image.specs.Demands.{NamesData, NamesCounter, NamesParagraph};
+ghost use Rattle.image_tables.specs.Spelling.{count_bytes, short_bytes, IsByte, IsCount, IsShort};
+ghost use Rattle.code_image.specs.Demands.{NamesData, NamesCounter, NamesParagraph, NamesFile};
+ghost use Rattle.file_tables.specs.Spelling.{class_byte, verb_bytes, IsVerbSpelled};
 ghost use Rattle.code_image.specs.Spelling.{instruction_bytes, HasNumbers};
-ghost use Rattle.code_image.specs.Reading.{tick_at, count_instruction_at, turn_at, branch_at, jump_at, perform_at, back_at, count_number_at, instruction_at};
+ghost use Rattle.code_image.specs.Reading.{tick_at, count_instruction_at, turn_at, branch_at, jump_at, perform_at, back_at, count_number_at, file_instruction_at, test_status_at, instruction_at};
 
 use crate::counter::CounterIndex;
 use crate::paragraph::ParagraphIndex;
 use data_instructions::{DataInstruction, DataTables};
+use file_tables::{FileIndex, StatusClass, put_class, put_verb, read_class, read_verb};
 use image_tables::{
-    ImageError, ImageFault, TableEntry, put_count, put_short, read_count, read_short,
+    ImageError, ImageFault, TableEntry, put_count, put_short, read_byte, read_count, read_short,
 };
+use records::Verb;
 use std::alloc::{AllocError, Global};
 
 /// One instruction.
@@ -69,6 +72,17 @@ pub enum Instruction {
     Back {
         paragraph: ParagraphIndex,
     },
+    /// Does a file statement on a file of the table: stores what it leaves and its status, which is received then.
+    File {
+        file: FileIndex,
+        verb: Verb,
+    },
+    /// Sets the truth to whether the last status is of this class.
+    TestStatus {
+        class: StatusClass,
+    },
+    /// Ends the run by a fault: nothing in the program takes the last status.
+    Unheard,
     /// Works on data. A fault ends the run.
     Data(DataInstruction),
 }
@@ -92,7 +106,10 @@ impl Instruction {
             | Instruction::Jump { .. }
             | Instruction::Join
             | Instruction::Perform { .. }
-            | Instruction::Back { .. } => true,
+            | Instruction::Back { .. }
+            | Instruction::File { .. }
+            | Instruction::TestStatus { .. }
+            | Instruction::Unheard => true,
         }
     }
 
@@ -114,6 +131,9 @@ impl Instruction {
             | Instruction::Join
             | Instruction::Perform { .. }
             | Instruction::Back { .. }
+            | Instruction::File { .. }
+            | Instruction::TestStatus { .. }
+            | Instruction::Unheard
             | Instruction::Data(_) => true,
         }
     }
@@ -136,6 +156,34 @@ impl Instruction {
             | Instruction::Branch { .. }
             | Instruction::Jump { .. }
             | Instruction::Join
+            | Instruction::File { .. }
+            | Instruction::TestStatus { .. }
+            | Instruction::Unheard
+            | Instruction::Data(_) => true,
+        }
+    }
+
+    /// A file that it names is one of so many.
+    pub(crate) fn names_file(self, count: usize) -> bool
+        ensures { IsTrue result ↔ NamesFile count self }
+    {
+        match self {
+            Instruction::File { file, .. } => (file.number as usize) < count,
+            Instruction::Tick { .. }
+            | Instruction::Show
+            | Instruction::Stop
+            | Instruction::Count { .. }
+            | Instruction::CountNumber { .. }
+            | Instruction::Turn { .. }
+            | Instruction::Accept
+            | Instruction::Date
+            | Instruction::Branch { .. }
+            | Instruction::Jump { .. }
+            | Instruction::Join
+            | Instruction::Perform { .. }
+            | Instruction::Back { .. }
+            | Instruction::TestStatus { .. }
+            | Instruction::Unheard
             | Instruction::Data(_) => true,
         }
     }
@@ -167,6 +215,12 @@ const PERFORM: u8 = 11;
 const BACK: u8 = 12;
 
 const COUNT_NUMBER: u8 = 13;
+
+const FILE: u8 = 14;
+
+const TEST_STATUS: u8 = 15;
+
+const UNHEARD: u8 = 47;
 
 fn put_tick(out: &mut Vec<u8>, line: u32) -> Result<(), AllocError>
     ensures bytes { OnOk result (out.new.items ≡ out.old.items ++ (1 ∷ short_bytes line)) }
@@ -213,6 +267,22 @@ fn put_perform(
     put_short(out, line)?;
     put_count(out, first.number)?;
     put_count(out, last.number)
+}
+
+fn put_file(out: &mut Vec<u8>, file: FileIndex, verb: Verb) -> Result<(), AllocError>
+    ensures bytes { OnOk result (out.new.items ≡ out.old.items ++ (14 ∷ file.number ∷ verb_bytes verb)) }
+    ensures fits { IsByte file.number × IsVerbSpelled verb }
+{
+    out.push(FILE)?;
+    out.push(file.number)?;
+    put_verb(out, verb)
+}
+
+fn put_test_status(out: &mut Vec<u8>, class: StatusClass) -> Result<(), AllocError>
+    ensures { OnOk result (out.new.items ≡ out.old.items ++ (15 ∷ class_byte class ∷ [])) }
+{
+    out.push(TEST_STATUS)?;
+    put_class(out, class)
 }
 
 fn read_tick(bytes: &[u8]) -> Result<(Instruction, &[u8]), ImageError>
@@ -282,6 +352,22 @@ fn read_count_number(bytes: &[u8]) -> Result<(Instruction, &[u8]), ImageError>
     Ok((Instruction::CountNumber { counter }, rest))
 }
 
+fn read_file(bytes: &[u8]) -> Result<(Instruction, &[u8]), ImageError>
+    ensures { Gives (λ x. (x.0, x.1.now)) fault_of result (file_instruction_at bytes.now) }
+{
+    let (number, rest) = read_byte(bytes)?;
+    let (verb, rest) = read_verb(rest)?;
+    let file = FileIndex { number };
+    Ok((Instruction::File { file, verb }, rest))
+}
+
+fn read_test_status(bytes: &[u8]) -> Result<(Instruction, &[u8]), ImageError>
+    ensures { Gives (λ x. (x.0, x.1.now)) fault_of result (test_status_at bytes.now) }
+{
+    let (class, rest) = read_class(bytes)?;
+    Ok((Instruction::TestStatus { class }, rest))
+}
+
 impl TableEntry for Instruction {
     ghost spelled = { instruction_bytes };
 
@@ -306,6 +392,9 @@ impl TableEntry for Instruction {
             Instruction::Perform { line, first, last } => put_perform(out, line, first, last),
             Instruction::Back { paragraph } => put_leading(out, BACK, paragraph.number),
             Instruction::CountNumber { counter } => put_leading(out, COUNT_NUMBER, counter.number),
+            Instruction::File { file, verb } => put_file(out, file, verb),
+            Instruction::TestStatus { class } => put_test_status(out, class),
+            Instruction::Unheard => Ok(out.push(UNHEARD)?),
             Instruction::Data(one) => one.put(out),
         }
     }
@@ -327,6 +416,9 @@ impl TableEntry for Instruction {
             [PERFORM, rest @ ..] => read_perform(rest),
             [BACK, rest @ ..] => read_back(rest),
             [COUNT_NUMBER, rest @ ..] => read_count_number(rest),
+            [FILE, rest @ ..] => read_file(rest),
+            [TEST_STATUS, rest @ ..] => read_test_status(rest),
+            [UNHEARD, rest @ ..] => Ok((Instruction::Unheard, rest)),
             [_, ..] => {
                 let (one, rest) = DataInstruction::read(alloc, bytes)?;
                 Ok((Instruction::Data(one), rest))

@@ -61,7 +61,10 @@ impl Instruction {
             | Instruction::Turn { .. }
             | Instruction::Branch { .. }
             | Instruction::Jump { .. }
-            | Instruction::Join => Ok(at_rest(alloc, &shape)),
+            | Instruction::Join
+            | Instruction::File { .. }
+            | Instruction::TestStatus { .. }
+            | Instruction::Unheard => Ok(at_rest(alloc, &shape)),
             Instruction::Show => Ok(Some(showing(shape))),
             Instruction::Stop => Ok(Some(Shape::empty(alloc))),
             Instruction::Count { .. } => Ok(Some(shape)),

@@ -28,6 +28,7 @@ fn read_code(alloc: Global, bytes: &[u8]) -> Result<Code, ImageError>
 {
     let rest = skip_mark(bytes)?;
     let (tables, rest) = read_tables(alloc, rest)?;
+    let (files, rest) = read_table(alloc, rest)?;
     let (starts, rest) = read_table(alloc, rest)?;
     let (instructions, rest) = read_table(alloc, rest)?;
     if !rest.is_empty() {
@@ -35,6 +36,7 @@ fn read_code(alloc: Global, bytes: &[u8]) -> Result<Code, ImageError>
     }
     Ok(Code {
         tables,
+        files,
         starts,
         instructions,
     })

@@ -2,8 +2,9 @@
 
 ghost use Rattle.std.specs.Prelude.{◌≡◌, ◌-◌, ◌<◌, ◌↔◌, IsTrue, All, length, slice_get, Some, IfOk, IfErr, OnOk};
 ghost use Rattle.code_image.specs.declared.instruction.Instruction.TheVariants.{Stop};
-ghost use Rattle.code_image.specs.Demands.{IsVerified, IsWithin, HasShape, Blames, NamesData, NamesCounter, NamesParagraph, IsAddress, UsesBudget, IsJoin, LeadsOn, LeadsBack, Leads, AllLead};
+ghost use Rattle.code_image.specs.Demands.{IsVerified, IsWithin, HasFiles, HasShape, Blames, NamesData, NamesCounter, NamesParagraph, NamesFile, SuitsFile, IsAddress, UsesBudget, IsJoin, LeadsOn, LeadsBack, Leads, AllLead};
 ghost use Rattle.code_image.specs.Paragraphs.{ListsParagraphs};
+ghost use Rattle.file_tables.specs.Files.{entries_of, NamesPlaces, IsCodeFile};
 ghost use Rattle.image_tables.specs.Faults.{fault_of};
 
 use crate::code::Code;
@@ -11,6 +12,7 @@ use crate::instruction::Instruction;
 use crate::known::find_operands;
 use crate::paragraph::{all_start, has_order, paragraphs_of};
 use data_instructions::DataTables;
+use file_tables::{CodeFile, is_code_file, names_places, suits};
 use image_tables::{ImageError, ImageFault};
 use std::alloc::{AllocError, Global};
 use std::marker::Model;
@@ -85,6 +87,28 @@ fn are_addresses(starts: &[usize], count: usize) -> bool
     true
 }
 
+fn name_files(instructions: &[Instruction], count: usize) -> bool
+    ensures { IsTrue result ↔ All (NamesFile count) instructions.now }
+{
+    for instruction in instructions {
+        if !instruction.names_file(count) {
+            return false;
+        }
+    }
+    true
+}
+
+fn name_places(files: &[CodeFile], tables: &DataTables) -> bool
+    ensures { IsTrue result ↔ All (NamesPlaces tables.now) files.now }
+{
+    for file in files {
+        if !names_places(tables, file) {
+            return false;
+        }
+    }
+    true
+}
+
 fn uses_budget(instructions: &[Instruction], address: usize) -> bool
     ensures { IsTrue result ↔ UsesBudget (slice_get instructions.now address) }
 {
@@ -153,7 +177,59 @@ fn stops_last(instructions: &[Instruction]) -> bool
     matches!(instructions.last(), Some(Instruction::Stop))
 }
 
-/// Each entry that instructions name, each counter, each code paragraph and each start of one is in its table.
+fn are_code_files(
+    alloc: Global,
+    tables: &DataTables,
+    files: &[CodeFile],
+) -> Result<bool, AllocError>
+    ensures { IfOk result (λ sound. IsTrue sound ↔ All (IsCodeFile tables.now) files.now) }
+{
+    for file in files {
+        if !is_code_file(alloc, tables, file)? {
+            return Ok(false);
+        }
+    }
+    Ok(true)
+}
+
+/// The verb of a file statement suits its file, which is there.
+fn suits_file(code: &Code, instruction: Instruction) -> bool
+    requires { NamesFile (length code.now.files) instruction }
+    ensures { IsTrue result ↔ SuitsFile (entries_of code.now.tables code.now.files) instruction }
+{
+    match instruction {
+        Instruction::File { file, verb } => {
+            suits(&code.files.as_slice()[file.number as usize], verb)
+        }
+        _ => true,
+    }
+}
+
+fn suit_files(code: &Code, instructions: &[Instruction]) -> bool
+    requires { All (NamesFile (length code.now.files)) instructions.now }
+    ensures { IsTrue result ↔ All (SuitsFile (entries_of code.now.tables code.now.files)) instructions.now }
+{
+    for instruction in instructions {
+        if !suits_file(code, *instruction) {
+            return false;
+        }
+    }
+    true
+}
+
+/// Each file is in order, and statements on files suit them.
+fn has_files(alloc: Global, code: &Code) -> Result<bool, AllocError>
+    requires { All (NamesFile (length code.now.files)) code.now.instructions }
+    ensures { IfOk result (λ has. IsTrue has ↔ HasFiles code.now) }
+{
+    if !are_code_files(alloc, &code.tables, code.files.as_slice())? {
+        return Ok(false);
+    }
+    Ok(suit_files(code, code.instructions.as_slice()))
+}
+
+/// Each entry that instructions name, each counter, each code paragraph and each start of one is in its table, and so is each file, its
+/// area and its items.
 fn is_within(code: &Code) -> bool
     ensures { IsTrue result ↔ IsWithin code.now }
 {
@@ -162,11 +238,14 @@ fn is_within(code: &Code) -> bool
         && name_counters(instructions, instructions.len())
         && name_paragraphs(instructions, code.starts.as_slice().len())
         && are_addresses(code.starts.as_slice(), instructions.len())
+        && name_files(instructions, code.files.as_slice().len())
+        && name_places(code.files.as_slice(), &code.tables)
 }
 
-/// Each way leads where it may, each code paragraph starts where its start says, none performs itself, `stop` comes last, and each
-/// instruction finds what it needs.
+/// Each way leads where it may, each code paragraph starts where its start says, none performs itself, `stop` comes last, each
+/// instruction finds what it needs, and files are in order.
 fn has_shape(alloc: Global, code: &Code) -> Result<bool, AllocError>
+    requires { IsWithin code.now }
     ensures { IfOk result (λ has. IsTrue has ↔ HasShape code.now) }
 {
     let instructions = code.instructions.as_slice();
@@ -180,7 +259,10 @@ fn has_shape(alloc: Global, code: &Code) -> Result<bool, AllocError>
     if !has_order(alloc, code, &paragraphs)? {
         return Ok(false);
     }
-    find_operands(alloc, code)
+    if !find_operands(alloc, code)? {
+        return Ok(false);
+    }
+    has_files(alloc, code)
 }
 
 /// Whether code meets the demands: 72 for its tables, then 73 for what it names, then 74 for its shape.
@@ -201,10 +283,11 @@ fn meets_demands(alloc: Global, code: &Code) -> Result<(), ImageError>
 }
 
 /// Tests that a machine can run the code: its tables are in order, else 72; each entry that it names, each counter, each code
-/// paragraph and each start of one is an index in its table, else 73; each way leads on behind a `join` that comes later or
-/// back to a `tick` or `perform` before it, in its code paragraph; each code paragraph ends with the `back` of its number and
-/// starts where its start says; none performs itself, by way of others neither; `stop` comes last, and each instruction finds
-/// what it needs on the stacks, else 74.
+/// paragraph, each start of one and each file is an index in its table, and so are a file's area and its items, else 73; each way
+/// leads on behind a `join` that comes later or back to a `tick` or `perform` before it, in its code paragraph; each code
+/// paragraph ends with the `back` of its number and starts where its start says; none performs itself, by way of others neither;
+/// `stop` comes last, each instruction finds what it needs on the stacks, and each file is in order and has the key that a statement
+/// on it names, else 74.
 pub fn verify(alloc: Global, code: Code) -> Result<Verified, ImageError>
     ensures value { IfOk result (λ verified. verified ≡ code) }
     ensures verified { IfOk result (λ _. IsVerified code) }

@@ -18,6 +18,7 @@ pub fn to_bytes(alloc: Global, code: &Code) -> Result<Vec<u8>, AllocError>
 {
     let mut out = Vec::from_slice(alloc, &MARK)?;
     put_tables(&mut out, &code.tables)?;
+    put_table(&mut out, code.files.as_slice())?;
     put_table(&mut out, code.starts.as_slice())?;
     put_table(&mut out, code.instructions.as_slice())?;
     Ok(out)

@@ -12,11 +12,15 @@ pub enum ProgramFault {
     Data,
     /// A subscript out of its range.
     Subscript,
+    /// A file status from 10 on that nothing in the program takes.
+    FileStatus,
 }
 
 const DATA: u8 = 90;
 
 const SUBSCRIPT: u8 = 91;
+
+const FILE_STATUS: u8 = 92;
 
 impl ProgramFault {
     /// The number that the product answers.
@@ -26,6 +30,7 @@ impl ProgramFault {
         match self {
             ProgramFault::Data => DATA,
             ProgramFault::Subscript => SUBSCRIPT,
+            ProgramFault::FileStatus => FILE_STATUS,
         }
     }
 }

@@ -1,15 +1,15 @@
 -- Numbers and bytes, read and spelled.
 use Rattle.std.proofs.Common.{◌≡◌, ℕ, suc, ◌+◌, ◌*◌, ◌/◌, ◌%◌, ◌^◌, ◌<◌, ◌≤◌, Bool, true, false, cond, ltb, List, [], ◌∷◌, ◌++◌, length, take, drop, Ok, Err, refl, sym, ap, subst, ◌∙◌, append_assoc, arith}
 use Rattle.std.specs.Prelude.{Some}
-use Rattle.std.specs.Int.{w32, w64, from_be_bytes}
+use Rattle.std.specs.Int.{w16, w32, w64, from_be_bytes}
 use Rattle.std.proofs.lemmas.Bool.{ltb-false, le-ltb}
 use Rattle.std.proofs.lemmas.List.{drop_at, take-append-drop, length-append, length-take}
-use Rattle.std.proofs.lemmas.Nat.{be_bytes_4, be_bytes_8}
+use Rattle.std.proofs.lemmas.Nat.{be_bytes_2, be_bytes_4, be_bytes_8}
 use Rattle.byteorder.specs.Endian.{big_bytes, big_number}
 use Rattle.byteorder.specs.Numbers.{big_from-take, big_from-lt, big_number-reads_back, length-bytes_high_first}
 use Rattle.image_tables.specs.declared.fault.ImageFault.TheVariants as faults
-use Rattle.image_tables.specs.Spelling.{IsBytes, count_bytes, short_bytes, flag_byte, wide_bytes, IsCount, IsShort, IsWide, IsByte, IsAny}
-use Rattle.image_tables.specs.Reading.{◌>>=◌, number_at, count_at, short_at, wide_at, byte_at, told_at, flag_of}
+use Rattle.image_tables.specs.Spelling.{IsBytes, count_bytes, short_bytes, small_bytes, flag_byte, wide_bytes, IsCount, IsShort, IsSmall, IsWide, IsByte, IsAny}
+use Rattle.image_tables.specs.Reading.{◌>>=◌, number_at, count_at, short_at, small_at, wide_at, byte_at, told_at, flag_of}
 use Rattle.image_tables.proofs.Forms.{IsBytes-drop, IsBytes-take, guard_ok, ok_is, failed, Takes, takes_then, IsForm, part, part_again, Took, form_of, first_told, byte_told}
 
 -- the bytes of a number that was read are what it was read from
@@ -48,6 +48,9 @@ worth_8 bytes = omega arith
 worth_4 : (bytes : List ℕ) → big_number 4 bytes ≡ from_be_bytes w32 bytes
 worth_4 bytes = omega arith
 
+worth_2 : (bytes : List ℕ) → big_number 2 bytes ≡ from_be_bytes w16 bytes
+worth_2 bytes = omega arith
+
 pub count_form : IsForm count_at count_bytes IsCount
 unfolding count_at count_bytes
 count_form = number_form 8 (λ bytes len fits. be_bytes_8 bytes (big_number 8 bytes) len fits (worth_8 bytes))
@@ -55,6 +58,10 @@ count_form = number_form 8 (λ bytes len fits. be_bytes_8 bytes (big_number 8 by
 pub short_form : IsForm short_at short_bytes IsShort
 unfolding short_at short_bytes
 short_form = number_form 4 (λ bytes len fits. be_bytes_4 bytes (big_number 4 bytes) len fits (worth_4 bytes))
+
+pub small_form : IsForm small_at small_bytes IsSmall
+unfolding small_at small_bytes
+small_form = number_form 2 (λ bytes len fits. be_bytes_2 bytes (big_number 2 bytes) len fits (worth_2 bytes))
 
 -- ---- bytes
 

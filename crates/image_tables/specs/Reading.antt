@@ -28,6 +28,9 @@ count_at bytes = number_at 8 bytes
 unfoldable pub short_at : List ℕ → Read ℕ
 short_at bytes = number_at 4 bytes
 
+unfoldable pub small_at : List ℕ → Read ℕ
+small_at bytes = number_at 2 bytes
+
 unfoldable pub wide_at : List ℕ → Read ℕ
 wide_at bytes = do
   high ← count_at bytes

@@ -15,6 +15,10 @@ count_bytes n = big_bytes 8 n
 unfoldable pub short_bytes : ℕ → List ℕ
 short_bytes n = big_bytes 4 n
 
+-- a number of 16 bits: two bytes, the highest first
+unfoldable pub small_bytes : ℕ → List ℕ
+small_bytes n = big_bytes 2 n
+
 -- a number of 128 bits: its high half and its low half, of eight bytes each, the highest first
 unfoldable pub wide_bytes : ℕ → List ℕ
 wide_bytes n = count_bytes (n / 2 ^ 64) ++ count_bytes (n % 2 ^ 64)
@@ -35,6 +39,10 @@ text_bytes bytes = count_bytes (length bytes) ++ bytes
 -- a number that a byte holds
 abbrev pub IsByte : ℕ → Type 0
 IsByte n = n < 2 ^ 8
+
+-- a number that two bytes hold
+abbrev pub IsSmall : ℕ → Type 0
+IsSmall n = n < 2 ^ 16
 
 -- a number that eight bytes hold
 abbrev pub IsCount : ℕ → Type 0

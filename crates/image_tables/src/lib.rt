@@ -19,8 +19,9 @@ mod test;
 mod text;
 mod usage;
 
+pub use byte::{flag_byte, found, put_byte, read_byte, read_flag};
 pub use fault::{ImageError, ImageFault};
 pub use laws::{instruction_law, tables_law};
-pub use number::{put_count, put_short, read_count, read_short};
+pub use number::{put_count, put_short, put_small, read_count, read_short, read_small};
 pub use table::{TableEntry, put_table, read_table};
 pub use tables::{put_tables, read_tables};

@@ -3,8 +3,8 @@
 ghost use Rattle.std.specs.Prelude.{◌≡◌, ◌++◌, ◌∷◌, OnOk};
 ghost use Rattle.answers.specs.Answer.{Gives};
 ghost use Rattle.image_tables.specs.Faults.{fault_of};
-ghost use Rattle.image_tables.specs.Spelling.{count_bytes, short_bytes, wide_bytes, IsCount, IsShort, IsWide};
-ghost use Rattle.image_tables.specs.Reading.{count_at, short_at, wide_at};
+ghost use Rattle.image_tables.specs.Spelling.{count_bytes, short_bytes, small_bytes, wide_bytes, IsCount, IsShort, IsSmall, IsWide};
+ghost use Rattle.image_tables.specs.Reading.{count_at, short_at, small_at, wide_at};
 
 use crate::byte::put_byte;
 use crate::fault::{ImageError, ImageFault};
@@ -16,6 +16,8 @@ use std::alloc::{AllocError, Global};
 const COUNT_WIDTH: usize = 8;
 /// The bytes of a number of 32 bits.
 const SHORT_WIDTH: usize = 4;
+/// The bytes of a number of 16 bits.
+const SMALL_WIDTH: usize = 2;
 /// What the high half of a number of 128 bits counts.
 const HALF_UNIT: u128 = 0x1_0000_0000_0000_0000;
 
@@ -71,6 +73,28 @@ pub fn read_short(bytes: &[u8]) -> Result<(u32, &[u8]), ImageError>
         return Err(ImageError::Refused(ImageFault::Length));
     }
     Ok((BigEndian::read_u32(bytes), &bytes[SHORT_WIDTH..]))
+}
+
+/// Puts a number of 16 bits: two bytes.
+#[tactic(auto, unfolding(crate::specs::Spelling::small_bytes))]
+pub fn put_small(out: &mut Vec<u8>, number: u16) -> Result<(), AllocError>
+    ensures bytes { OnOk result (out.new.items ≡ out.old.items ++ small_bytes number) }
+    ensures fits { IsSmall number }
+{
+    let mut bytes = [0; SMALL_WIDTH];
+    BigEndian::write_u16(&mut bytes, number);
+    out.extend_from_slice(&bytes)
+}
+
+/// The number of two bytes in front, and the bytes after it. 71 where there are fewer.
+#[tactic(auto, unfolding(crate::specs::Reading::small_at))]
+pub fn read_small(bytes: &[u8]) -> Result<(u16, &[u8]), ImageError>
+    ensures { Gives (λ x. (x.0, x.1.now)) fault_of result (small_at bytes.now) }
+{
+    if bytes.len() < SMALL_WIDTH {
+        return Err(ImageError::Refused(ImageFault::Length));
+    }
+    Ok((BigEndian::read_u16(bytes), &bytes[SMALL_WIDTH..]))
 }
 
 #[tactic(auto, unfolding(crate::specs::Spelling::wide_bytes))]

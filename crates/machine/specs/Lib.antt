@@ -1,7 +1,10 @@
 pub mod Rooms
 pub mod Returns
 pub mod Standing
+pub mod Prefix
 pub mod Ends
 pub mod Counting
 pub mod Progress
+pub mod Filing
+pub mod Over
 pub mod Plans

@@ -1,6 +1,6 @@
 //! Console lines that are taken.
 
-ghost use Rattle.std.specs.Prelude.{◌≡◌, ◌↔◌, ℕ, List, length, OnOk, OnErr};
+ghost use Rattle.std.specs.Prelude.{◌≡◌, ◌↔◌, ℕ, List, length, OnOk, OnErr, IfErr};
 ghost use Rattle.station.specs.State.{took_line};
 ghost use Rattle.station.specs.History.{Moves};
 ghost use Rattle.station.specs.Failures.{CountsFailure};
@@ -8,6 +8,7 @@ ghost use Rattle.source_tree.specs.Accepting.{next_line};
 ghost use Rattle.data_instructions.specs.Scratch.{Went};
 ghost use Rattle.data_instructions.specs.Table.{accepted};
 ghost use Rattle.run_time_data.specs.Data.{scratch_of};
+ghost use Rattle.machine.specs.declared.ended.Refusal.TheVariants.{Device};
 ghost use Rattle.run_time_data.specs.Comes.{Keeps};
 ghost use Rattle.run_time_data.specs.Finds.{FindsItem, HasItemRoom};
 
@@ -29,6 +30,7 @@ pub(crate) fn accept_line<S: Station>(
     ensures sectors { S.sectors station.new ≡ S.sectors station.old }
     ensures honest { S.is_honest station.old ↔ S.is_honest station.new }
     ensures failures { CountsFailure result (S.failures station.old) (S.failures station.new) }
+    ensures device { IfErr result (λ refusal. refusal ≡ Device) }
     ensures taken { S.is_honest station.old → OnOk result (S.state station.new ≡ took_line (S.state station.old)) }
     ensures untaken { S.is_honest station.old → OnErr result (S.state station.new ≡ S.state station.old) }
     ensures moves { S.is_honest station.old → Moves (S.history station.old) (S.state station.old) (S.history station.new) (S.state station.new) }

@@ -1,9 +1,12 @@
 //! How a run ends.
 
-ghost use Rattle.std.specs.Prelude.{◌≡◌};
+ghost use Rattle.std.specs.Prelude.{◌≡◌, ◌≢◌};
+ghost use Rattle.records.specs.declared.fault.StoreFault.TheVariants.{Spent, Layout};
 ghost use Rattle.machine.specs.Ends.{number_of};
+ghost use Rattle.machine.specs.Filing.{store_fault};
 
 use data_instructions::ProgramFault;
+use records::StoreFault;
 use station::DeviceError;
 use thiserror::Error;
 
@@ -12,10 +15,22 @@ use thiserror::Error;
 pub enum Refusal {
     #[error("the device failed")]
     Device,
+    #[error("the volume is full")]
+    Full,
+    #[error("the volume is damaged")]
+    Damaged,
+    #[error("out of memory")]
+    Memory,
 }
 
 /// The numbers that the product prints.
 const DEVICE: u8 = 80;
+
+const FULL: u8 = 81;
+
+const DAMAGED: u8 = 82;
+
+const MEMORY: u8 = 83;
 
 impl Refusal {
     /// The number that the product prints.
@@ -24,7 +39,25 @@ impl Refusal {
     {
         match self {
             Refusal::Device => DEVICE,
+            Refusal::Full => FULL,
+            Refusal::Damaged => DAMAGED,
+            Refusal::Memory => MEMORY,
         }
+    }
+}
+
+/// The refusal of a file statement. No store is spent before a refusal, and none has another layout.
+pub(crate) fn refusal_of(fault: StoreFault) -> Refusal
+    requires whole { fault ≢ Spent }
+    requires layout { fault ≢ Layout }
+    ensures { fault ≡ store_fault result }
+{
+    match fault {
+        StoreFault::Device => Refusal::Device,
+        StoreFault::Full => Refusal::Full,
+        StoreFault::Damaged => Refusal::Damaged,
+        StoreFault::Memory => Refusal::Memory,
+        StoreFault::Spent | StoreFault::Layout => unreachable!(),
     }
 }
 

@@ -6,6 +6,7 @@ mod accept;
 mod acting;
 mod counting;
 mod ended;
+mod filing;
 mod loaded;
 mod machine;
 mod outside;

@@ -8,6 +8,7 @@ ghost use Rattle.machine.specs.Counting.{BeginsTurns};
 use crate::returns::Returns;
 use crate::room::room_along;
 use code_image::{Code, CounterIndex};
+use records::Status;
 use run_time_data::{Data, longest_item};
 use std::alloc::{AllocError, Global};
 
@@ -22,6 +23,10 @@ pub(crate) struct Registers {
     pub(crate) input: Vec<u8>,
     /// What instructions on data work on.
     pub(crate) scratch: Data,
+    /// Where a record area is while a file statement is under way.
+    pub(crate) record_area: Vec<u8>,
+    /// How the last file statement ended; `Success` before the first.
+    pub(crate) status: Status,
     /// The line of the statement that last used one of the budget; 0 before the first.
     pub(crate) line: u32,
 }
@@ -42,6 +47,8 @@ impl Registers {
             returns,
             input,
             scratch,
+            record_area: Vec::new(alloc),
+            status: Status::Success,
             line: 0,
         })
     }

@@ -1,11 +1,12 @@
 //! Shown bytes.
 
-ghost use Rattle.std.specs.Prelude.{◌≡◌, ◌↔◌, OnOk};
+ghost use Rattle.std.specs.Prelude.{◌≡◌, ◌↔◌, OnOk, IfErr};
 ghost use Rattle.station.specs.State.{shown};
 ghost use Rattle.station.specs.History.{Through, Telling};
 ghost use Rattle.station.specs.Failures.{CountsFailure};
 ghost use Rattle.data_instructions.specs.Table.{after_showing};
 ghost use Rattle.run_time_data.specs.Data.{scratch_of};
+ghost use Rattle.machine.specs.declared.ended.Refusal.TheVariants.{Device};
 ghost use Rattle.run_time_data.specs.Comes.{Keeps};
 
 use crate::ended::Refusal;
@@ -17,6 +18,7 @@ fn show<S: Station>(station: &mut S, bytes: &[u8]) -> Result<(), Refusal>
     ensures sectors { S.sectors station.new ≡ S.sectors station.old }
     ensures honest { S.is_honest station.old ↔ S.is_honest station.new }
     ensures failures { CountsFailure result (S.failures station.old) (S.failures station.new) }
+    ensures device { IfErr result (λ refusal. refusal ≡ Device) }
     ensures shown { S.is_honest station.old → OnOk result (S.state station.new ≡ shown (S.state station.old) bytes.now) }
     ensures moments { S.is_honest station.old →
         Through (S.history station.old) (S.history station.new) (S.state station.new) (Telling (S.state station.old) bytes.now) }
@@ -30,6 +32,7 @@ pub(crate) fn show_line<S: Station>(station: &mut S, scratch: &mut Data) -> Resu
     ensures sectors { S.sectors station.new ≡ S.sectors station.old }
     ensures honest { S.is_honest station.old ↔ S.is_honest station.new }
     ensures failures { CountsFailure result (S.failures station.old) (S.failures station.new) }
+    ensures device { IfErr result (λ refusal. refusal ≡ Device) }
     ensures shown { S.is_honest station.old → OnOk result (S.state station.new ≡ shown (S.state station.old) scratch.old.line.bytes) }
     ensures moments { S.is_honest station.old →
         Through (S.history station.old) (S.history station.new) (S.state station.new) (Telling (S.state station.old) scratch.old.line.bytes) }

@@ -12,3 +12,4 @@ pub mod Gathers
 pub mod Stacks
 pub mod Strings
 pub mod Inspects
+pub mod HeldIntegers

@@ -1,6 +1,6 @@
 //! Areas of bytes.
 
-ghost use Rattle.std.specs.Prelude.{◌≡◌, length, map, IfOk};
+ghost use Rattle.std.specs.Prelude.{◌≡◌, ◌<◌, ◌%◌, ◌^◌, true, length, map, slice_set, slice_index_or, [], Some, IfOk};
 ghost use Rattle.items.specs.Items.{IsOf};
 ghost use Rattle.items.specs.Texts.{padded};
 ghost use Rattle.source_tree.specs.References.{part_of, storing};
@@ -9,6 +9,9 @@ ghost use Rattle.text_ops.specs.Strings.{strung};
 ghost use Rattle.data_instructions.specs.Table.{pattern_of};
 ghost use Rattle.source_tree.specs.Moving.{move_to};
 ghost use Rattle.source_tree.specs.Arithmetic as arithmetic;
+ghost use Rattle.source_tree.specs.ProgramFiles.{digits_in};
+ghost use Rattle.source_tree.specs.FileRules.{is_unsigned_integer};
+ghost use Rattle.source_tree.specs.FileStatements.{relative_number, number_stored};
 ghost use Rattle.data_instructions.specs.Tables.{item_place};
 ghost use Rattle.run_time_data.specs.Finds.{StandsAt, Receives};
 ghost use Rattle.run_time_data.specs.Writing.{Stores};
@@ -17,15 +20,16 @@ ghost use Rattle.run_time_data.specs.KeptNumbers.{StoresNumber};
 use crate::keeping::store_part;
 use crate::overlaying::overlay_part;
 use crate::receiving::{move_part, pad_part};
+use crate::relative_keys::{number_held, put_number_part};
 use crate::stringing::string_part;
 use data_instructions::DataItem;
 use decimal18::Dec;
-use items::{DataFault, Taken, part};
+use items::{DataFault, Kind, Taken, part};
 use sqlite_items::Items;
 use std::alloc::{AllocError, Global};
 use std::marker::Model;
 
-/// Areas of bytes, each of a length that stays.
+/// Areas of bytes. What instructions do leaves each its length.
 #[derive(Drop)]
 pub struct Areas {
     areas: Vec<Vec<u8>>,
@@ -138,5 +142,35 @@ impl Areas {
     {
         let area = &mut self.areas[one.area as usize];
         string_part(one, area.as_mut_slice(), offset, text, at)
+    }
+
+    /// The integer in an item that stands at an offset, 0 where its bytes are none or one below 0.
+    pub fn number(&self, one: &DataItem, offset: usize) -> u64
+        requires { StandsAt one.now self.now offset }
+        ensures { result ≡ relative_number (Some (item_place one.now offset)) self.now }
+    {
+        number_held(one.item.kind, self.bytes(one, offset))
+    }
+
+    /// Stores the low digits of a number in an unsigned integer item that stands at an offset.
+    pub fn put_number(&mut self, one: &DataItem, offset: usize, number: u64)
+        requires stands { StandsAt one.now self.old offset }
+        requires kind { is_unsigned_integer one.now.item.kind ≡ true }
+        ensures stores { self.new ≡ number_stored one.now.item.kind (item_place one.now offset) (number % 10 ^ digits_in one.now.item.kind) self.old }
+        ensures lengths { map length self.new ≡ map length self.old }
+    {
+        if let Kind::Numeric(item) = one.item.kind {
+            let area = &mut self.areas[one.area as usize];
+            put_number_part(item, area.as_mut_slice(), offset, number);
+        }
+    }
+
+    /// Exchanges the bytes of an area with others.
+    pub fn exchange(&mut self, area: usize, bytes: &mut Vec<u8>)
+        requires { area < length self.old }
+        ensures area { self.new ≡ slice_set self.old area bytes.old.items }
+        ensures bytes { bytes.new.items ≡ slice_index_or self.old area [] }
+    {
+        std::mem::swap(&mut self.areas[area], bytes);
     }
 }

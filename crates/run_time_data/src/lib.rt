@@ -18,6 +18,7 @@ mod moving;
 mod numbers;
 mod overlaying;
 mod receiving;
+mod relative_keys;
 mod sender;
 mod showing;
 mod stack;

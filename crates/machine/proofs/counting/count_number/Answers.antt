@@ -31,19 +31,19 @@ returns-in-Ok-clause-stands c =
     c.as_mut_slice-counters.ensures.value c.begin_turns-registers.result c.in-Ok.turns c.begin_turns-registers.ensures) refl refl
 
 pub returns-in-Ok-clause-on : goal.returns-in-Ok-clause-on
-returns-in-Ok-clause-on c = λ day run before past left later now so_far.
+returns-in-Ok-clause-on c = λ day run before files connectors left now so_far.
     let r = c.args.registers.now in
     let worked : Data = record r.scratch { numbers = c.pop-newest.new.self; truth = c.begin_turns-registers.result } in
-    after_number c.args.code.now day run before past c.args.address left r later now so_far c.args.counter c.requires.here
+    after_number c.args.code.now day run before files connectors c.args.address left r now so_far c.args.counter c.requires.here
     c.pop-newest.result c.pop-newest.new.self.newest_first c.pop-newest.ensures.newest c.in-Ok.turns
     (record r { counters = with_items r.counters c.begin_turns-registers.new.counters; scratch = worked }) c.in-Ok.ensures
     (begun_now r.counters c.as_mut_slice-counters.result.now c.begin_turns-registers.new.counters c.args.counter.number
-    c.as_mut_slice-counters.ensures.value c.begin_turns-registers.result c.in-Ok.turns c.begin_turns-registers.ensures) refl refl refl
+    c.as_mut_slice-counters.ensures.value c.begin_turns-registers.result c.in-Ok.turns c.begin_turns-registers.ensures) refl refl refl refl
 
 pub returns-in-Err-clause-within : goal.returns-in-Err-clause-within
 returns-in-Err-clause-within c = (number_counted_from c.args.code.now c.requires.verified c.args.address c.args.counter c.requires.here).0
 
 pub returns-in-Err-clause-on : goal.returns-in-Err-clause-on
-returns-in-Err-clause-on c = λ day run before past left later now so_far.
-    at_no_turns c.args.code.now day run before past c.args.address left c.args.registers.now later now so_far c.args.counter c.requires.here
+returns-in-Err-clause-on c = λ day run before files connectors left now so_far.
+    at_no_turns c.args.code.now day run before files connectors c.args.address left c.args.registers.now now so_far c.args.counter c.requires.here
     c.pop-newest.result c.pop-newest.new.self.newest_first c.pop-newest.ensures.newest c.in-Err.fault c.in-Err.ensures

@@ -1,0 +1,9 @@
+-- Classes, verbs and files: how each part is read and spelled
+pub mod Verbs
+pub mod Keys
+pub mod FileForms
+pub mod ClassTests
+-- What is so of a file in order
+pub mod Sound
+-- Definitions on small cases
+pub mod Examples

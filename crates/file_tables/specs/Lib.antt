@@ -1,0 +1,4 @@
+pub mod Classes
+pub mod Files
+pub mod Spelling
+pub use Rattle.answers.specs.Answer
