@@ -97,6 +97,7 @@ works_blind all = constant_blind (plain (map instruction.Data all))
 pub number_blind : (x : Fraction) → Blind (number_piece x)
 number_blind x = tables_blind (λ (t : DataTables). record {
   tables = record no_tables { numbers = x ∷ [] };
+  files = [];
   starts = [];
   instructions = instruction.Data (i.Literal (record { number = length t.numbers })) ∷ [];
 })
@@ -104,6 +105,7 @@ number_blind x = tables_blind (λ (t : DataTables). record {
 pub text_blind : (bytes : List ℕ) → Blind (text_piece bytes)
 text_blind bytes = tables_blind (λ (t : DataTables). record {
   tables = record no_tables { texts = bytes ∷ [] };
+  files = [];
   starts = [];
   instructions = instruction.Data (i.AppendLiteral (record { number = length t.texts })) ∷ [];
 })
@@ -111,6 +113,7 @@ text_blind bytes = tables_blind (λ (t : DataTables). record {
 overlay_blind : (bytes marks : List ℕ) → Blind (overlay_piece bytes marks)
 overlay_blind bytes marks = tables_blind (λ (t : DataTables). record {
   tables = record no_tables { texts = bytes ∷ marks ∷ [] };
+  files = [];
   starts = [];
   instructions = instruction.Data (i.Overlay (record { number = length t.texts })) ∷ [];
 })
@@ -121,6 +124,7 @@ pattern_blind pattern = overlay_blind (map new_byte pattern) (map new_mark patte
 inspection_blind : (one : Inspection) → Blind (inspection_piece one)
 inspection_blind one = tables_blind (λ (t : DataTables). record {
   tables = record no_tables { inspections = one ∷ [] };
+  files = [];
   starts = [];
   instructions = instruction.Data (i.Inspect (record { number = length t.inspections })) ∷ [];
 })
@@ -128,6 +132,7 @@ inspection_blind one = tables_blind (λ (t : DataTables). record {
 literal_blind : (value : LiteralValue) → Blind (literal_piece value)
 literal_blind value = tables_blind (λ (t : DataTables). record {
   tables = record no_tables { senders = literal_entry (literal_sender value) ∷ [] };
+  files = [];
   starts = [];
   instructions = instruction.Data (i.TakeLiteral (record { number = length t.senders })) ∷ [];
 })

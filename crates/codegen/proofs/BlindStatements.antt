@@ -32,9 +32,10 @@ use Rattle.codegen.specs.Meeting.{either_piece, nothing_piece}
 use Rattle.codegen.specs.ConditionCode.{condition_piece}
 use Rattle.codegen.specs.StringCode.{string_piece}
 use Rattle.codegen.specs.UntilCode.{tick_piece, until_piece}
-use Rattle.codegen.specs.Layout.{ending_piece, loop_begin, count_begin, turn_end, counted_turn, times_piece, counted_piece, turns_piece, moving_piece, texts_piece, range_piece, turn_piece, phrase_piece, phrases_from, selecting_piece, branching_piece, verb_piece, statement_piece}
+use Rattle.codegen.specs.Layout.{ending_piece, loop_begin, count_begin, turn_end, counted_turn, times_piece, counted_piece, turns_piece, moving_piece, texts_piece, range_piece, turn_piece, phrase_piece, phrases_from, selecting_piece, branching_piece, filing_piece, verb_piece, statement_piece}
 use Rattle.codegen.proofs.Blind.{Blind, blind_as, constant_blind, count_blind, both_blind, in_order_blind, taking_blind, moving_blind, texts_blind}
 use Rattle.codegen.proofs.BlindArithmetic.{arithmetic_blind}
+use Rattle.codegen.proofs.BlindFiling.{filing_blind}
 use Rattle.codegen.proofs.BlindStrings.{string_blind}
 use Rattle.codegen.proofs.ConditionBlind.{nothing_blind, condition_blind}
 use Rattle.codegen.proofs.Either.{either_blind}
@@ -161,6 +162,8 @@ module _ (scope : Scope) where
         let phrases = phrases_from scope inside one.phrases.arose one.phrases.did_not in
         both_blind (tick_piece line) (both part phrases) (tick_blind line)
         (both_blind part phrases (string_blind items one.sendings one.receiver one.pointer) (phrases_blind one.phrases.arose one.phrases.did_not))
+    verb_blind line (verb.Filing one) =
+        both_blind (tick_piece line) (filing_piece scope inside one) (tick_blind line) (filing_blind scope inside phrase_blind one)
     verb_blind line (verb.Ending one) = ending_blind line one
 
   -- a statement whose code is so

@@ -19,6 +19,7 @@ use Rattle.codegen.proofs.Blind.{Blind, constant_blind, tables_blind, both_blind
 up_to_text_blind : (delimiter : List ℕ) → Blind (up_to_text_piece delimiter)
 up_to_text_blind delimiter = tables_blind (λ (t : DataTables). record {
   tables = record no_tables { texts = delimiter ∷ [] };
+  files = [];
   starts = [];
   instructions = Data (i.Gather (g.UpToText (record { number = length t.texts }))) ∷ [];
 })
@@ -26,6 +27,7 @@ up_to_text_blind delimiter = tables_blind (λ (t : DataTables). record {
 text_up_to_place_blind : (bytes : List ℕ) → Blind (text_up_to_place_piece bytes)
 text_up_to_place_blind bytes = tables_blind (λ (t : DataTables). record {
   tables = record no_tables { texts = bytes ∷ [] };
+  files = [];
   starts = [];
   instructions = Data (i.Gather (g.TextUpToPlace (record { number = length t.texts }))) ∷ [];
 })

@@ -40,6 +40,35 @@ module _ (whole : Code) (kept : ℕ → Type 0) where
         (does w.outer w.second_begins w.second_ends
         (within_sits whole kept before part w.outer (second w.outer) sits w.second_stands w.second_begins w.second_ends)) (λ ds t. w.from_second ds t))
 
+  -- It does the part that the truth picks, where that is known to do so.
+  pub either_at : (first second : Piece) → Blind first → Blind second → (before : Code) (cs : Own) (s : State) (o : Outcome)
+      → (cs.truth ≡ true → (now : Code) → Sits whole kept now (first now) → PartDoes whole kept now (first now) cs s o)
+      → (cs.truth ≡ false → (now : Code) → Sits whole kept now (second now) → PartDoes whole kept now (second now) cs s o)
+      → Sits whole kept before (either_piece first second before) → PartDoes whole kept before (either_piece first second before) cs s o
+  either_at first second f g before cs s o one two sits = at_truth cs.truth refl
+    where
+      part : Code
+      part = either_piece first second before
+
+      from : ℕ
+      from = end_of before
+
+      to : ℕ
+      to = end_of (joined before part)
+
+      w : Ways whole first second before part
+      w = ways whole first second f g before sits.stands
+
+      at_truth : (truth : Bool) → cs.truth ≡ truth → PartDoes whole kept before part cs s o
+      at_truth true is =
+          first_does first second before part w sits from to (omega arith) (omega arith) cs s o is (λ now low high here.
+          let next = end_of (joined now (first now)) in
+          wider whole kept (end_of now) next from to (end_of now) next cs s o low high (one is now here))
+      at_truth false is =
+          second_does first second before part w sits from to (omega arith) (omega arith) cs s o is (λ now low high here.
+          let next = end_of (joined now (second now)) in
+          wider whole kept (end_of now) next from to (end_of now) next cs s o low high (two is now here))
+
   module _ (depth : ℕ) (first second : Piece) (go : Bool → State → Outcome)
       (one : Repeats whole kept depth (go true) first) (two : Repeats whole kept depth (go false) second) where
     way_does : (before part : Code) → Ways whole first second before part → Sits whole kept before part → (truth : Bool) (cs : Own) (s : State)

@@ -236,7 +236,7 @@ module _ (items : List Placed) (whole : Code) (entries : (n : ℕ) (one : Placed
     holds = (_, _, sender_stands whole before (literal_piece one.value before) _ [] refl st, refl, refl);
   }
 
-  receivers_coded : (asked : Place → Placed → List Broken) (all : List Reference) (before : Code) → each (item_rules items asked) all ≡ [] → Stands whole before (receivers_piece items all before)
+  pub receivers_coded : (asked : Place → Placed → List Broken) (all : List Reference) (before : Code) → each (item_rules items asked) all ≡ [] → Stands whole before (receivers_piece items all before)
       → Coded (AreReceiversCode items whole.tables all) (receivers_piece items all before)
   receivers_coded asked [] before e st = record { code = []; is = refl; holds = refl }
   receivers_coded asked (one ∷ more) before e st =

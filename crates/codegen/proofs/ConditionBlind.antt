@@ -38,11 +38,13 @@ nothing_blind = record { by = λ a b alike. refl }
 range_blind : (from : Literal) (last : Option Literal) → Blind (range_piece from last)
 range_blind from None = tables_blind (λ (tables : DataTables). record {
   tables = record no_tables { senders = literal_entry (literal_sender from.value) ∷ [] };
+  files = [];
   starts = [];
   instructions = Data (i.Test (t.OrEqual (record { number = length tables.senders }))) ∷ [];
 })
 range_blind from (Some last) = tables_blind (λ (tables : DataTables). record {
   tables = record no_tables { senders = literal_entry (literal_sender from.value) ∷ literal_entry (literal_sender last.value) ∷ [] };
+  files = [];
   starts = [];
   instructions = Data (i.Test (t.OrWithin (record { number = length tables.senders }))) ∷ [];
 })
@@ -55,6 +57,7 @@ module _ (items : List Placed) where
   compared_blind one (operand.Item reference) = taking_blind items (i.Test (t.Compare one)) reference
   compared_blind one (operand.Literal literal) = tables_blind (λ (tables : DataTables). record {
     tables = record no_tables { senders = literal_entry (literal_sender literal.value) ∷ [] };
+    files = [];
     starts = [];
     instructions = Data (i.Test (t.CompareLiteral one (record { number = length tables.senders }))) ∷ [];
   })

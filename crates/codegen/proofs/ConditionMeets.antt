@@ -20,21 +20,21 @@ use Rattle.codegen.proofs.ConditionBlind.{nothing_blind, condition_blind}
 use Rattle.codegen.proofs.ConditionForms.{mapped_piece, mapped_rules}
 use Rattle.codegen.proofs.ConditionStraight.{relation_straight, sign_straight, class_straight, name_straight}
 use Rattle.codegen.proofs.ConditionValues.{AreFormed}
-use Rattle.codegen.proofs.Leading.{Meets, both_meet, nothing_meets, straight_meets, either_meets}
+use Rattle.codegen.proofs.Leading.{Asks, Meets, both_meet, nothing_meets, straight_meets, either_meets}
 use Rattle.codegen.proofs.Straight.{AlwaysStraight, works_straight, work_straight}
 
 -- a piece, behind whatever code
-abbrev AlwaysMeets : (Range → Type 0) → Piece → Type 0
+abbrev AlwaysMeets : Asks → Piece → Type 0
 AlwaysMeets Q piece = (before : Code) → Meets Q before (piece before)
 
-straight_always : (Q : Range → Type 0) (piece : Piece) → AlwaysStraight piece → AlwaysMeets Q piece
+straight_always : (Q : Asks) (piece : Piece) → AlwaysStraight piece → AlwaysMeets Q piece
 straight_always Q piece straight before = straight_meets Q before (piece before) (straight before)
 
-both_always : (Q : Range → Type 0) (first second : Piece) → AlwaysMeets Q first → AlwaysMeets Q second → AlwaysMeets Q (both first second)
+both_always : (Q : Asks) (first second : Piece) → AlwaysMeets Q first → AlwaysMeets Q second → AlwaysMeets Q (both first second)
 both_always Q first second f g before =
     both_meet Q before (first before) (second (joined before (first before))) (f before) (g (joined before (first before)))
 
-module _ (Q : Range → Type 0) (items : List Placed) (formed : AreFormed items) where
+module _ (Q : Asks) (items : List Placed) (formed : AreFormed items) where
   record IsMet (one : Condition) : Type 0 where
     by : condition_rules items one ≡ [] → AlwaysMeets Q (condition_piece items one)
 

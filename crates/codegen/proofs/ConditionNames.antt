@@ -7,11 +7,13 @@ use Rattle.std.proofs.lemmas.List.{get_or-map, length-map}
 use Rattle.source_tree.specs.declared.literal.Literal.{Literal}
 use Rattle.source_tree.specs.declared.entry.ValueRange.{ValueRange}
 use Rattle.source_tree.specs.declared.entry.ConditionEntry.{ConditionEntry}
-use Rattle.source_tree.specs.declared.entry.Entry.{Entry}
+use Rattle.source_tree.specs.declared.program.Program.{Program}
 use Rattle.source_tree.specs.declared.reference.QualifiedName.{QualifiedName}
 use Rattle.source_tree.specs.EntryRules.{entry_rules}
+use Rattle.source_tree.specs.FileRules.{descriptions_rules}
 use Rattle.source_tree.specs.LookUp.{NamedCondition, all_conditions}
-use Rattle.source_tree.specs.Places.{Placed, items_of}
+use Rattle.source_tree.specs.Places.{Placed}
+use Rattle.source_tree.specs.Records.{program_items}
 use Rattle.source_tree.specs.ValueRules.{has_form}
 use Rattle.names.specs.declared.conditions.DeclaredCondition.{DeclaredCondition}
 use Rattle.names.specs.Conditions.{found_at, item_numbers}
@@ -39,8 +41,10 @@ at_formed (one ∷ more) zero h = h.0
 at_formed (one ∷ more) (suc n) h = at_formed more n h.1
 
 -- Where the rules of entries are kept, the values that a condition name has there have the form of literals.
-pub values_formed : (entries : List Entry) (name : QualifiedName) → entry_rules entries ≡ [] → AreFormedValues (values_named (items_of entries) name)
-values_formed entries name e = at_formed (all_conditions (items_of entries)) (condition_number (items_of entries) name) (conditions_formed entries e)
+pub values_formed : (program : Program) (name : QualifiedName) → entry_rules program.storage ≡ [] → descriptions_rules program.storage program.files ≡ []
+    → AreFormedValues (values_named (program_items program) name)
+values_formed program name e f =
+    at_formed (all_conditions (program_items program)) (condition_number (program_items program) name) (conditions_formed program e f)
 
 -- ---- numbers
 

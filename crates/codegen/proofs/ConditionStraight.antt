@@ -34,8 +34,8 @@ use Rattle.codegen.proofs.Integers.{kept, not_false}
 use Rattle.codegen.proofs.Straight.{AlwaysStraight, both_straight, nothing_straight, works_straight, work_straight, number_straight, subscripts_straight, taking_straight, sender_straight}
 
 range_straight : (from : Literal) (last : Option Literal) → HasForms from last → AlwaysStraight (range_piece from last)
-range_straight from None h before = record { instructions = (tt, tt); starts = refl; areas = refl; items = refl; senders = (sender_formed from.value h, tt); inspections = tt }
-range_straight from (Some last) h before = record { instructions = (tt, tt); starts = refl; areas = refl; items = refl; senders = (sender_formed from.value h.0, (sender_formed last.value h.1, tt)); inspections = tt }
+range_straight from None h before = record { instructions = (tt, tt); starts = refl; files = refl; areas = refl; items = refl; senders = (sender_formed from.value h, tt); inspections = tt }
+range_straight from (Some last) h before = record { instructions = (tt, tt); starts = refl; files = refl; areas = refl; items = refl; senders = (sender_formed from.value h.0, (sender_formed last.value h.1, tt)); inspections = tt }
 
 values_straight : (all : List ValueRange) → AreFormedValues all → AlwaysStraight (values_piece all)
 values_straight [] h before = nothing_straight
@@ -53,6 +53,7 @@ module _ (items : List Placed) where
   compared_straight one (operand.Literal literal) e before = record {
     instructions = (tt, tt);
     starts = refl;
+    files = refl;
     areas = refl;
     items = refl;
     senders = (sender_formed literal.value (not_false (has_form literal.value) (kept (not (has_form literal.value)) (form_rule literal.value) literal.place e)), tt);

@@ -1,24 +1,30 @@
 -- The literals of condition names have the form of literals, where the rules of storage are kept.
 use Rattle.std.proofs.Common.{◌≡◌, ℕ, ◌+◌, ◌-◌, ◌*◌, true, false, if◌then◌else◌, List, [], ◌∷◌, ◌++◌, Option, Some, None}
-use Rattle.std.specs.Prelude.{not}
+use Rattle.std.specs.Prelude.{not, drop, length, sum}
 use Rattle.std.specs.List.{AllByRecursion}
 use Rattle.items.specs.declared.item.Item.{Item}
 use Rattle.source_tree.specs.declared.literal.Literal.{Literal}
 use Rattle.source_tree.specs.declared.entry.ValueRange.{ValueRange}
 use Rattle.source_tree.specs.declared.entry.ConditionEntry.{ConditionEntry}
 use Rattle.source_tree.specs.declared.entry.Entry.{Entry}
+use Rattle.source_tree.specs.declared.name.Name.{Name}
+use Rattle.source_tree.specs.declared.select.FileDescription.{FileDescription}
+use Rattle.source_tree.specs.declared.program.Program.{Program}
 use Rattle.source_tree.specs.Broken.{where_so, each}
 use Rattle.source_tree.specs.Clauses.{occurrences}
-use Rattle.source_tree.specs.EntryRules.{Position, outermost, own_rules, below, forest_rules, entry_rules}
-use Rattle.source_tree.specs.Levels.{Forest, End, Tree, nested}
+use Rattle.source_tree.specs.EntryRules.{Position, most_entries, outermost, own_rules, below, level_rules, homeless, excess, forest_rules, entry_rules}
+use Rattle.source_tree.specs.FileRules.{most_record_bytes, select_names, description_names, file_name_rules, file_entries, description_rules, record_storage_rules, descriptions_rules, select_rules, program_file_rules}
+use Rattle.source_tree.specs.Levels.{Forest, End, Tree, leading, nested}
 use Rattle.source_tree.specs.Literals.{literal_sender}
 use Rattle.source_tree.specs.LookUp.{NamedCondition, conditions_of, all_conditions}
 use Rattle.source_tree.specs.Places.{Placed, Surroundings, within, places, top, storage_places, items_of}
 use Rattle.source_tree.specs.RedefinitionRules.{Redefinable, remembered}
-use Rattle.source_tree.specs.Rooms.{redefines, item_with}
-use Rattle.source_tree.specs.ValueRules.{has_form, wrong_class, wrong_value, literals_order, is_greater, last_rules, range_rules, condition_rules}
+use Rattle.source_tree.specs.Records.{storage_areas, record_length, record_places, file_places, program_items}
+use Rattle.source_tree.specs.Rooms.{redefines, item_with, area_lengths}
+use Rattle.source_tree.specs.ValueRules.{are_some, has_form, wrong_class, wrong_value, literals_order, is_greater, last_rules, range_rules, condition_rules}
 use Rattle.initial_storage.proofs.Kept.{front_nil, back_nil, kept, first_false, true_where, rule_parts}
 use Rattle.codegen.specs.Values.{HasForms, AreFormedValues}
+use Rattle.codegen.proofs.Codes.{left_none, right_none}
 use Rattle.codegen.proofs.Straight.{all_both}
 
 -- Each literal of a condition name of these items has the form of literals.
@@ -110,7 +116,52 @@ of_items [] h = tt
 of_items (one ∷ more) h =
     all_both (λ (c : NamedCondition). AreFormedValues c.condition.values) (conditions_of one one.conditions) (all_conditions more) (of_item one one.conditions h.0) (of_items more h.1)
 
-pub conditions_formed : (entries : List Entry) → entry_rules entries ≡ [] → AreFormed (items_of entries)
-conditions_formed entries e =
-    let parts = rule_parts entries e in
-    of_items (items_of entries) (storage_formed 0 (nested entries) (forest_formed (outermost false) None (nested entries) parts.1))
+-- the records of a file
+records_formed : (area : ℕ) (file : Name) (F : Forest) → ForestFormed F → AllByRecursion IsFormedItem (record_places area file F)
+records_formed area file End h = tt
+records_formed area file (Tree one conditions inner next) h =
+    all_both IsFormedItem (places (top area (file ∷ [])) 0 0 (Tree one conditions inner End)) (record_places area file next)
+    (places_formed (top area (file ∷ [])) 0 0 (Tree one conditions inner End) (h.0, h.1, tt)) (records_formed area file next h.2)
+
+records_kept : (one : FileDescription) → description_rules one ≡ [] → forest_rules (outermost true) None (nested one.entries) ≡ []
+records_kept one e =
+    let levels = each level_rules one.entries in
+    let lost = each homeless (leading one.entries) in
+    let forest = forest_rules (outermost true) None (nested one.entries) in
+    let size = where_so (not (are_some most_record_bytes (record_length one.entries))) 69 one.name.place in
+    right_none (levels ++ lost) forest (left_none (levels ++ lost ++ forest) size e)
+
+files_formed : (area : ℕ) (files : List FileDescription) → each description_rules files ≡ [] → AllByRecursion IsFormedItem (file_places area files)
+files_formed area [] e = tt
+files_formed area (one ∷ more) e =
+    let forest = nested one.entries in
+    all_both IsFormedItem (record_places area one.name forest) (file_places (area + 1) more)
+    (records_formed area one.name forest
+    (forest_formed (outermost true) None forest (records_kept one (left_none (description_rules one) (each description_rules more) e))))
+    (files_formed (area + 1) more (right_none (description_rules one) (each description_rules more) e))
+
+-- the rules of FDs
+pub descriptions_kept : (items : List Placed) (program : Program) → program_file_rules items program ≡ []
+    → descriptions_rules program.storage program.files ≡ []
+descriptions_kept items program e =
+    let names = file_name_rules (select_names program.selects) (description_names program.files) in
+    let descriptions = descriptions_rules program.storage program.files in
+    let selects = each (select_rules items (storage_areas program.storage) program.files) program.selects in
+    right_none names descriptions (left_none (names ++ descriptions) selects e)
+
+-- the rules of each FD
+pub each_description : (program : Program) → descriptions_rules program.storage program.files ≡ [] → each description_rules program.files ≡ []
+each_description program e =
+    let entries = each excess (drop (most_entries - length program.storage) (file_entries program.files)) in
+    let own = each description_rules program.files in
+    let sizes = record_storage_rules (sum (area_lengths (nested program.storage))) program.files in
+    right_none entries own (left_none (entries ++ own) sizes e)
+
+pub conditions_formed : (program : Program) → entry_rules program.storage ≡ [] → descriptions_rules program.storage program.files ≡ []
+    → AreFormed (program_items program)
+conditions_formed program e f =
+    let parts = rule_parts program.storage e in
+    let storage = storage_formed 0 (nested program.storage) (forest_formed (outermost false) None (nested program.storage) parts.1) in
+    let files = files_formed (storage_areas program.storage) program.files (each_description program f) in
+    of_items (program_items program)
+    (all_both IsFormedItem (items_of program.storage) (file_places (storage_areas program.storage) program.files) storage files)

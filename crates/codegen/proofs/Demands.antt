@@ -30,15 +30,20 @@ use Rattle.source_tree.specs.Broken.{Broken, each}
 use Rattle.source_tree.specs.ConditionRules.{condition_rules, varying_rules, until_rules}
 use Rattle.source_tree.specs.Evaluate.{selected_asked}
 use Rattle.source_tree.specs.EvaluateRules.{selected_rules}
+use Rattle.source_tree.specs.Filing.{phrases_of}
+use Rattle.source_tree.specs.FilingRules.{filing_rules}
 use Rattle.source_tree.specs.MoveRules.{move_rules}
+use Rattle.source_tree.specs.ProgramFiles.{ProgramFile}
+use Rattle.source_tree.specs.declared.phrases.FilePhrases.{FilePhrases}
+use Rattle.source_tree.specs.declared.phrases.FilePhrases.TheVariants as file_phrases
 use Rattle.source_tree.specs.Performing.{turns_of}
 use Rattle.source_tree.specs.Procedures.{Range, range_of}
-use Rattle.source_tree.specs.Recursion.{Performance, each_performs, phrase_performs, range_performs, performed_performs, selected_performs, branching_performs, verb_performs, statement_performs, sentence_performs}
+use Rattle.source_tree.specs.Recursion.{Performance, each_performs, phrase_performs, file_phrases_performs, range_performs, performed_performs, selected_performs, branching_performs, verb_performs, statement_performs, sentence_performs}
 use Rattle.source_tree.specs.Setting.{Scope}
 use Rattle.source_tree.specs.Places.{Placed}
 use Rattle.source_tree.specs.Until.{vary_operation}
 use Rattle.source_tree.specs.StringRules.{string_rules}
-use Rattle.source_tree.specs.Rules.{phrase_rules, phrases_rules, performed_rules, turns_rules, branching_rules, verb_rules, statement_rules, sentence_rules}
+use Rattle.source_tree.specs.Rules.{phrase_rules, phrases_rules, performed_rules, turns_rules, branching_rules, file_phrases_rules, verb_rules, statement_rules, sentence_rules}
 use Rattle.data_instructions.specs.declared.instruction.DataInstruction.TheVariants as i
 use Rattle.code_image.specs.declared.code.Code.{Code}
 use Rattle.code_image.specs.declared.instruction.Instruction.{Instruction}
@@ -53,7 +58,7 @@ use Rattle.codegen.specs.ArithmeticCode.{arithmetic_piece}
 use Rattle.codegen.specs.StringCode.{string_piece}
 use Rattle.codegen.specs.ConditionCode.{condition_piece}
 use Rattle.codegen.specs.UntilCode.{tick_piece, turning_piece, until_before_piece, until_after_piece, until_from_piece, vary_begin_piece, vary_on_piece, until_piece}
-use Rattle.codegen.specs.Layout.{loop_begin, count_begin, turn_end, counted_turn, times_piece, counted_piece, range_piece, turn_piece, turns_piece, moving_piece, texts_piece, phrase_piece, phrases_from, phrases_piece, selecting_piece, branching_piece, stop_run_piece, verb_piece, statement_piece, sentence_piece}
+use Rattle.codegen.specs.Layout.{loop_begin, count_begin, turn_end, counted_turn, times_piece, counted_piece, range_piece, turn_piece, turns_piece, moving_piece, texts_piece, phrase_piece, phrases_from, phrases_piece, selecting_piece, branching_piece, stop_run_piece, filing_piece, verb_piece, statement_piece, sentence_piece}
 use Rattle.codegen.proofs.Codes.{left_none, right_none}
 use Rattle.codegen.proofs.Layers.{verb_map, rolled_is}
 use Rattle.codegen.proofs.Standing.{at_seam}
@@ -67,7 +72,9 @@ use Rattle.codegen.proofs.ArithmeticStraight.{arithmetic_straight}
 use Rattle.codegen.proofs.StringStraight.{string_straight}
 use Rattle.codegen.proofs.Inspections.{AreSized}
 use Rattle.codegen.proofs.TextStraight.{texts_straight}
-use Rattle.codegen.proofs.Leading.{none_end, stays_within, plain_names, Meets, both_meet, nothing_meets, straight_meets, branch_meets, either_meets}
+use Rattle.codegen.proofs.Leading.{none_end, stays_within, plain_names, Asks, Meets, both_meet, nothing_meets, straight_meets, branch_meets, either_meets}
+use Rattle.codegen.proofs.FileMeets.{PhrasesMeet, filing_meets}
+use Rattle.codegen.proofs.HasFiles.{IsNumbered, IsSuited}
 use Rattle.codegen.proofs.Ranges.{IsWithin, EndsWithin, FoundWithin, range_within}
 use Rattle.codegen.proofs.ConditionValues.{AreFormed}
 use Rattle.codegen.proofs.ConditionMeets.{condition_meets}
@@ -145,7 +152,11 @@ pub record IsPerformed (count : ℕ) (wanted : Range → Type 0) (range : Range)
   pub within : IsWithin count range
   pub asked : wanted range
 
-module _ (Q : Range → Type 0) where
+-- what is asked of ranges and of verbs
+abbrev pub asks_of : List ProgramFile → ℕ → (Range → Type 0) → Asks
+asks_of files count asked = record { ranges = IsPerformed count asked; verbs = IsSuited files }
+
+module _ (Q : Asks) where
   -- a piece, behind whatever code
   abbrev AlwaysMeets : Piece → Type 0
   AlwaysMeets piece = (before : Code) → Meets Q before (piece before)
@@ -316,12 +327,13 @@ module _ (Q : Range → Type 0) where
 
 -- `permits` and `asked` are what is asked of a range that is performed; procedures lie in so many paragraphs.
 module _ (scope : Scope) (permits : Range → Bool) (formed : AreFormed scope.items) (sized : AreSized scope.items) (count : ℕ)
-    (within : AllByRecursion (EndsWithin count) scope.procedures) (asked : Range → Type 0) where
+    (within : AllByRecursion (EndsWithin count) scope.procedures) (numbered : AllByRecursion (IsNumbered scope.files) scope.files)
+    (asked : Range → Type 0) where
   abbrev items : List Placed
   items = scope.items
 
-  abbrev Q : Range → Type 0
-  Q = IsPerformed count asked
+  abbrev Q : Asks
+  Q = asks_of scope.files count asked
 
   -- parts that keep rules and perform such ranges
   pub record AllMeet {A : Type 0} (rules : A → List Broken) (performs : A → List Performance) (piece : A → Piece) : Type 0 where
@@ -365,18 +377,25 @@ module _ (scope : Scope) (permits : Range → Bool) (formed : AreFormed scope.it
     phrase_meets None e q before = nothing_meets Q before
     phrase_meets (Some statements) e q before = in_order_meets rules performs inside each_one statements e q before
 
+    pair_meets : (arose did_not : Option (List S)) → phrase_rules rules arose ++ phrase_rules rules did_not ≡ []
+        → Asked asked (phrase_performs performs arose ++ phrase_performs performs did_not)
+        → AlwaysMeets Q (phrase_piece scope inside arose) × AlwaysMeets Q (phrase_piece scope inside did_not)
+    pair_meets arose did_not e q =
+        let P = λ (p : Performance). asked p.range in (
+          phrase_meets arose (left_none (phrase_rules rules arose) (phrase_rules rules did_not) e)
+              (all_front P (phrase_performs performs arose) (phrase_performs performs did_not) q),
+          phrase_meets did_not (right_none (phrase_rules rules arose) (phrase_rules rules did_not) e)
+              (all_back P (phrase_performs performs arose) (phrase_performs performs did_not) q),
+        )
+
     -- either of two phrases
     two_meet : (arose did_not : Option (List S)) → phrase_rules rules arose ++ phrase_rules rules did_not ≡ []
         → Asked asked (phrase_performs performs arose ++ phrase_performs performs did_not)
         → AlwaysMeets Q (either_piece (phrase_piece scope inside arose) (phrase_piece scope inside did_not))
     two_meet arose did_not e q =
-        let P = λ (p : Performance). asked p.range in
+        let met = pair_meets arose did_not e q in
         either_meets Q (phrase_piece scope inside arose) (phrase_piece scope inside did_not) (phrase_blind scope inside blind arose)
-        (phrase_blind scope inside blind did_not)
-        (phrase_meets arose (left_none (phrase_rules rules arose) (phrase_rules rules did_not) e)
-        (all_front P (phrase_performs performs arose) (phrase_performs performs did_not) q))
-        (phrase_meets did_not (right_none (phrase_rules rules arose) (phrase_rules rules did_not) e)
-        (all_back P (phrase_performs performs arose) (phrase_performs performs did_not) q))
+        (phrase_blind scope inside blind did_not) met.0 met.1
 
     phrases_meet : (arose did_not : Option (List S)) → phrase_rules rules arose ++ phrase_rules rules did_not ≡ []
         → Asked asked (phrase_performs performs arose ++ phrase_performs performs did_not)
@@ -384,6 +403,13 @@ module _ (scope : Scope) (permits : Range → Bool) (formed : AreFormed scope.it
     phrases_meet None None e q before = nothing_meets Q before
     phrases_meet (Some statements) other e q before = two_meet (Some statements) other e q before
     phrases_meet None (Some statements) e q before = two_meet None (Some statements) e q before
+
+    -- the phrases of a file statement
+    file_phrases_meet : (all : FilePhrases S) → file_phrases_rules rules all ≡ [] → Asked asked (file_phrases_performs performs all)
+        → PhrasesMeet Q scope numbered (λ number on_file is. is) inside (phrase_blind scope inside blind) all
+    file_phrases_meet file_phrases.Absent e q = tt
+    file_phrases_meet (file_phrases.AtEnd pair) e q = pair_meets pair.arose pair.did_not e q
+    file_phrases_meet (file_phrases.InvalidKey pair) e q = pair_meets pair.arose pair.did_not e q
 
     -- a condition, and the two ways behind it
     tested_meets : (condition : Condition) (first second : Piece) → condition_rules items condition ≡ [] → Blind first → Blind second
@@ -460,6 +486,11 @@ module _ (scope : Scope) (permits : Range → Bool) (formed : AreFormed scope.it
         pieces_meet Q (tick_piece line) (both part phrases) (tick_meets Q line)
         (pieces_meet Q part phrases (λ before. straight_meets Q before (part before) (string_straight items one.sendings one.receiver one.pointer before))
         (phrases_meet one.phrases.arose one.phrases.did_not (right_none (string_rules items one) (phrases_rules rules one.phrases) e) q))
+    verb_meets line (verb.Filing one) e q =
+        pieces_meet Q (tick_piece line) (filing_piece scope inside one) (tick_meets Q line)
+        (filing_meets Q scope numbered (λ number on_file is. is) inside (phrase_blind scope inside blind) one
+        (file_phrases_meet (phrases_of one)
+        (right_none (filing_rules scope.items scope.files one) (file_phrases_rules rules (phrases_of one)) e) q))
     verb_meets line (verb.Ending ending.StopRun) e q = stop_meets Q line
     verb_meets line (verb.Ending ending.Continue) e q = tick_meets Q line
     verb_meets line (verb.Ending ending.Exit) e q = tick_meets Q line

@@ -37,6 +37,8 @@ use Rattle.source_tree.specs.Broken.{Broken, each}
 use Rattle.source_tree.specs.ConditionRules.{condition_rules, varying_rules, until_rules}
 use Rattle.source_tree.specs.Evaluate.{selected_asked}
 use Rattle.source_tree.specs.EvaluateRules.{selected_rules}
+use Rattle.source_tree.specs.Filing.{phrases_of}
+use Rattle.source_tree.specs.FilingRules.{filing_rules}
 use Rattle.source_tree.specs.MoveRules.{sent_by, receives, move_rules}
 use Rattle.source_tree.specs.NameRules.{item_rules, any_item, operand_rules}
 use Rattle.source_tree.specs.Performing.{turns_of}
@@ -45,7 +47,7 @@ use Rattle.source_tree.specs.Procedures.{Range, range_of}
 use Rattle.source_tree.specs.Setting.{Scope}
 use Rattle.source_tree.specs.StringRules.{string_rules}
 use Rattle.source_tree.specs.Until.{vary_operation}
-use Rattle.source_tree.specs.Rules.{integer_item, moving_rules, text_rules, phrase_rules, phrases_rules, performed_rules, turns_rules, branching_rules, verb_rules, statement_rules, sentence_rules, paragraph_rules}
+use Rattle.source_tree.specs.Rules.{integer_item, moving_rules, text_rules, phrase_rules, phrases_rules, performed_rules, turns_rules, branching_rules, file_phrases_rules, verb_rules, statement_rules, sentence_rules, paragraph_rules}
 use Rattle.data_instructions.specs.declared.tables.DataTables.{DataTables}
 use Rattle.data_instructions.specs.declared.instruction.DataInstruction.{DataInstruction}
 use Rattle.data_instructions.specs.declared.instruction.DataInstruction.TheVariants as i
@@ -70,7 +72,7 @@ use Rattle.codegen.specs.ArithmeticCode.{arithmetic_piece}
 use Rattle.codegen.specs.ConditionCode.{condition_piece}
 use Rattle.codegen.specs.StringCode.{string_piece}
 use Rattle.codegen.specs.UntilCode.{tick_piece, turning_piece, until_before_piece, until_after_piece, until_from_piece, vary_begin_piece, vary_on_piece, until_piece}
-use Rattle.codegen.specs.Layout.{loop_begin, count_begin, turn_end, counted_turn, times_piece, counted_piece, turns_piece, range_piece, turn_piece, moving_piece, texts_piece, phrase_piece, phrases_from, phrases_piece, selecting_piece, branching_piece, verb_piece, statement_piece, sentence_piece, start_piece, back_piece, paragraph_piece}
+use Rattle.codegen.specs.Layout.{loop_begin, count_begin, turn_end, counted_turn, times_piece, counted_piece, turns_piece, range_piece, turn_piece, moving_piece, texts_piece, phrase_piece, phrases_from, phrases_piece, selecting_piece, branching_piece, filing_piece, verb_piece, statement_piece, sentence_piece, start_piece, back_piece, paragraph_piece}
 use Rattle.codegen.proofs.Codes.{left_none, right_none, taking_coded, move_coded, display_coded, accept_coded, date_coded}
 use Rattle.codegen.proofs.ArithmeticCodes.{arithmetic_coded}
 use Rattle.codegen.proofs.PatternCodes.{initializes_codes, sets_codes, lie_each, lie_conditions}
@@ -81,6 +83,8 @@ use Rattle.codegen.proofs.Layers.{verb_map, rolled_is}
 use Rattle.codegen.proofs.Standing.{Stands, front, back}
 use Rattle.codegen.proofs.Pieces.{joined_assoc}
 use Rattle.codegen.proofs.Blind.{Blind, in_order_blind}
+use Rattle.codegen.proofs.FilingFlows.{filing_flows}
+use Rattle.codegen.proofs.HasFiles.{HasFiles}
 use Rattle.codegen.proofs.Flowing.{rest, along_append, along_data, only_one, Flows, both_flow, nothing_flows, branch_flows, AllFlow, in_order_flows, BodyFlows, either_flows}
 use Rattle.codegen.proofs.ConditionBlind.{nothing_blind, condition_blind}
 use Rattle.codegen.proofs.ConditionFlows.{condition_flows}
@@ -359,7 +363,7 @@ module _ (items : List Placed) (whole : Code)
 
 -- ---- statements
 
-module _ (scope : Scope) (permits : Range → Bool) (whole : Code)
+module _ (scope : Scope) (permits : Range → Bool) (whole : Code) (has : HasFiles whole scope)
     (entries : (n : ℕ) (one : Placed) → slice_get scope.items n ≡ Some one → slice_get whole.tables.items n ≡ Some (data_item one))
     (order : IsTables whole.tables) (lie : (n : ℕ) (one : Placed) → slice_get scope.items n ≡ Some one → LiesWhole whole.tables one) where
   abbrev items : List Placed
@@ -468,6 +472,13 @@ module _ (scope : Scope) (permits : Range → Bool) (whole : Code)
         (pair_flows part phrases
         (record { by = λ before st. string_flows items whole entries order lie one before string_keeps st })
         (phrases_flow one.phrases.arose one.phrases.did_not phrases_keep))
+    verb_flows line (verb.Filing one) e =
+        let own = filing_rules scope.items scope.files one in
+        let inner = file_phrases_rules rules (phrases_of one) in
+        behind_tick line (filing_piece scope inside one)
+        (filing_flows scope whole has entries order lie (λ sender receivers keep. record {
+          by = λ before st. moving_flows items whole entries order lie (Move sender receivers) before keep st;
+        }) rules inside (phrase_blind scope inside blind) phrase_flows one (left_none own inner e) (right_none own inner e))
     verb_flows line (verb.Ending ending.StopRun) e = record { by = λ before st. record { by = λ sender. (None, refl) } }
     verb_flows line (verb.Ending ending.Continue) e = record { by = λ before st. record { by = λ sender. (None, refl) } }
     verb_flows line (verb.Ending ending.Exit) e = record { by = λ before st. record { by = λ sender. (None, refl) } }

@@ -8,6 +8,7 @@ use Rattle.source_tree.specs.declared.performing.Performed.TheVariants.{Procedur
 use Rattle.source_tree.specs.declared.performing.Turns.{Turns}
 use Rattle.source_tree.specs.declared.performing.Turns.TheVariants.{Once, Times, CountedBy, Until}
 use Rattle.source_tree.specs.declared.reference.Reference.{Reference}
+use Rattle.source_tree.specs.declared.filing.Filing.{Filing}
 use Rattle.source_tree.specs.declared.stringing.Sending.{Sending}
 use Rattle.source_tree.specs.declared.statement.Verb.{Verb}
 use Rattle.source_tree.specs.declared.statement.Verb.TheVariants as verb
@@ -19,6 +20,7 @@ use Rattle.source_tree.specs.Evaluate.{selected_asked}
 use Rattle.source_tree.specs.Performing.{turns_of}
 use Rattle.source_tree.specs.Places.{Placed}
 use Rattle.source_tree.specs.Setting.{Scope}
+use Rattle.check_rules.proofs.FilingLayers.{filing_mapped}
 use Rattle.codegen.specs.Pieces.{Piece, joined, both, in_order}
 use Rattle.codegen.specs.ArithmeticCode.{arithmetic_piece}
 use Rattle.source_tree.specs.declared.branching.Branching.{Branching}
@@ -37,6 +39,7 @@ use Rattle.codegen.specs.StringCode.{string_piece}
 use Rattle.codegen.specs.UntilCode.{tick_piece, turning_piece, until_from_piece, vary_begin_piece, vary_on_piece, until_piece}
 use Rattle.codegen.specs.Layout.{loop_begin, count_begin, turn_end, counted_turn, times_piece, counted_piece, turns_piece, turn_piece, phrase_piece, phrases_from, selecting_piece, verb_piece, statement_layer, statement_piece}
 use Rattle.codegen.proofs.Either.{either_map}
+use Rattle.codegen.proofs.FilingLayers.{filing_same}
 
 -- turns of pieces that are the same
 module _ (turn other : Piece) (same : (before : Code) → turn before ≡ other before) where
@@ -206,6 +209,14 @@ module _ (scope : Scope) {A B : Type 0} (f : A → B) (g : B → Piece) where
   branching_map place (branch.If condition statements otherwise) before = if_map place condition statements otherwise before
   branching_map place (branch.Evaluate one) before = evaluate_map place one.subjects one.selected one.other before
 
+  filing_map : (place : Place) (one : Filing A) (before : Code)
+      → verb_piece scope g place.line (map-Statement A B f (record { place = place; verb = verb.Filing one })).verb before
+      ≡ verb_piece scope (λ a. g (f a)) place.line (verb.Filing one) before
+  filing_map place one before =
+      let tick = tick_piece place.line before in
+      ap (λ (v : Verb B). verb_piece scope g place.line v before) (filing_mapped f place one)
+      ∙ ap (joined tick) (filing_same scope f g one (joined before tick))
+
   pub verb_map : (place : Place) (one : Verb A) (before : Code)
       → verb_piece scope g place.line (map-Statement A B f (record { place = place; verb = one })).verb before ≡ verb_piece scope (λ a. g (f a)) place.line one before
   verb_map place (verb.Moving one) before = refl
@@ -214,6 +225,7 @@ module _ (scope : Scope) {A B : Type 0} (f : A → B) (g : B → Piece) where
   verb_map place (verb.Performing one) before = performing_map place one.turns one.performed before
   verb_map place (verb.Text one) before = refl
   verb_map place (verb.Stringing one) before = stringing_map place one.sendings one.receiver one.pointer one.phrases.arose one.phrases.did_not before
+  verb_map place (verb.Filing one) before = filing_map place one before
   verb_map place (verb.Ending one) before = refl
 
 -- one layer of a statement's code

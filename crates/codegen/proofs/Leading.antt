@@ -2,10 +2,11 @@
 use Rattle.std.proofs.Common.{◌≡◌, ℕ, zero, suc, ◌+◌, ◌-◌, ◌≤◌, List, [], ◌∷◌, ◌++◌, length, Option, Some, None, refl, sym, ap, ◌∙◌, subst, inl, inr, ⊎_elim, arith, append_assoc, length-append}
 use Rattle.std.specs.Prelude.{◌⊎◌, slice_get, take}
 use Rattle.std.specs.List.{AllByRecursion}
+use Rattle.records.specs.declared.verb.Verb.{Verb}
 use Rattle.source_tree.specs.Procedures.{Range}
 use Rattle.code_image.specs.declared.code.Code.{Code}
 use Rattle.code_image.specs.declared.instruction.Instruction.{Instruction}
-use Rattle.code_image.specs.declared.instruction.Instruction.TheVariants.{Tick, Show, Stop, Count, CountNumber, Turn, Accept, Date, Branch, Jump, Join, Perform, Back, Data}
+use Rattle.code_image.specs.declared.instruction.Instruction.TheVariants.{Tick, Show, Stop, Count, CountNumber, Turn, Accept, Date, Branch, Jump, Join, Perform, Back, File, TestStatus, Unheard, Data}
 use Rattle.code_image.specs.Demands.{NamesCounter, UsesBudget, IsJoin, ends, ends_in, paragraph_at, Stays, LeadsOn, LeadsBack, Leads, AllLead}
 use Rattle.codegen.specs.Pieces.{Piece, nothing, joined, both, plain}
 use Rattle.codegen.specs.Meeting.{branch_code, jump_code, join_code, either_piece}
@@ -34,6 +35,9 @@ more_counters m n (Jump to) le h = tt
 more_counters m n Join le h = tt
 more_counters m n (Perform line first last) le h = tt
 more_counters m n (Back paragraph) le h = tt
+more_counters m n (File file verb) le h = tt
+more_counters m n (TestStatus class) le h = tt
+more_counters m n Unheard le h = tt
 
 -- ---- code paragraphs
 
@@ -145,6 +149,9 @@ leads_stay xs ys address (Jump to) from h = way_stays xs ys address to from h
 leads_stay xs ys address Join from h = tt
 leads_stay xs ys address (Perform line first last) from h = tt
 leads_stay xs ys address (Back paragraph) from h = h ∙ sym (paragraph_stays xs ys address from)
+leads_stay xs ys address (File file verb) from h = tt
+leads_stay xs ys address (TestStatus class) from h = tt
+leads_stay xs ys address Unheard from h = tt
 leads_stay xs ys address (Data one) from h = tt
 
 pub all_stay : (xs ys : List Instruction) (address : ℕ) (is : List Instruction) → address + length is ≤ length xs → LeadsFrom xs address is
@@ -173,12 +180,13 @@ all_lead whole h =
 
 -- ---- parts
 
--- A part names counters that stand before it or in it. It adds no area and no item, senders that have their
+-- A part names counters that stand before it or in it. It adds no area, no item and no file, senders that have their
 -- bytes, and inspections that have their texts.
 pub record Names (before part : Code) : Type 0 where
   pub counters : AllByRecursion (NamesCounter (length before.instructions + length part.instructions)) part.instructions
   pub areas : part.tables.areas ≡ []
   pub items : part.tables.items ≡ []
+  pub files : part.files ≡ []
   pub senders : AllByRecursion IsSent part.tables.senders
   pub inspections : AllByRecursion IsInspection part.tables.inspections
 
@@ -196,6 +204,7 @@ both_name before a b f s =
           (λ one h. more_counters _ _ one (omega (arith, i1, i2)) h) b.instructions s.counters);
       areas = ap (λ l. l ++ b.tables.areas) f.areas ∙ s.areas;
       items = ap (λ l. l ++ b.tables.items) f.items ∙ s.items;
+      files = ap (λ l. l ++ b.files) f.files ∙ s.files;
       senders = all_both IsSent a.tables.senders b.tables.senders f.senders s.senders;
       inspections = all_both IsInspection a.tables.inspections b.tables.inspections f.inspections s.inspections;
     }
@@ -203,11 +212,19 @@ both_name before a b f s =
 -- instructions that name nothing new
 pub plain_names : (before : Code) (all : List Instruction) → AllByRecursion (NamesCounter (length before.instructions + length all)) all
     → Names before (plain all)
-plain_names before all counters = record { counters = counters; areas = refl; items = refl; senders = tt; inspections = tt }
+plain_names before all counters = record { counters = counters; areas = refl; items = refl; files = refl; senders = tt; inspections = tt }
 
--- What is performed is so.
-abbrev pub PerformsOnly : (Range → Type 0) → Instruction → Type 0
-PerformsOnly Q (Perform line first last) = Q (record { first = first.number; last = last.number })
+-- What is asked of ranges that are performed, and of the verbs of file statements, by the numbers of their files.
+pub record Asks : Type 1 where
+  pub ranges : Range → Type 0
+  pub verbs : ℕ → Verb → Type 0
+
+-- What is performed and what is done to files is so.
+abbrev pub PerformsOnly : Asks → Instruction → Type 0
+PerformsOnly Q (Perform line first last) = Q.ranges (record { first = first.number; last = last.number })
+PerformsOnly Q (File file verb) = Q.verbs file.number verb
+PerformsOnly Q (TestStatus class) = Unit {0}
+PerformsOnly Q Unheard = Unit {0}
 PerformsOnly Q (Tick line) = Unit {0}
 PerformsOnly Q Show = Unit {0}
 PerformsOnly Q Stop = Unit {0}
@@ -222,8 +239,8 @@ PerformsOnly Q Join = Unit {0}
 PerformsOnly Q (Back paragraph) = Unit {0}
 PerformsOnly Q (Data one) = Unit {0}
 
--- Its ways lead where they may. No code paragraph starts or ends in it, and ranges that it performs are `Q`.
-pub record Meets (Q : Range → Type 0) (before part : Code) : Type 0 where
+-- Its ways lead where they may. No code paragraph starts or ends in it, and what it performs and does to files is `Q`.
+pub record Meets (Q : Asks) (before part : Code) : Type 0 where
   pub names : Names before part
   pub leads : LeadsFrom (before.instructions ++ part.instructions) (length before.instructions) part.instructions
   pub starts : part.starts ≡ []
@@ -260,6 +277,9 @@ names_none n (Jump to) h = absurd h
 names_none n Join h = absurd h
 names_none n (Perform line first last) h = absurd h
 names_none n (Back paragraph) h = absurd h
+names_none n (File file verb) h = absurd h
+names_none n (TestStatus class) h = absurd h
+names_none n Unheard h = absurd h
 
 leads_nowhere : (whole : List Instruction) (address : ℕ) (one : Instruction) → IsStraight one → Leads whole address (Some one)
 leads_nowhere whole address (Data one) h = tt
@@ -276,6 +296,9 @@ leads_nowhere whole address (Jump to) h = absurd h
 leads_nowhere whole address Join h = absurd h
 leads_nowhere whole address (Perform line first last) h = absurd h
 leads_nowhere whole address (Back paragraph) h = absurd h
+leads_nowhere whole address (File file verb) h = absurd h
+leads_nowhere whole address (TestStatus class) h = absurd h
+leads_nowhere whole address Unheard h = absurd h
 
 ends_nowhere : (one : Instruction) → IsStraight one → ends one ≡ 0
 ends_nowhere (Data one) h = refl
@@ -292,8 +315,11 @@ ends_nowhere (Jump to) h = absurd h
 ends_nowhere Join h = absurd h
 ends_nowhere (Perform line first last) h = absurd h
 ends_nowhere (Back paragraph) h = absurd h
+ends_nowhere (File file verb) h = absurd h
+ends_nowhere (TestStatus class) h = absurd h
+ends_nowhere Unheard h = absurd h
 
-performs_none : (Q : Range → Type 0) (one : Instruction) → IsStraight one → PerformsOnly Q one
+performs_none : (Q : Asks) (one : Instruction) → IsStraight one → PerformsOnly Q one
 performs_none Q (Data one) h = tt
 performs_none Q Show h = tt
 performs_none Q Accept h = tt
@@ -308,6 +334,9 @@ performs_none Q (Jump to) h = absurd h
 performs_none Q Join h = absurd h
 performs_none Q (Perform line first last) h = absurd h
 performs_none Q (Back paragraph) h = absurd h
+performs_none Q (File file verb) h = absurd h
+performs_none Q (TestStatus class) h = absurd h
+performs_none Q Unheard h = absurd h
 
 straight_leads : (whole : List Instruction) (address : ℕ) (all : List Instruction) → AllByRecursion IsStraight all → LeadsFrom whole address all
 straight_leads whole address [] h = tt
@@ -320,7 +349,7 @@ straight_none (one ∷ more) h =
     let f = straight_none more h.1 in
     omega (arith, e, f)
 
-module _ (Q : Range → Type 0) where
+module _ (Q : Asks) where
   pub both_meet : (before a b : Code) → Meets Q before a → Meets Q (joined before a) b → Meets Q before (joined a b)
   both_meet before a b f s = record {
     names = both_name before a b f.names s.names;
@@ -340,6 +369,7 @@ module _ (Q : Range → Type 0) where
           (λ one h. names_none (length before.instructions + length part.instructions) one h) part.instructions s.instructions;
       areas = s.areas;
       items = s.items;
+      files = s.files;
       senders = s.senders;
       inspections = s.inspections;
     };

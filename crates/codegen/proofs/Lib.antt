@@ -9,6 +9,8 @@ pub mod ConditionForms
 pub mod ConditionBlind
 pub mod UntilBlind
 pub mod BlindStrings
+pub mod BlindFiling
+pub mod FilingLayers
 pub mod BlindStatements
 -- What the code is made from
 pub mod Works
@@ -17,6 +19,10 @@ pub mod Meeting
 pub mod Opening
 pub mod ExpressionForms
 pub mod Kept
+pub mod FilingKept
+pub mod OneNamed
+pub mod FileParts
+pub mod OnFiles
 pub mod Operations
 pub mod NewBytes
 pub mod Subscripts
@@ -56,6 +62,10 @@ pub mod Turning
 pub mod Branching
 pub mod UntilTurns
 pub mod Counting
+pub mod HasFiles
+pub mod FileDoing
+pub mod MoveDoing
+pub mod FilingDoes
 pub mod Simulation
 pub mod Procedures
 pub mod ProgramDoes
@@ -68,12 +78,17 @@ pub mod Inspections
 pub mod TextStraight
 pub mod Flowing
 pub mod ConditionFlows
+pub mod FilingFlows
 pub mod Flows
 pub mod Leading
 pub mod ConditionMeets
 pub mod Ranges
+pub mod FileMeets
 pub mod Demands
 pub mod Paragraphs
+pub mod FileTable
+pub mod SentItems
+pub mod CodeFiles
 pub mod Verified
 -- The run is what the program means
 pub mod Meaning

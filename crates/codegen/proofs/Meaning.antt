@@ -21,15 +21,18 @@ use Rattle.source_tree.specs.Rules.{statement_rules, sentence_rules, paragraph_r
 use Rattle.source_tree.specs.Setting.{Scope, scope, paragraphs}
 use Rattle.source_tree.specs.State.{State}
 use Rattle.source_tree.specs.Storage.{Storage}
-use Rattle.source_tree.specs.Meaning.{start, meaning}
+use Rattle.source_tree.specs.Meaning.{closed_connectors, start, meaning}
+use Rattle.source_tree.specs.Records.{storage_areas}
 use Rattle.check_rules.proofs.Permitted.{permitted_kept}
+use Rattle.records.specs.Connector.{Connector, closed}
+use Rattle.file_tables.specs.declared.file.CodeFile.{CodeFile}
 use Rattle.code_image.specs.declared.code.Code.{Code}
-use Rattle.code_image.specs.Points.{nothing_own, start_state}
+use Rattle.code_image.specs.Points.{nothing_own, all_closed, start_state}
 use Rattle.code_image.specs.Table.{exec_code, Runs}
 use Rattle.codegen.specs.Pieces.{nothing, joined, in_order}
 use Rattle.codegen.specs.Layout.{section_piece, paragraph_piece, end_piece, storage_code, code_of}
 use Rattle.codegen.proofs.Codes.{left_none, right_none}
-use Rattle.codegen.proofs.ConditionValues.{conditions_formed}
+use Rattle.codegen.proofs.CodeFiles.{kept_at}
 use Rattle.codegen.proofs.Demands.{all_front, all_back, paragraph_meets}
 use Rattle.codegen.proofs.Pieces.{joined_assoc, joined_nothing, flat}
 use Rattle.codegen.proofs.Procedures.{Laid, AreBare, laid_out, below, below_is}
@@ -37,7 +40,8 @@ use Rattle.codegen.proofs.ProgramDoes.{range_ends}
 use Rattle.codegen.proofs.Ranges.{EndsWithin, FoundWithin, range_within, procedures_end}
 use Rattle.codegen.proofs.Running.{at}
 use Rattle.codegen.proofs.Standing.{Stands}
-use Rattle.codegen.proofs.Verified.{paragraphs_keep, entries_kept, sections_kept, areas_are, item_entries, items_sized, order, lies}
+use Rattle.codegen.proofs.FileTable.{as_many}
+use Rattle.codegen.proofs.Verified.{paragraphs_keep, sections_kept, formed_conditions, numbered, areas_are, files_are, item_entries, items_sized, has_files, order, lies}
 
 -- ---- rules that ask which ranges may be performed
 
@@ -103,12 +107,6 @@ module _ (height : ℕ → ℕ) where
     all_lower m ps h.1,
   )
 
--- one of a list that breaks no rule
-kept_at : {A : Type 0} (rules : A → List Broken) (all : List A) (n : ℕ) (one : A) → each rules all ≡ [] → slice_get all n ≡ Some one → rules one ≡ []
-kept_at rules [] n one e here = absurd cc
-kept_at rules (first ∷ more) zero one e here = subst (λ x. rules x ≡ []) (same_Some first one here) (left_none (rules first) (each rules more) e)
-kept_at rules (first ∷ more) (suc n) one e here = kept_at rules more n one (right_none (rules first) (each rules more) e) here
-
 nothing_asked : (xs : List Performance) → AllByRecursion (λ (p : Performance). Unit {0}) xs
 nothing_asked [] = tt
 nothing_asked (p ∷ ps) = (tt, nothing_asked ps)
@@ -132,7 +130,7 @@ module _ (program : Program) (keep : program_rules program ≡ []) (ordered : Ha
   code = code_of program
 
   abbrev storage : Code
-  storage = storage_code program.storage
+  storage = storage_code program
 
   all_keep : each (paragraph_rules found all_permitted) all ≡ []
   all_keep = paragraphs_keep found all_permitted program.sections (sections_kept program keep)
@@ -159,7 +157,7 @@ module _ (program : Program) (keep : program_rules program ≡ []) (ordered : Ha
   bare = record {
     by = λ n one here code.
         (paragraph_meets found all_permitted
-        (conditions_formed program.storage (entries_kept program keep)) (items_sized program keep) count within (λ (range : Range). Unit {0}) one.sentences
+        (formed_conditions program keep) (items_sized program keep) count within (numbered program keep) (λ (range : Range). Unit {0}) one.sentences
         (kept_at (paragraph_rules found all_permitted) all n one all_keep here)
         (nothing_asked (paragraph_performs found.procedures one)) code).starts;
   }
@@ -175,15 +173,21 @@ module _ (program : Program) (keep : program_rules program ≡ []) (ordered : Ha
   laid : Laid code found all
   laid = laid_out code found all storage refl refl bare stands
 
+  -- all files are closed
+  connectors_are : all_closed code ≡ closed_connectors program.selects
+  connectors_are =
+      ap (map (λ (one : CodeFile). closed)) (files_are program keep)
+      ∙ as_many found.items (storage_areas program.storage) program.files 0 program.selects
+
   -- the code begins with what the program does
   begins : (given : Given) → start_state code given ≡ start program given
   begins given =
-      ap (λ (storage : Storage). record { budget = given.budget; line = 0; day = given.day; lines = given.lines; storage = storage; events = [] })
-      (areas_are program keep)
+      ap (λ (storage : Storage). record (start_state code given) { storage = storage }) (areas_are program keep)
+      ∙ ap (λ (connectors : List Connector). record (start program given) { connectors = connectors }) connectors_are
 
   pub runs : (given : Given) → Runs code given (meaning program given)
   runs given =
-      let ended = range_ends code found (item_entries program keep) (order program keep) (lies program keep) all laid height lower_keep there
+      let ended = range_ends code found (has_files program keep) (item_entries program keep) (order program keep) (lies program keep) all laid height lower_keep there
       (suc given.budget) 0 all (nothing_own code) (start program given)
       refl (omega arith) refl (omega arith) (record { counters = length-replicate (length code.instructions) 0; line = refl }) in
       let first = subst (λ (p : ℕ). (j : ℕ) ×

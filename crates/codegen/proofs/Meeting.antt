@@ -5,6 +5,7 @@ use Rattle.std.proofs.lemmas.List.{append-nil}
 use Rattle.source_tree.specs.Arithmetic.{is_there}
 use Rattle.source_tree.specs.Setting.{Scope}
 use Rattle.data_instructions.specs.declared.tables.DataTables.{DataTables}
+use Rattle.file_tables.specs.declared.file.CodeFile.{CodeFile}
 use Rattle.code_image.specs.declared.code.Code.{Code}
 use Rattle.code_image.specs.declared.instruction.Instruction.{Instruction}
 use Rattle.code_image.specs.declared.instruction.Instruction.TheVariants.{Branch, Jump, Join}
@@ -62,19 +63,22 @@ module _ (first second : Piece) (before : Code) where
       ∙ tables_assoc before.tables way_one.tables way_two.tables
       ∙ ap (λ (t : DataTables). joined_tables before.tables (joined_tables way_one.tables t)) (sym (tables_nothing way_two.tables))
 
-  starts_meet : middle_code.starts ++ way_two.starts ≡ before.starts ++ (way_one.starts ++ (way_two.starts ++ []))
-  starts_meet =
-      ap (λ (l : List ℕ). (before.starts ++ l) ++ way_two.starts) (append-nil way_one.starts)
-      ∙ append_assoc before.starts way_one.starts way_two.starts
-      ∙ ap (λ (l : List ℕ). before.starts ++ (way_one.starts ++ l)) (sym (append-nil way_two.starts))
+  lists_meet : {A : Type 0} (front one two : List A) → (front ++ (one ++ [])) ++ two ≡ front ++ (one ++ (two ++ []))
+  lists_meet {A} front one two =
+      ap (λ (l : List A). (front ++ l) ++ two) (append-nil one)
+      ∙ append_assoc front one two
+      ∙ ap (λ (l : List A). front ++ (one ++ l)) (sym (append-nil two))
 
-  same_code : (a b : DataTables) (s t : List ℕ) (i j : List Instruction) → a ≡ b → s ≡ t → i ≡ j
-      → (let x : Code = record { tables = a; starts = s; instructions = i } in let y : Code = record { tables = b; starts = t; instructions = j } in x ≡ y)
-  same_code a b s t i j p q r = cc
+  same_code : (a b : DataTables) (f g : List CodeFile) (s t : List ℕ) (i j : List Instruction) → a ≡ b → f ≡ g → s ≡ t → i ≡ j
+      → (let x : Code = record { tables = a; files = f; starts = s; instructions = i } in
+      let y : Code = record { tables = b; files = g; starts = t; instructions = j } in x ≡ y)
+  same_code a b f g s t i j p q r u = cc
 
   -- the code of both, with the way of each
   pub ways_meet : met (length before.instructions) (length middle_code.instructions) (joined middle_code way_two) ≡ joined before (either_piece first second before)
-  ways_meet = same_code _ _ _ _ _ _ tables_meet starts_meet (mended_ways before.instructions way_one.instructions way_two.instructions)
+  ways_meet =
+      same_code _ _ _ _ _ _ _ _ tables_meet (lists_meet before.files way_one.files way_two.files)
+      (lists_meet before.starts way_one.starts way_two.starts) (mended_ways before.instructions way_one.instructions way_two.instructions)
 
 -- The same of code that was put together step by step.
 pub meeting : (first second : Piece) (before begun one middle two end : Code) (branch other : ℕ)

@@ -9,20 +9,22 @@ use Rattle.perform_order.specs.Order.{IsRange}
 use Rattle.source_tree.specs.declared.program.Paragraph.{Paragraph}
 use Rattle.source_tree.specs.Broken.{each}
 use Rattle.source_tree.specs.Procedures.{Range}
+use Rattle.source_tree.specs.ProgramFiles.{ProgramFile}
 use Rattle.source_tree.specs.Recursion.{Performance, paragraph_performs, by_paragraph, performs_from}
 use Rattle.source_tree.specs.Rules.{paragraph_rules}
 use Rattle.source_tree.specs.Setting.{Scope}
 use Rattle.code_image.specs.declared.code.Code.{Code}
 use Rattle.code_image.specs.declared.instruction.Instruction.{Instruction}
-use Rattle.code_image.specs.declared.instruction.Instruction.TheVariants.{Tick, Show, Stop, Count, CountNumber, Turn, Accept, Date, Branch, Jump, Join, Perform, Back, Data}
+use Rattle.code_image.specs.declared.instruction.Instruction.TheVariants.{Tick, Show, Stop, Count, CountNumber, Turn, Accept, Date, Branch, Jump, Join, Perform, Back, File, TestStatus, Unheard, Data}
 use Rattle.code_image.specs.Demands.{NamesParagraph, IsBack, ends, ends_in, paragraph_at, IsFront, StartsAt, performs, performed_from}
 use Rattle.codegen.specs.Pieces.{nothing, joined, in_order}
 use Rattle.codegen.specs.Layout.{sentence_piece, start_piece, back_piece, paragraph_piece}
 use Rattle.codegen.proofs.Codes.{left_none, right_none}
 use Rattle.codegen.proofs.ConditionValues.{AreFormed}
 use Rattle.codegen.proofs.Inspections.{AreSized}
-use Rattle.codegen.proofs.Demands.{Asked, IsPerformed, paragraph_meets}
-use Rattle.codegen.proofs.Leading.{ends_append, taken_behind, paragraph_stays, paragraph_within, LeadsFrom, found_stays, both_ways, Names, both_name, plain_names, PerformsOnly, Meets}
+use Rattle.codegen.proofs.Demands.{Asked, asks_of, paragraph_meets}
+use Rattle.codegen.proofs.HasFiles.{IsNumbered, IsSuited}
+use Rattle.codegen.proofs.Leading.{ends_append, taken_behind, paragraph_stays, paragraph_within, LeadsFrom, found_stays, both_ways, Names, both_name, plain_names, all_weaker, Asks, PerformsOnly, Meets}
 use Rattle.codegen.proofs.Ranges.{EndsWithin}
 use Rattle.codegen.proofs.Standing.{at_seam}
 use Rattle.codegen.proofs.Straight.{all_both}
@@ -39,8 +41,8 @@ performed_append number (x ∷ xs) ys =
     ∙ sym (append_assoc (performs number x) (performed_from (number + ends x) xs) (performed_from (number + (ends x + ends_in xs)) ys))
 
 -- `Q`: of ranges that code paragraph `number` performs
-module _ (number : ℕ) (Q : Range → Type 0) (R : PerformedRange → Type 0)
-    (gives : (range : Range) → Q range → R (record { performer = number; first = range.first; last = range.last })) where
+module _ (number : ℕ) (Q : Asks) (R : PerformedRange → Type 0)
+    (gives : (range : Range) → Q.ranges range → R (record { performer = number; first = range.first; last = range.last })) where
   one_performed : (one : Instruction) → PerformsOnly Q one → AllByRecursion R (performs number one)
   one_performed (Perform line first last) h = (gives (record { first = first.number; last = last.number }) h, tt)
   one_performed (Tick line) h = tt
@@ -55,6 +57,9 @@ module _ (number : ℕ) (Q : Range → Type 0) (R : PerformedRange → Type 0)
   one_performed (Jump to) h = tt
   one_performed Join h = tt
   one_performed (Back paragraph) h = tt
+  one_performed (File file verb) h = tt
+  one_performed (TestStatus class) h = tt
+  one_performed Unheard h = tt
   one_performed (Data one) h = tt
 
   all_performed : (all : List Instruction) → ends_in all ≡ 0 → AllByRecursion (PerformsOnly Q) all → AllByRecursion R (performed_from number all)
@@ -64,8 +69,32 @@ module _ (number : ℕ) (Q : Range → Type 0) (R : PerformedRange → Type 0)
       all_both R (performs number one) (performed_from (number + ends one) more) (one_performed one h.0)
       (subst (λ n. AllByRecursion R (performed_from n more)) e (all_performed more (omega (arith, none)) h.1))
 
-module _ (count : ℕ) (asked : Range → Type 0) where
-  names_paragraph : (one : Instruction) → ends one ≡ 0 → PerformsOnly (IsPerformed count asked) one → NamesParagraph count one
+-- The verb of a file statement suits its file.
+abbrev pub IsSuitedAt : List ProgramFile → Instruction → Type 0
+IsSuitedAt files (File file verb) = IsSuited files file.number verb
+IsSuitedAt files _ = Unit {0}
+
+module _ (files : List ProgramFile) (count : ℕ) (asked : Range → Type 0) where
+  suited_at : (one : Instruction) → PerformsOnly (asks_of files count asked) one → IsSuitedAt files one
+  suited_at (File file verb) h = h
+  suited_at (Perform line first last) h = tt
+  suited_at (Tick line) h = tt
+  suited_at Show h = tt
+  suited_at Stop h = tt
+  suited_at (Count counter turns) h = tt
+  suited_at (CountNumber counter) h = tt
+  suited_at (Turn counter to) h = tt
+  suited_at Accept h = tt
+  suited_at Date h = tt
+  suited_at (Branch to) h = tt
+  suited_at (Jump to) h = tt
+  suited_at Join h = tt
+  suited_at (Back paragraph) h = tt
+  suited_at (TestStatus class) h = tt
+  suited_at Unheard h = tt
+  suited_at (Data one) h = tt
+
+  names_paragraph : (one : Instruction) → ends one ≡ 0 → PerformsOnly (asks_of files count asked) one → NamesParagraph count one
   names_paragraph (Perform line first last) none h = let le = h.within.first in let lt = h.within.last in (omega (arith, le, lt), lt)
   names_paragraph (Tick line) none h = tt
   names_paragraph Show none h = tt
@@ -79,9 +108,12 @@ module _ (count : ℕ) (asked : Range → Type 0) where
   names_paragraph (Jump to) none h = tt
   names_paragraph Join none h = tt
   names_paragraph (Back paragraph) none h = absurd (omega (arith, none))
+  names_paragraph (File file verb) none h = tt
+  names_paragraph (TestStatus class) none h = tt
+  names_paragraph Unheard none h = tt
   names_paragraph (Data one) none h = tt
 
-  name_paragraphs : (all : List Instruction) → ends_in all ≡ 0 → AllByRecursion (PerformsOnly (IsPerformed count asked)) all
+  name_paragraphs : (all : List Instruction) → ends_in all ≡ 0 → AllByRecursion (PerformsOnly (asks_of files count asked)) all
       → AllByRecursion (NamesParagraph count) all
   name_paragraphs [] none h = tt
   name_paragraphs (one ∷ more) none h = (names_paragraph one (omega (arith, none)) h.0, name_paragraphs more (omega (arith, none)) h.1)
@@ -132,8 +164,8 @@ pub record IsReady (before : Code) : Type 0 where
   pub ends : ends_in before.instructions ≡ length before.starts
   pub front : IsFront before.instructions (length before.instructions)
 
--- So many code paragraphs of `count` in all; what they perform is `P`.
-pub record AreParagraphs (count : ℕ) (P : PerformedRange → Type 0) (many : ℕ) (before part : Code) : Type 0 where
+-- So many code paragraphs of `count` in all; what they perform is `P`, and what they do to files suits these.
+pub record AreParagraphs (files : List ProgramFile) (count : ℕ) (P : PerformedRange → Type 0) (many : ℕ) (before part : Code) : Type 0 where
   pub names : Names before part
   pub leads : LeadsFrom (before.instructions ++ part.instructions) (length before.instructions) part.instructions
   pub many_are : length part.starts ≡ many
@@ -141,11 +173,12 @@ pub record AreParagraphs (count : ℕ) (P : PerformedRange → Type 0) (many : �
   pub starts : StartFrom (before.instructions ++ part.instructions) (length before.starts) part.starts
   pub ready : IsFront (before.instructions ++ part.instructions) (length (before.instructions ++ part.instructions))
   pub paragraphs : AllByRecursion (NamesParagraph count) part.instructions
+  pub suited : AllByRecursion (IsSuitedAt files) part.instructions
   pub ranges : AllByRecursion (IsRange count) (performed_from (length before.starts) part.instructions)
   pub performed : AllByRecursion P (performed_from (length before.starts) part.instructions)
 
-module _ (count : ℕ) (P : PerformedRange → Type 0) where
-  no_paragraphs : (before : Code) → IsReady before → AreParagraphs count P 0 before nothing
+module _ (files : List ProgramFile) (count : ℕ) (P : PerformedRange → Type 0) where
+  no_paragraphs : (before : Code) → IsReady before → AreParagraphs files count P 0 before nothing
   no_paragraphs before is = record {
     names = plain_names before [] tt;
     leads = tt;
@@ -154,12 +187,13 @@ module _ (count : ℕ) (P : PerformedRange → Type 0) where
     starts = tt;
     ready = subst (λ l. IsFront l (length l)) (sym (append-nil before.instructions)) is.front;
     paragraphs = tt;
+    suited = tt;
     ranges = tt;
     performed = tt;
   }
 
   -- code behind which another code paragraph may start
-  ready_behind : (many : ℕ) (before part : Code) → IsReady before → AreParagraphs count P many before part → IsReady (joined before part)
+  ready_behind : (many : ℕ) (before part : Code) → IsReady before → AreParagraphs files count P many before part → IsReady (joined before part)
   ready_behind many before part is h =
       let n = length-append before.starts part.starts in
       let m = ends_append before.instructions part.instructions in
@@ -168,8 +202,8 @@ module _ (count : ℕ) (P : PerformedRange → Type 0) where
       let c = h.many_are in
       record { ends = omega (arith, n, m, a, b, c); front = h.ready }
 
-  both_paragraphs : (m n : ℕ) (before a b : Code) → AreParagraphs count P m before a → AreParagraphs count P n (joined before a) b
-      → AreParagraphs count P (m + n) before (joined a b)
+  both_paragraphs : (m n : ℕ) (before a b : Code) → AreParagraphs files count P m before a → AreParagraphs files count P n (joined before a) b
+      → AreParagraphs files count P (m + n) before (joined a b)
   both_paragraphs m n before a b f s =
       let is = append_assoc before.instructions a.instructions b.instructions in
       let so_many = length-append a.starts b.starts in
@@ -194,6 +228,7 @@ module _ (count : ℕ) (P : PerformedRange → Type 0) where
             (subst (λ k. StartFrom ((before.instructions ++ a.instructions) ++ b.instructions) k b.starts) in_all s.starts));
         ready = subst (λ l. IsFront l (length l)) is s.ready;
         paragraphs = all_both (NamesParagraph count) a.instructions b.instructions f.paragraphs s.paragraphs;
+        suited = all_both (IsSuitedAt files) a.instructions b.instructions f.suited s.suited;
         ranges = subst (AllByRecursion (IsRange count)) (sym performs_is)
             (all_both (IsRange count) front back f.ranges
             (subst (λ k. AllByRecursion (IsRange count) (performed_from k b.instructions)) number s.ranges));
@@ -207,11 +242,11 @@ module _ (count : ℕ) (P : PerformedRange → Type 0) where
 
   -- A code paragraph starts, statements stand in it, and it ends.
   one_paragraph : (before body : Code) → IsReady before → length before.starts < count
-      → Meets (IsPerformed count (asked_of (length before.starts))) (joined before (start_piece before)) body
-      → AreParagraphs count P 1 before (joined (start_piece before) (joined body (back_piece (length before.starts) before)))
+      → Meets (asks_of files count (asked_of (length before.starts))) (joined before (start_piece before)) body
+      → AreParagraphs files count P 1 before (joined (start_piece before) (joined body (back_piece (length before.starts) before)))
   one_paragraph before body is lt met =
       let number : ℕ = length before.starts in
-      let Q = IsPerformed count (asked_of number) in
+      let Q = asks_of files count (asked_of number) in
       let start = start_piece before in
       let front = joined before start in
       let last = back_piece number before in
@@ -252,7 +287,7 @@ module _ (count : ℕ) (P : PerformedRange → Type 0) where
       let asked : AllByRecursion P (performed_from number body.instructions) =
       all_performed number Q P (λ range h. h.asked) body.instructions none given in
       record {
-        names = both_name before start (joined body last) (record { counters = tt; areas = refl; items = refl; senders = tt; inspections = tt })
+        names = both_name before start (joined body last) (record { counters = tt; areas = refl; items = refl; files = refl; senders = tt; inspections = tt })
             (both_name front body last met.names (plain_names middle last.instructions (tt, tt)));
         leads = both_ways before start (joined body last) tt (both_ways front body last met.leads back_leads);
         many_are = ap length starts_is;
@@ -269,7 +304,9 @@ module _ (count : ℕ) (P : PerformedRange → Type 0) where
         );
         ready = inr (subst IsBack (sym (ap (slice_get whole) at_end ∙ seam)) tt);
         paragraphs = all_both (NamesParagraph count) body.instructions last.instructions
-            (name_paragraphs count (asked_of number) body.instructions none given) (lt, tt);
+            (name_paragraphs files count (asked_of number) body.instructions none given) (lt, tt);
+        suited = all_both (IsSuitedAt files) body.instructions last.instructions
+            (all_weaker (PerformsOnly Q) (IsSuitedAt files) (suited_at files count (asked_of number)) body.instructions given) (tt, tt);
         ranges = subst (AllByRecursion (IsRange count)) (sym performs_is)
             (all_both (IsRange count) (performed_from number body.instructions)
             (performed_from (number + ends_in body.instructions) last.instructions) ranges tt);
@@ -286,29 +323,30 @@ module _ (count : ℕ) (P : PerformedRange → Type 0) where
   first_asked number [] more h = (tt, h)
   first_asked number (one ∷ all) more h = let rest = first_asked number all more h.1 in ((h.0, rest.0), rest.1)
 
-  module _ (scope : Scope) (permits : Range → Bool) (formed : AreFormed scope.items) (sized : AreSized scope.items)
-      (within : AllByRecursion (EndsWithin count) scope.procedures) where
+module _ (scope : Scope) (count : ℕ) (P : PerformedRange → Type 0) where
+  module _ (permits : Range → Bool) (formed : AreFormed scope.items) (sized : AreSized scope.items)
+      (within : AllByRecursion (EndsWithin count) scope.procedures) (numbered : AllByRecursion (IsNumbered scope.files) scope.files) where
     pub paragraphs_lie : (all : List Paragraph) (before : Code) → IsReady before → length before.starts + length all ≤ count
         → each (paragraph_rules scope permits) all ≡ []
         → AllByRecursion P (map (λ one. one.1) (performs_from scope.procedures (length before.starts) all))
-        → AreParagraphs count P (length all) before (in_order (paragraph_piece scope) all before)
-    paragraphs_lie [] before is le e q = no_paragraphs before is
+        → AreParagraphs scope.files count P (length all) before (in_order (paragraph_piece scope) all before)
+    paragraphs_lie [] before is le e q = no_paragraphs scope.files count P before is
     paragraphs_lie (one ∷ more) before is le e q =
         let number : ℕ = length before.starts in
         let start = start_piece before in
         let body = in_order (sentence_piece scope) one.sentences (joined before start) in
         let part = paragraph_piece scope one before in
         let next = joined before part in
-        let split = first_asked number (paragraph_performs scope.procedures one) (performs_from scope.procedures (number + 1) more) q in
-        let met = paragraph_meets scope permits formed sized count within (asked_of number) one.sentences
+        let split = first_asked scope.files count P number (paragraph_performs scope.procedures one) (performs_from scope.procedures (number + 1) more) q in
+        let met = paragraph_meets scope permits formed sized count within numbered (asked_of scope.files count P number) one.sentences
         (left_none (paragraph_rules scope permits one) (each (paragraph_rules scope permits) more) e) split.0 (joined before start) in
-        let first = one_paragraph before body is (omega (arith, le)) met in
+        let first = one_paragraph scope.files count P before body is (omega (arith, le)) met in
         let in_all = length-append before.starts part.starts in
         let many = first.many_are in
         let so_far : number + 1 ≡ length next.starts = omega (arith, in_all, many) in
-        let rest = paragraphs_lie more next (ready_behind 1 before part is first) (omega (arith, le, so_far))
+        let rest = paragraphs_lie more next (ready_behind scope.files count P 1 before part is first) (omega (arith, le, so_far))
         (right_none (paragraph_rules scope permits one) (each (paragraph_rules scope permits) more) e)
         (subst (λ n. AllByRecursion P (map (λ one. one.1) (performs_from scope.procedures n more))) so_far split.1) in
         let sum : 1 + length more ≡ length (one ∷ more) = omega arith in
-        subst (λ n. AreParagraphs count P n before (joined part (in_order (paragraph_piece scope) more next))) sum
-        (both_paragraphs 1 (length more) before part (in_order (paragraph_piece scope) more next) first rest)
+        subst (λ n. AreParagraphs scope.files count P n before (joined part (in_order (paragraph_piece scope) more next))) sum
+        (both_paragraphs scope.files count P 1 (length more) before part (in_order (paragraph_piece scope) more next) first rest)

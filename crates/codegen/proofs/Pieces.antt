@@ -9,6 +9,7 @@ use Rattle.data_instructions.specs.declared.tables.DataItem.{DataItem}
 use Rattle.data_instructions.specs.declared.tables.LiteralSender.{LiteralSender}
 use Rattle.data_instructions.specs.declared.tables.Inspection.{Inspection}
 use Rattle.data_instructions.specs.declared.tables.DataTables.{DataTables}
+use Rattle.file_tables.specs.declared.file.CodeFile.{CodeFile}
 use Rattle.code_image.specs.declared.code.Code.{Code}
 use Rattle.code_image.specs.declared.instruction.Instruction.{Instruction}
 use Rattle.codegen.specs.Pieces.{Piece, no_tables, nothing, joined_tables, joined, both, in_order}
@@ -18,9 +19,10 @@ made_tables : (a b : List (List ℕ)) (c d : List DataItem) (e f : List Fraction
     → (let x : DataTables = record { areas = a; items = c; numbers = e; senders = g; texts = i; inspections = k } in let y : DataTables = record { areas = b; items = d; numbers = f; senders = h; texts = j; inspections = l } in x ≡ y)
 made_tables a b c d e f g h i j k l p q r s t u = cc
 
-made_code : (a b : DataTables) (s t : List ℕ) (i j : List Instruction) → a ≡ b → s ≡ t → i ≡ j
-    → (let x : Code = record { tables = a; starts = s; instructions = i } in let y : Code = record { tables = b; starts = t; instructions = j } in x ≡ y)
-made_code a b s t i j p q r = cc
+made_code : (a b : DataTables) (f g : List CodeFile) (s t : List ℕ) (i j : List Instruction) → a ≡ b → f ≡ g → s ≡ t → i ≡ j
+    → (let x : Code = record { tables = a; files = f; starts = s; instructions = i } in
+    let y : Code = record { tables = b; files = g; starts = t; instructions = j } in x ≡ y)
+made_code a b f g s t i j p q r u = cc
 
 pub tables_assoc : (a b c : DataTables) → joined_tables (joined_tables a b) c ≡ joined_tables a (joined_tables b c)
 tables_assoc a b c =
@@ -31,10 +33,11 @@ pub tables_nothing : (a : DataTables) → joined_tables a no_tables ≡ a
 tables_nothing a = made_tables _ _ _ _ _ _ _ _ _ _ _ _ (append-nil a.areas) (append-nil a.items) (append-nil a.numbers) (append-nil a.senders) (append-nil a.texts) (append-nil a.inspections)
 
 pub joined_assoc : (a b c : Code) → joined (joined a b) c ≡ joined a (joined b c)
-joined_assoc a b c = made_code _ _ _ _ _ _ (tables_assoc a.tables b.tables c.tables) (append_assoc a.starts b.starts c.starts) (append_assoc a.instructions b.instructions c.instructions)
+joined_assoc a b c =
+    made_code _ _ _ _ _ _ _ _ (tables_assoc a.tables b.tables c.tables) (append_assoc a.files b.files c.files) (append_assoc a.starts b.starts c.starts) (append_assoc a.instructions b.instructions c.instructions)
 
 pub joined_nothing : (a : Code) → joined a nothing ≡ a
-joined_nothing a = made_code _ _ _ _ _ _ (tables_nothing a.tables) (append-nil a.starts) (append-nil a.instructions)
+joined_nothing a = made_code _ _ _ _ _ _ _ _ (tables_nothing a.tables) (append-nil a.files) (append-nil a.starts) (append-nil a.instructions)
 
 -- what is there, with what is still to come, is the whole
 module _ {A : Type 0} (piece : A → Piece) where

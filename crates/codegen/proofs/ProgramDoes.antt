@@ -33,6 +33,7 @@ use Rattle.codegen.proofs.Standing.{front, back, first_stands}
 use Rattle.codegen.proofs.Running.{at, one_step}
 use Rattle.codegen.proofs.Doing.{end_of, Keeps, keeps_all, Comes, Does, PartDoes, Sits, IsRoom, still_room, steps_to, wider, moved_from, Follows, in_order_does}
 use Rattle.codegen.proofs.Simulation.{Performs, verb_does}
+use Rattle.codegen.proofs.HasFiles.{HasFiles}
 use Rattle.codegen.proofs.Procedures.{Laid, below, is_below}
 
 -- ---- what is left of a list
@@ -76,7 +77,7 @@ module _ (whole : Code) where
           steps_to whole address newest.next cs (record cs { returns = older }) s s (omega arith) (newest_step true (eq-eqb newest.last n same))
 
 -- Paragraphs whose PERFORMs perform lower ones.
-module _ (whole : Code) (scope : Scope)
+module _ (whole : Code) (scope : Scope) (has : HasFiles whole scope)
     (entries : (n : ℕ) (one : Placed) → slice_get scope.items n ≡ Some one → slice_get whole.tables.items n ≡ Some (data_item one))
     (order : IsTables whole.tables)
     (lie : (n : ℕ) (one : Placed) → slice_get scope.items n ≡ Some one → LiesWhole whole.tables one) (all : List Paragraph)
@@ -326,7 +327,7 @@ module _ (whole : Code) (scope : Scope)
         let is = statement_is scope one before in
         let now = out-Statement one in
         subst (λ (c : Code). PartDoes whole (Relies high) before c cs s (exec around (suc depth) one s)) (sym is)
-        (verb_does whole (Relies high) scope entries order lie (λ (found : Range). found.last < length all) there depth (below height high)
+        (verb_does whole (Relies high) scope has entries order lie (λ (found : Range). found.last < length all) there depth (below height high)
         (statement_rules scope (below height high)) (exec around depth)
         (ranged (exec around depth) all) (statement_piece scope) (statement_does depth high) (performs depth (statement_does depth) high)
         (statement_blind scope) (exec_runs around depth)

@@ -34,9 +34,10 @@ use Rattle.source_tree.specs.Conditions.{holds}
 use Rattle.source_tree.specs.Evaluate.{one_of, selected_asked, selecting}
 use Rattle.source_tree.specs.EvaluateRules.{selected_rules}
 use Rattle.source_tree.specs.Evaluated.{Fault, Evaluated, ◌>>=◌}
+use Rattle.source_tree.specs.Filing.{phrases_of, filing}
+use Rattle.source_tree.specs.FilingRules.{filing_rules}
 use Rattle.source_tree.specs.Initializing.{initialize, set}
 use Rattle.source_tree.specs.MoveRules.{move_rules}
-use Rattle.source_tree.specs.Moving.{taken_of, move_to_each}
 use Rattle.source_tree.specs.PerformRules.{procedure_named, last_named, last_place, found_rules, range_rules}
 use Rattle.source_tree.specs.Places.{Placed}
 use Rattle.source_tree.specs.Procedures.{Range, range_of}
@@ -44,7 +45,7 @@ use Rattle.source_tree.specs.Showing.{displayed}
 use Rattle.source_tree.specs.Storage.{Storage}
 use Rattle.source_tree.specs.StringRules.{string_rules}
 use Rattle.source_tree.specs.Stringing.{string, stringing}
-use Rattle.source_tree.specs.Rules.{moving_rules, text_rules, phrase_rules, phrases_rules, arithmetic_rules, stringing_rules, performed_rules, turns_rules, branching_rules, verb_rules}
+use Rattle.source_tree.specs.Rules.{moving_rules, text_rules, phrase_rules, phrases_rules, arithmetic_rules, stringing_rules, performed_rules, turns_rules, branching_rules, file_phrases_rules, verb_rules}
 use Rattle.source_tree.specs.State.{State, Outcome, Done, showing, in_turn, spend, with_value, changing}
 use Rattle.source_tree.specs.Setting.{Scope}
 use Rattle.source_tree.specs.Texts.{texts}
@@ -62,7 +63,7 @@ use Rattle.data_instructions.specs.Scratch.{Scratch}
 use Rattle.data_instructions.specs.Table.{accepted, dated}
 use Rattle.data_instructions.specs.Chains.{LiesWhole}
 use Rattle.data_instructions.specs.Codes.{data_item, go_on, works, IsReferenceCode}
-use Rattle.data_instructions.proofs.Codes.{move_works, display_works, accept_works, date_works}
+use Rattle.data_instructions.proofs.Codes.{display_works, accept_works, date_works}
 use Rattle.data_instructions.proofs.ArithmeticCodes.{arithmetic_works}
 use Rattle.data_instructions.proofs.TextCodes.{initialize_works, set_works, string_works}
 use Rattle.data_instructions.proofs.InspectCodes.{inspect_does}
@@ -80,7 +81,7 @@ use Rattle.codegen.specs.StringCode.{string_piece}
 use Rattle.codegen.specs.Meeting.{either_piece}
 use Rattle.codegen.specs.ConditionCode.{condition_piece}
 use Rattle.codegen.specs.UntilCode.{tick_piece, until_from_piece, vary_begin_piece, vary_on_piece, until_piece}
-use Rattle.codegen.specs.Layout.{moving_piece, texts_piece, times_piece, counted_piece, turns_piece, range_piece, turn_piece, phrase_piece, phrases_from, phrases_piece, selecting_piece, branching_piece, verb_piece}
+use Rattle.codegen.specs.Layout.{moving_piece, texts_piece, times_piece, counted_piece, turns_piece, range_piece, turn_piece, phrase_piece, phrases_from, phrases_piece, selecting_piece, branching_piece, filing_piece, verb_piece}
 use Rattle.codegen.proofs.Pieces.{joined_assoc}
 use Rattle.codegen.proofs.Blind.{Blind, in_order_blind}
 use Rattle.codegen.proofs.ConditionBlind.{condition_blind}
@@ -89,12 +90,15 @@ use Rattle.codegen.proofs.EvaluateKept.{statements_of, selected_kept, first_grou
 use Rattle.codegen.proofs.BlindStatements.{turn_blind, phrase_blind, selecting_blind}
 use Rattle.codegen.proofs.Standing.{Stands, front, back, first_stands, code_stands}
 use Rattle.codegen.proofs.Running.{at, one_step, WorksFrom, works_from}
-use Rattle.codegen.proofs.Codes.{left_none, right_none, Coded, move_coded, display_coded, accept_coded, date_coded}
+use Rattle.codegen.proofs.Codes.{left_none, right_none, Coded, display_coded, accept_coded, date_coded}
 use Rattle.codegen.proofs.ArithmeticCodes.{arithmetic_coded}
 use Rattle.codegen.proofs.PatternCodes.{initializes_codes, sets_codes}
 use Rattle.codegen.proofs.InspectCodes.{inspect_codes}
 use Rattle.codegen.proofs.StringCodes.{string_codes}
 use Rattle.codegen.proofs.Doing.{end_of, Does, PartDoes, Sits, back_sits, IsRoom, still_room, moved, stays, behind, parts_do, tick_part, ticks_alone, ending_does, nothing_does, Follows, in_order_does, Repeats, fewer_does}
+use Rattle.codegen.proofs.FilingDoes.{filing_does}
+use Rattle.codegen.proofs.HasFiles.{HasFiles}
+use Rattle.codegen.proofs.MoveDoing.{move_does}
 use Rattle.codegen.proofs.Turning.{times_does}
 use Rattle.codegen.proofs.Counting.{said_does}
 use Rattle.codegen.proofs.TextDoing.{changed_does, strung_does}
@@ -102,7 +106,7 @@ use Rattle.codegen.proofs.ConditionDoes.{condition_does}
 use Rattle.codegen.proofs.Evaluating.{evaluated_does}
 use Rattle.codegen.proofs.UntilTurns.{Tests, until_from_does}
 use Rattle.codegen.proofs.Branching.{either_does}
-use Rattle.codegen.proofs.DataDoing.{behind_code, moved_does, shown_does, calculated_does, taken_does, accepted_faultless}
+use Rattle.codegen.proofs.DataDoing.{behind_code, shown_does, calculated_does, taken_does, accepted_faultless}
 
 -- a rule that isn't broken
 not_broken : (test : Bool) (rule : ℕ) (place : Place) → where_so test rule place ≡ [] → test ≡ false
@@ -118,7 +122,7 @@ module _ (whole : Code) (kept : ℕ → Type 0) (IsThere : Range → Type 0) whe
         → Stands whole before (range_piece line (Some one) before)
         → PartDoes whole kept before (range_piece line (Some one) before) cs s (spend line s (ranges one))
 
-module _ (whole : Code) (kept : ℕ → Type 0) (scope : Scope)
+module _ (whole : Code) (kept : ℕ → Type 0) (scope : Scope) (has : HasFiles whole scope)
     (entries : (n : ℕ) (one : Placed) → slice_get scope.items n ≡ Some one → slice_get whole.tables.items n ≡ Some (data_item one))
     (order : IsTables whole.tables)
     (lie : (n : ℕ) (one : Placed) → slice_get scope.items n ≡ Some one → LiesWhole whole.tables one) (IsThere : Range → Type 0)
@@ -127,16 +131,7 @@ module _ (whole : Code) (kept : ℕ → Type 0) (scope : Scope)
   moving_does : (one : Moving) (before : Code) (cs : Own) (s : State) → moving_rules scope.items one ≡ []
       → Stands whole before (moving_piece scope.items one before)
       → PartDoes whole kept before (moving_piece scope.items one before) cs s (changing (moving scope.items one) s)
-  moving_does (Move sender receivers) before cs s keep st =
-      let part = move_piece scope.items sender receivers before in
-      let coded = move_coded scope.items whole entries sender receivers before keep st in
-      let works_as = move_works scope.items whole.tables order sender receivers coded.code coded.holds (scratch_of s cs) in
-      let to = end_of (joined before part) in
-      moved_does whole kept (end_of before) to (end_of before) to cs s (length coded.code) (behind_code whole before part coded.code coded.is)
-      (taken_of scope.items sender s.storage)
-      (λ taken. move_to_each scope.items taken receivers s.storage)
-      (subst (WorksFrom whole (end_of before) cs s (length coded.code)) works_as
-      (works_from whole coded.code (end_of before) cs s (code_stands whole before part coded.code coded.is st)))
+  moving_does (Move sender receivers) before cs s keep st = move_does whole kept scope.items entries order sender receivers before cs s keep st
   moving_does (Initialize receivers) before cs s keep st =
       let part = initializes_piece scope.items receivers before in
       let coded = (initializes_codes scope.items whole entries receivers keep).by before st in
@@ -560,4 +555,13 @@ module _ (whole : Code) (kept : ℕ → Type 0) (scope : Scope)
         let b = both (string_piece scope.items one.sendings one.receiver one.pointer) (phrases_piece scope inside one.phrases) (joined before a) in
         tick_part whole kept line before b cs s (stringing scope.items run one) sits.stands
         (λ t lt. strings_do one (joined before a) cs t keep (omega arith) room (back_sits whole kept before a b sits))
+    verb_does line (verb.Filing one) before cs s keep le room sits =
+        let own = filing_rules scope.items scope.files one in
+        let inner = file_phrases_rules rules (phrases_of one) in
+        let does = filing_does whole kept scope entries order has depth rules run inside (phrase_blind scope inside blind) phrase_does one
+        (left_none own inner keep) (right_none own inner keep) in
+        let a = tick_piece line before in
+        let b = filing_piece scope inside one (joined before a) in
+        tick_part whole kept line before b cs s (filing scope.items scope.files run one) sits.stands
+        (λ t lt. does.by (joined before a) cs t (omega arith) room (back_sits whole kept before a b sits))
     verb_does line (verb.Ending one) before cs s keep le room sits = ending_does whole kept line before cs s one sits.stands

@@ -68,11 +68,15 @@ IsStraight (instruction.Jump to) = ⊥
 IsStraight instruction.Join = ⊥
 IsStraight (instruction.Perform line first last) = ⊥
 IsStraight (instruction.Back paragraph) = ⊥
+IsStraight (instruction.File file verb) = ⊥
+IsStraight (instruction.TestStatus class) = ⊥
+IsStraight instruction.Unheard = ⊥
 
--- A part of such instructions, without areas, items and starts of its own. Its senders have their bytes, and its inspections their texts.
+-- A part of such instructions, without areas, items, files and starts of its own. Its senders have their bytes, and its inspections their texts.
 pub record Straight (part : Code) : Type 0 where
   pub instructions : AllByRecursion IsStraight part.instructions
   pub starts : part.starts ≡ []
+  pub files : part.files ≡ []
   pub areas : part.tables.areas ≡ []
   pub items : part.tables.items ≡ []
   pub senders : AllByRecursion IsSent part.tables.senders
@@ -86,6 +90,7 @@ pub joined_straight : (a b : Code) → Straight a → Straight b → Straight (j
 joined_straight a b f s = record {
   instructions = all_both IsStraight a.instructions b.instructions f.instructions s.instructions;
   starts = ap (λ l. l ++ b.starts) f.starts ∙ s.starts;
+  files = ap (λ l. l ++ b.files) f.files ∙ s.files;
   areas = ap (λ l. l ++ b.tables.areas) f.areas ∙ s.areas;
   items = ap (λ l. l ++ b.tables.items) f.items ∙ s.items;
   senders = all_both IsSent a.tables.senders b.tables.senders f.senders s.senders;
@@ -96,7 +101,7 @@ pub both_straight : (first second : Piece) → AlwaysStraight first → AlwaysSt
 both_straight first second f s before = joined_straight (first before) (second (joined before (first before))) (f before) (s (joined before (first before)))
 
 pub nothing_straight : Straight nothing
-nothing_straight = record { instructions = tt; starts = refl; areas = refl; items = refl; senders = tt; inspections = tt }
+nothing_straight = record { instructions = tt; starts = refl; files = refl; areas = refl; items = refl; senders = tt; inspections = tt }
 
 pub in_order_straight : {A : Type 0} (piece : A → Piece) → ((one : A) → AlwaysStraight (piece one)) → (all : List A) → AlwaysStraight (in_order piece all)
 in_order_straight piece straight [] before = nothing_straight
@@ -108,13 +113,13 @@ data_straight [] = tt
 data_straight (one ∷ more) = (tt, data_straight more)
 
 pub works_straight : (all : List DataInstruction) → AlwaysStraight (works_piece all)
-works_straight all before = record { instructions = data_straight all; starts = refl; areas = refl; items = refl; senders = tt; inspections = tt }
+works_straight all before = record { instructions = data_straight all; starts = refl; files = refl; areas = refl; items = refl; senders = tt; inspections = tt }
 
 pub work_straight : (one : DataInstruction) → AlwaysStraight (work_piece one)
 work_straight one = works_straight (one ∷ [])
 
 pub number_straight : (x : Fraction) → AlwaysStraight (number_piece x)
-number_straight x before = record { instructions = (tt, tt); starts = refl; areas = refl; items = refl; senders = tt; inspections = tt }
+number_straight x before = record { instructions = (tt, tt); starts = refl; files = refl; areas = refl; items = refl; senders = tt; inspections = tt }
 
 adjustment_straight : (one : Adjustment) → AlwaysStraight (adjustment_piece one)
 adjustment_straight adjustment.Nothing before = nothing_straight
@@ -122,10 +127,10 @@ adjustment_straight (adjustment.Plus n) before = both_straight (integer_piece (n
 adjustment_straight (adjustment.Minus n) before = both_straight (integer_piece (number_of n)) (work_piece (i.Calculate c.Subtract)) (number_straight (integer (pos (number_of n)))) (work_straight (i.Calculate c.Subtract)) before
 
 pub text_straight : (bytes : List ℕ) → AlwaysStraight (text_piece bytes)
-text_straight bytes before = record { instructions = (tt, tt); starts = refl; areas = refl; items = refl; senders = tt; inspections = tt }
+text_straight bytes before = record { instructions = (tt, tt); starts = refl; files = refl; areas = refl; items = refl; senders = tt; inspections = tt }
 
 pattern_straight : (pattern : Pattern) → AlwaysStraight (pattern_piece pattern)
-pattern_straight pattern before = record { instructions = (tt, tt); starts = refl; areas = refl; items = refl; senders = tt; inspections = tt }
+pattern_straight pattern before = record { instructions = (tt, tt); starts = refl; files = refl; areas = refl; items = refl; senders = tt; inspections = tt }
 
 pub line_end_straight : (advancing : Bool) → AlwaysStraight (line_end_piece advancing)
 line_end_straight true before = text_straight (line_end true) before
@@ -133,7 +138,7 @@ line_end_straight false before = nothing_straight
 
 -- one instruction
 pub one_straight : (one : Instruction) → IsStraight one → AlwaysStraight (λ before. plain (one ∷ []))
-one_straight one h before = record { instructions = (h, tt); starts = refl; areas = refl; items = refl; senders = tt; inspections = tt }
+one_straight one h before = record { instructions = (h, tt); starts = refl; files = refl; areas = refl; items = refl; senders = tt; inspections = tt }
 
 module _ (items : List Placed) where
   subscript_straight : (one : written.Subscript) → AlwaysStraight (subscript_piece items one)
@@ -164,6 +169,7 @@ module _ (items : List Placed) where
   sender_straight (operand.Literal one) e before = record {
     instructions = (tt, tt);
     starts = refl;
+    files = refl;
     areas = refl;
     items = refl;
     senders = (sender_formed one.value (not_false (has_form one.value) (kept (not (has_form one.value)) (form_rule one.value) one.place e)), tt);

@@ -15,10 +15,10 @@ use Rattle.codegen.specs.StringCode.{up_to_text_piece, text_up_to_place_piece, s
 use Rattle.codegen.proofs.Straight.{AlwaysStraight, both_straight, nothing_straight, in_order_straight, work_straight, text_straight, reference_straight, taking_straight}
 
 up_to_text_straight : (delimiter : List ℕ) → AlwaysStraight (up_to_text_piece delimiter)
-up_to_text_straight delimiter before = record { instructions = (tt, tt); starts = refl; areas = refl; items = refl; senders = tt; inspections = tt }
+up_to_text_straight delimiter before = record { instructions = (tt, tt); starts = refl; files = refl; areas = refl; items = refl; senders = tt; inspections = tt }
 
 text_up_to_place_straight : (bytes : List ℕ) → AlwaysStraight (text_up_to_place_piece bytes)
-text_up_to_place_straight bytes before = record { instructions = (tt, tt); starts = refl; areas = refl; items = refl; senders = tt; inspections = tt }
+text_up_to_place_straight bytes before = record { instructions = (tt, tt); starts = refl; files = refl; areas = refl; items = refl; senders = tt; inspections = tt }
 
 module _ (items : List Placed) where
   sent_item_straight : (delimiter : Option (List ℕ)) (one : Reference) → AlwaysStraight (sent_item_piece items delimiter one)

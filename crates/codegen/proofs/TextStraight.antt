@@ -26,7 +26,7 @@ module _ (items : List Placed) (sized : AreSized items) where
 
   inspection_straight : (one : Inspecting) → inspect_rules items one ≡ [] → AlwaysStraight (inspection_piece (inspection_entry items one))
   inspection_straight one e before =
-      record { instructions = (tt, tt); starts = refl; areas = refl; items = refl; senders = tt; inspections = (is_inspection items sized one e, tt) }
+      record { instructions = (tt, tt); starts = refl; files = refl; areas = refl; items = refl; senders = tt; inspections = (is_inspection items sized one e, tt) }
 
   inspect_straight : (one : Inspecting) → inspect_rules items one ≡ [] → AlwaysStraight (inspect_piece items one)
   inspect_straight one e =

@@ -1,23 +1,32 @@
 -- A machine can run the code of a program that keeps the rules.
-use Rattle.std.proofs.Common.{◌≡◌, ℕ, zero, suc, ◌+◌, ◌-◌, ◌*◌, ◌≤◌, List, [], ◌∷◌, ◌++◌, length, map, Option, Some, None, refl, sym, ap, ◌∙◌, subst, inl, arith, length-append, All}
+use Rattle.std.proofs.Common.{◌≡◌, ℕ, zero, suc, ◌+◌, ◌-◌, ◌*◌, ◌≤◌, List, [], ◌∷◌, ◌++◌, length, map, Option, Some, None, refl, sym, ap, ◌∙◌, subst, ⊎_elim, inl, inr, arith, length-append, All}
 use Rattle.std.specs.List.{AllByRecursion}
-use Rattle.std.specs.Prelude.{Bool, slice_get, slice_index}
-use Rattle.std.proofs.lemmas.Option.{slice_get_within, same_Some}
-use Rattle.std.proofs.lemmas.List.{append-nil}
+use Rattle.std.specs.Prelude.{◌⊎◌, Bool, true, slice_get, slice_index, slice_index_or}
+use Rattle.std.proofs.lemmas.Option.{slice_get_within, slice_get-get_or, same_Some}
+use Rattle.std.proofs.lemmas.List.{append-nil, length-map}
 use Rattle.std.proofs.lemmas.List.Elements.{All-from_recursion, recursion_from_All}
 use Rattle.picture.specs.declared.picture.Picture.{Picture}
 use Rattle.items.specs.declared.item.Item.{Item}
 use Rattle.perform_order.specs.declared.performed.PerformedRange.{PerformedRange}
 use Rattle.perform_order.specs.Order.{IsRange, Falls, heights, AreHeights}
 use Rattle.source_tree.specs.declared.table.Dimension.{Dimension}
+use Rattle.records.specs.Connector as connector
+use Rattle.records.specs.FileStep.{entry_at, Suits}
+use Rattle.source_tree.specs.declared.select.Select.{Select}
 use Rattle.source_tree.specs.declared.program.Program.{Program}
 use Rattle.source_tree.specs.declared.program.Section.{Section}
 use Rattle.source_tree.specs.declared.program.Paragraph.{Paragraph}
 use Rattle.source_tree.specs.Broken.{Broken, each}
 use Rattle.source_tree.specs.EntryRules.{entry_rules}
-use Rattle.source_tree.specs.Places.{Placed}
-use Rattle.source_tree.specs.Starts.{areas_at_start}
-use Rattle.source_tree.specs.PerformRules.{procedure_name_rules}
+use Rattle.source_tree.specs.Places.{Placed, items_of}
+use Rattle.source_tree.specs.FileRules.{select_names, description_names, unmatched, file_name_rules, descriptions_rules, select_rules, program_file_rules}
+use Rattle.source_tree.specs.ProgramFiles.{ProgramFile, entries_of}
+use Rattle.source_tree.specs.Records.{storage_areas, program_items, program_areas}
+use Rattle.source_tree.specs.SoundFiles.{IsSound, HasRecordArea}
+use Rattle.source_tree.proofs.RecordAreas.{record_areas_there}
+use Rattle.source_tree.proofs.SoundFiles as sound
+use Rattle.source_tree.proofs.SoundFiles.{names_matched, sound_files}
+use Rattle.source_tree.specs.PerformRules.{is_among, procedure_name_rules}
 use Rattle.source_tree.specs.Procedures.{Range, paragraphs_or_one, paragraphs_in}
 use Rattle.source_tree.specs.Recursion.{performed, HasOrder}
 use Rattle.source_tree.specs.Rules.{paragraph_rules, section_rules, sections_rules, procedure_rules, all_permitted, program_rules}
@@ -28,6 +37,7 @@ use Rattle.initial_storage.specs.Reach as reach
 use Rattle.initial_storage.proofs.Areas.{small_areas, items_lie}
 use Rattle.initial_storage.proofs.Formed.{all_formed}
 use Rattle.initial_storage.proofs.Pictures.{some_bytes}
+use Rattle.data_instructions.specs.declared.tables.DataItem.{DataItem}
 use Rattle.data_instructions.specs.declared.tables.DataTables.{DataTables}
 use Rattle.data_instructions.specs.declared.shape.Shape.{Shape}
 use Rattle.data_instructions.specs.declared.gather.Gather.TheVariants as g
@@ -40,16 +50,24 @@ use Rattle.data_instructions.specs.Chains.{greatest, LiesWhole}
 use Rattle.data_instructions.specs.Naming.{NamesEntries}
 use Rattle.data_instructions.specs.Shapes.{empty, and_then, effect}
 use Rattle.data_instructions.proofs.Known.{and_then_some, parts}
+use Rattle.file_tables.specs.declared.file.CodeFile.{CodeFile}
+use Rattle.file_tables.specs.Files as table
+use Rattle.file_tables.specs.Files.{places_of, NamesPlaces, IsCodeFile}
 use Rattle.code_image.specs.declared.code.Code.{Code}
 use Rattle.code_image.specs.declared.instruction.Instruction.{Instruction}
-use Rattle.code_image.specs.declared.instruction.Instruction.TheVariants.{Tick, Show, Stop, Count, CountNumber, Turn, Accept, Date, Branch, Jump, Join, Perform, Back, Data}
+use Rattle.code_image.specs.declared.instruction.Instruction.TheVariants.{Tick, Show, Stop, Count, CountNumber, Turn, Accept, Date, Branch, Jump, Join, Perform, Back, File, TestStatus, Unheard, Data}
 use Rattle.code_image.specs.Known.{known_after, known_along}
-use Rattle.code_image.specs.Demands.{NamesData, NamesCounter, NamesParagraph, IsAddress, StartsAt, AllStart, performed_from, performed as performed_instructions, HasOrder as HasOrderCode, IsVerified}
+use Rattle.code_image.specs.Demands.{NamesData, NamesCounter, NamesParagraph, IsAddress, NamesFile, SuitsFile, StartsAt, AllStart, performed_from, performed as performed_instructions, HasOrder as HasOrderCode, IsVerified}
 use Rattle.codegen.specs.Pieces.{in_order}
-use Rattle.codegen.specs.Layout.{paragraph_piece, section_piece, end_piece, storage_code, code_of}
+use Rattle.codegen.specs.FileCode.{sent_entry, code_file, code_files}
+use Rattle.codegen.specs.Layout.{paragraph_piece, section_piece, end_piece, storage_items, storage_code, code_of}
 use Rattle.codegen.proofs.Standing.{Stands, at_seam}
 use Rattle.codegen.proofs.Flowing.{along_append}
-use Rattle.codegen.proofs.ConditionValues.{conditions_formed}
+use Rattle.codegen.proofs.CodeFiles.{every, each_at, kept_at, files_count, codes_count, file_there, all_numbered, places_are, names_places, is_code_file, entries_are}
+use Rattle.codegen.proofs.ConditionValues.{AreFormed, descriptions_kept, each_description, conditions_formed}
+use Rattle.codegen.proofs.FileTable.{file_of, file_at, NamesOne, clauses_named}
+use Rattle.codegen.proofs.HasFiles.{IsFiled, HasFiles, IsNumbered}
+use Rattle.codegen.proofs.SentItems.{IsInOrder, sent_is_item}
 use Rattle.codegen.proofs.Inspections.{AreSized}
 use Rattle.codegen.proofs.Codes.{left_none, right_none}
 use Rattle.codegen.proofs.NewBytes.{all_at}
@@ -57,14 +75,9 @@ use Rattle.codegen.proofs.Pieces.{flat}
 use Rattle.codegen.proofs.Straight.{all_both, IsSent}
 use Rattle.codegen.proofs.Leading.{all_weaker, more_counters, all_lead, both_lead, all_stay, Names}
 use Rattle.codegen.proofs.Ranges.{EndsWithin, procedures_end}
-use Rattle.codegen.proofs.Paragraphs.{performed_append, starts_stay, start_at, starts_within, AreParagraphs, paragraphs_lie}
+use Rattle.codegen.proofs.Paragraphs.{IsSuitedAt, performed_append, starts_stay, start_at, starts_within, AreParagraphs, paragraphs_lie}
 use Rattle.codegen.proofs.Flowing.{Flows}
 use Rattle.codegen.proofs.Flows.{paragraphs_flows}
-
-each_at : {A : Type 0} (P : A → Type 0) (xs : List A) → AllByRecursion P xs → (k : ℕ) (x : A) → slice_get xs k ≡ Some x → P x
-each_at P [] all k x here = absurd cc
-each_at P (y ∷ ys) all zero x here = subst P (same_Some y x here) all.0
-each_at P (y ∷ ys) all (suc k) x here = each_at P ys all.1 k x here
 
 map_at : {A B : Type 0} (f : A → B) (xs : List A) (k : ℕ) (x : A) → slice_get xs k ≡ Some x → slice_get (map f xs) k ≡ Some (f x)
 map_at f [] k x here = absurd cc
@@ -77,6 +90,25 @@ mapped_from : {A B : Type 0} (f : A → B) (xs : List A) (k : ℕ) (y : B) → s
 mapped_from f [] k y here = absurd cc
 mapped_from f (x ∷ xs) zero y here = (x, refl, same_Some (f x) y here)
 mapped_from f (x ∷ xs) (suc k) y here = mapped_from f xs k y here
+
+-- ---- of two lists, one behind the other
+
+stays_at : {A : Type 0} (xs ys : List A) (k : ℕ) (x : A) → slice_get xs k ≡ Some x → slice_get (xs ++ ys) k ≡ Some x
+stays_at [] ys k x here = absurd cc
+stays_at (y ∷ xs) ys zero x here = here
+stays_at (y ∷ xs) ys (suc k) x here = stays_at xs ys k x here
+
+behind_at : {A : Type 0} (xs ys : List A) (j : ℕ) (x : A) → slice_get ys j ≡ Some x → slice_get (xs ++ ys) (length xs + j) ≡ Some x
+behind_at [] ys j x here = let e : j ≡ 0 + j = omega arith in ap (slice_get ys) (sym e) ∙ here
+behind_at (y ∷ xs) ys j x here =
+    let e : length (y ∷ xs) + j ≡ suc (length xs + j) = omega arith in
+    ap (slice_get (y ∷ (xs ++ ys))) e ∙ behind_at xs ys j x here
+
+split_at : {A : Type 0} (xs ys : List A) (k : ℕ) (x : A) → slice_get (xs ++ ys) k ≡ Some x
+    → (slice_get xs k ≡ Some x) ⊎ ((j : ℕ) × (slice_get ys j ≡ Some x))
+split_at [] ys k x here = inr (k, here)
+split_at (y ∷ xs) ys zero x here = inl here
+split_at (y ∷ xs) ys (suc k) x here = split_at xs ys k x here
 
 -- ---- entries that instructions name
 
@@ -151,6 +183,9 @@ named_after tables (Jump to) s after e = tt
 named_after tables Join s after e = tt
 named_after tables (Perform line first last) s after e = tt
 named_after tables (Back paragraph) s after e = tt
+named_after tables (File file verb) s after e = tt
+named_after tables (TestStatus class) s after e = tt
+named_after tables Unheard s after e = tt
 
 named_along : (tables : DataTables) (all : List Instruction) (s last : Shape) → known_along tables all s ≡ Some last
     → AllByRecursion (NamesData tables) all
@@ -204,20 +239,62 @@ paragraphs_keep scope permits (one ∷ more) e =
     (section_keeps scope permits one.paragraphs (left_none (section_rules scope permits one) (each (section_rules scope permits) more) e))
     (paragraphs_keep scope permits more (right_none (section_rules scope permits one) (each (section_rules scope permits) more) e))
 
--- the entries and the sections of a program that keeps the rules
-pub entries_kept : (program : Program) → program_rules program ≡ [] → entry_rules program.storage ≡ []
-entries_kept program keep =
-    let entries = entry_rules program.storage in
-    let names = procedure_name_rules program.sections in
-    let sections = sections_rules (scope program) all_permitted program.sections in
-    left_none entries names (left_none (entries ++ names) sections (left_none (entries ++ names ++ sections) (procedure_rules program) keep))
+-- the entries, the files and the sections of a program that keeps the rules
+module _ (program : Program) (keep : program_rules program ≡ []) where
+  abbrev of_entries : List Broken
+  of_entries = entry_rules program.storage
 
-pub sections_kept : (program : Program) → program_rules program ≡ [] → sections_rules (scope program) all_permitted program.sections ≡ []
-sections_kept program keep =
-    let entries = entry_rules program.storage in
-    let names = procedure_name_rules program.sections in
-    let sections = sections_rules (scope program) all_permitted program.sections in
-    right_none (entries ++ names) sections (left_none (entries ++ names ++ sections) (procedure_rules program) keep)
+  abbrev of_files : List Broken
+  of_files = program_file_rules (program_items program) program
+
+  abbrev of_names : List Broken
+  of_names = procedure_name_rules program.sections
+
+  abbrev of_sections : List Broken
+  of_sections = sections_rules (scope program) all_permitted program.sections
+
+  pub sections_kept : sections_rules (scope program) all_permitted program.sections ≡ []
+  sections_kept =
+      right_none (of_entries ++ of_files ++ of_names) of_sections
+      (left_none (of_entries ++ of_files ++ of_names ++ of_sections) (procedure_rules program) keep)
+
+  front_kept : of_entries ++ of_files ≡ []
+  front_kept =
+      left_none (of_entries ++ of_files) of_names
+      (left_none (of_entries ++ of_files ++ of_names) of_sections
+      (left_none (of_entries ++ of_files ++ of_names ++ of_sections) (procedure_rules program) keep))
+
+  pub entries_kept : entry_rules program.storage ≡ []
+  entries_kept = left_none of_entries of_files front_kept
+
+  pub files_kept : program_file_rules (program_items program) program ≡ []
+  files_kept = right_none of_entries of_files front_kept
+
+-- the rules of the names of files, of FDs and of SELECTs
+module _ (items : List Placed) (program : Program) (keep : program_file_rules items program ≡ []) where
+  abbrev of_matches : List Broken
+  of_matches = file_name_rules (select_names program.selects) (description_names program.files)
+
+  abbrev of_descriptions : List Broken
+  of_descriptions = descriptions_rules program.storage program.files
+
+  abbrev of_selects : List Broken
+  of_selects = each (select_rules items (storage_areas program.storage) program.files) program.selects
+
+  pub selects_kept : each (select_rules items (storage_areas program.storage) program.files) program.selects ≡ []
+  selects_kept = right_none (of_matches ++ of_descriptions) of_selects keep
+
+  matches_kept : each (unmatched (description_names program.files)) (select_names program.selects) ≡ []
+  matches_kept =
+      names_matched (select_names program.selects) (description_names program.files)
+      (left_none of_matches of_descriptions (left_none (of_matches ++ of_descriptions) of_selects keep))
+
+  -- each SELECT has its FD
+  pub is_described : (k : ℕ) (one : Select) → slice_get program.selects k ≡ Some one → is_among one.name (description_names program.files) ≡ true
+  is_described k one here =
+      sound.kept (is_among one.name (description_names program.files)) 57 one.name.place
+      (kept_at (unmatched (description_names program.files)) (select_names program.selects) k one.name matches_kept
+      (map_at (λ (select : Select). select.name) program.selects k one here))
 
 all_so : (all : List PerformedRange) → AllByRecursion (λ (one : PerformedRange). Unit {0}) all
 all_so [] = tt
@@ -234,7 +311,7 @@ module _ (program : Program) (keep : program_rules program ≡ []) where
   code = code_of program
 
   abbrev storage : Code
-  storage = storage_code program.storage
+  storage = storage_code program
 
   abbrev body : Code
   body = in_order (section_piece found) program.sections storage
@@ -246,8 +323,23 @@ module _ (program : Program) (keep : program_rules program ≡ []) where
   abbrev count : ℕ
   count = length (paragraphs program)
 
+  abbrev files : List ProgramFile
+  files = found.files
+
+  abbrev areas : ℕ
+  areas = storage_areas program.storage
+
   entries_keep : entry_rules program.storage ≡ []
   entries_keep = entries_kept program keep
+
+  files_keep : program_file_rules items program ≡ []
+  files_keep = files_kept program keep
+
+  descriptions_keep : descriptions_rules program.storage program.files ≡ []
+  descriptions_keep = descriptions_kept items program files_keep
+
+  selects_keep : each (select_rules items areas program.files) program.selects ≡ []
+  selects_keep = selects_kept items program files_keep
 
   -- its paragraphs keep the rules
   pub all_keep : each (paragraph_rules found all_permitted) (paragraphs program) ≡ []
@@ -258,29 +350,41 @@ module _ (program : Program) (keep : program_rules program ≡ []) where
   within = procedures_end count 0 program.sections (omega arith)
 
   pub items_sized : AreSized items
-  items_sized n one here = some_bytes one.item (all_at formed.IsFormed items (all_formed program.storage entries_keep) n one here).form
+  items_sized n one here = some_bytes one.item (all_at formed.IsFormed items (all_formed program entries_keep descriptions_keep) n one here).form
+
+  pub formed_conditions : AreFormed items
+  formed_conditions = conditions_formed program entries_keep descriptions_keep
+
+  pub numbered : AllByRecursion (IsNumbered files) files
+  numbered = all_numbered items areas program.files program.selects
 
   pub is_flat : body ≡ paragraphs_code
   is_flat = flat found program.sections storage
 
-  met : (P : PerformedRange → Type 0) → AllByRecursion P (performed program) → AreParagraphs count P count storage body
+  met : (P : PerformedRange → Type 0) → AllByRecursion P (performed program) → AreParagraphs files count P count storage body
   met P q =
-      subst (AreParagraphs count P count storage) (sym is_flat)
-      (paragraphs_lie count P found all_permitted (conditions_formed program.storage entries_keep) items_sized within (paragraphs program) storage
+      subst (AreParagraphs files count P count storage) (sym is_flat)
+      (paragraphs_lie found count P all_permitted formed_conditions items_sized within numbered (paragraphs program) storage
       (record { ends = refl; front = inl refl }) (omega arith) all_keep q)
 
   -- the names of its parts
   names : Names storage body
   names = (met (λ one. Unit {0}) (all_so (performed program))).names
 
-  pub areas_are : code.tables.areas ≡ areas_at_start program.storage
+  pub areas_are : code.tables.areas ≡ program_areas program
   areas_are =
-      append-nil (areas_at_start program.storage ++ body.tables.areas) ∙ ap (λ l. areas_at_start program.storage ++ l) names.areas
-      ∙ append-nil (areas_at_start program.storage)
+      append-nil (program_areas program ++ body.tables.areas) ∙ ap (λ l. program_areas program ++ l) names.areas
+      ∙ append-nil (program_areas program)
 
-  items_are : code.tables.items ≡ map data_item items
+  items_are : code.tables.items ≡ storage_items items files
   items_are =
-      append-nil (map data_item items ++ body.tables.items) ∙ ap (λ l. map data_item items ++ l) names.items ∙ append-nil (map data_item items)
+      append-nil (storage_items items files ++ body.tables.items) ∙ ap (λ l. storage_items items files ++ l) names.items
+      ∙ append-nil (storage_items items files)
+
+  pub files_are : code.files ≡ code_files items program.selects files
+  files_are =
+      append-nil (code_files items program.selects files ++ body.files) ∙ ap (λ l. code_files items program.selects files ++ l) names.files
+      ∙ append-nil (code_files items program.selects files)
 
   senders_are : code.tables.senders ≡ body.tables.senders
   senders_are = append-nil body.tables.senders
@@ -288,22 +392,129 @@ module _ (program : Program) (keep : program_rules program ≡ []) where
   inspections_are : code.tables.inspections ≡ body.tables.inspections
   inspections_are = append-nil body.tables.inspections
 
+  -- one file for each SELECT
+  pub files_counted : length code.files ≡ length program.selects
+  files_counted = ap length files_are ∙ codes_count items areas program.files 0 program.selects
+
   pub item_entries : (n : ℕ) (one : Placed) → slice_get items n ≡ Some one → slice_get code.tables.items n ≡ Some (data_item one)
-  item_entries n one here = ap (λ l. slice_get l n) items_are ∙ map_at data_item items n one here
+  item_entries n one here =
+      ap (λ l. slice_get l n) items_are
+      ∙ stays_at (map data_item items) (map (sent_entry items) files) n (data_item one) (map_at data_item items n one here)
 
   item_lies : (n : ℕ) (one : Placed) → slice_get items n ≡ Some one → reach.Lies code.tables.areas one
   item_lies n one here =
-      subst (λ areas. reach.Lies areas one) (sym areas_are)
-      (all_at (reach.Lies (areas_at_start program.storage)) items (items_lie program.storage entries_keep) n one here)
+      subst (λ all. reach.Lies all one) (sym areas_are)
+      (all_at (reach.Lies (program_areas program)) items (items_lie program entries_keep descriptions_keep) n one here)
+
+  item_in_order : (n : ℕ) (one : Placed) → slice_get items n ≡ Some one → IsInOrder code.tables.areas items one
+  item_in_order n one here =
+      is_data_item code.tables.areas one
+      (all_at formed.IsFormed items (all_formed program entries_keep descriptions_keep) n one here) (item_lies n one here)
+
+  -- ---- files
+
+  -- the area of a file's records
+  record_area : (k : ℕ) (file : ProgramFile) → slice_get files k ≡ Some file → HasRecordArea areas code.tables.areas file
+  record_area k file here =
+      subst (λ all. HasRecordArea areas all file) (sym areas_are)
+      (each_at (HasRecordArea areas (program_areas program)) files (record_areas_there items program files_keep) k file here)
+
+  sent_in_order : (k : ℕ) (file : ProgramFile) → slice_get files k ≡ Some file → IsDataItem code.tables.areas (sent_entry items file)
+  sent_in_order k file here =
+      let at = file_at items areas program.files 0 program.selects k file here in
+      let one : ProgramFile = file_of items areas program.files (0 + k) at.select in
+      let area : HasRecordArea areas code.tables.areas one = subst (HasRecordArea areas code.tables.areas) at.is (record_area k file here) in
+      subst (λ (f : ProgramFile). IsDataItem code.tables.areas (sent_entry items f)) (sym at.is)
+      (sent_is_item code.tables.areas items (items_of program.storage) areas program.files at.select.name one refl
+      (is_described items program files_keep k at.select at.here) (each_description program descriptions_keep)
+      (every (IsInOrder code.tables.areas items) items item_in_order) refl refl area.there area.long)
+
+  all_filed : (k : ℕ) (file : ProgramFile) → slice_get files k ≡ Some file → IsFiled code items file
+  all_filed k file here =
+      let at = file_at items areas program.files 0 program.selects k file here in
+      let number : file.places.number ≡ 0 + k = ap (λ (f : ProgramFile). f.places.number) at.is in
+      let same : k ≡ file.places.number = omega (arith, number) in
+      let one = file_of items areas program.files (0 + k) at.select in
+      let named = clauses_named items areas program.files at.select (kept_at (select_rules items areas program.files) program.selects k at.select selects_keep at.here) in
+      let zero_is : 0 + k ≡ k = omega arith in
+      record {
+        code = code_file items at.select file;
+        here = ap (slice_get code.files) (sym same) ∙ ap (λ l. slice_get l k) files_are ∙ at.code;
+        places = ap (λ (n : ℕ). places_of code.tables n (code_file items at.select file)) number
+            ∙ ap (λ (f : ProgramFile). places_of code.tables (0 + k) (code_file items at.select f)) at.is
+            ∙ places_are items areas program.files code.tables item_entries (0 + k) at.select named
+            ∙ sym (ap (λ (f : ProgramFile). f.places) at.is);
+        sent = ap (λ (n : ℕ). slice_get code.tables.items (length items + n)) (sym same)
+            ∙ ap (λ l. slice_get l (length items + k)) items_are
+            ∙ ap (λ (n : ℕ). slice_get (storage_items items files) (n + k)) (sym (length-map items data_item))
+            ∙ behind_at (map data_item items) (map (sent_entry items) files) k (sent_entry items file) (map_at (sent_entry items) files k file here);
+      }
+
+  entries_same : table.entries_of code.tables code.files ≡ entries_of files
+  entries_same =
+      ap (table.entries_of code.tables) files_are ∙ entries_are items areas program.files code.tables item_entries program.selects selects_keep
+
+  pub has_files : HasFiles code found
+  has_files = record { entries = entries_same; each = every (IsFiled code items) files all_filed }
+
+  -- one entry of the table of files
+  pub record OfFile (k : ℕ) (one : CodeFile) : Type 0 where
+    pub file : ProgramFile
+    pub there : slice_get files k ≡ Some file
+    pub select : Select
+    pub selected : slice_get program.selects k ≡ Some select
+    pub file_is : file ≡ file_of items areas program.files (0 + k) select
+    pub is : one ≡ code_file items select (file_of items areas program.files (0 + k) select)
+
+  of_file : (k : ℕ) (one : CodeFile) → slice_get code.files k ≡ Some one → OfFile k one
+  of_file k one here =
+      let listed : slice_get (code_files items program.selects files) k ≡ Some one = sym (ap (λ l. slice_get l k) files_are) ∙ here in
+      let found_file = file_there items areas program.files 0 program.selects k one listed in
+      let at = file_at items areas program.files 0 program.selects k found_file.0 found_file.1 in
+      record {
+        file = found_file.0;
+        there = found_file.1;
+        select = at.select;
+        selected = at.here;
+        file_is = at.is;
+        is = same_Some one (code_file items at.select found_file.0) (sym listed ∙ at.code) ∙ ap (code_file items at.select) at.is;
+      }
+
+  abbrev names_of : (select : Select) → (k : ℕ) → slice_get program.selects k ≡ Some select
+      → NamesOne items select.relative_key × NamesOne items select.status
+  names_of select k here =
+      clauses_named items areas program.files select (kept_at (select_rules items areas program.files) program.selects k select selects_keep here)
+
+  file_names : (k : ℕ) (one : CodeFile) → slice_get code.files k ≡ Some one → NamesPlaces code.tables one
+  file_names k one here =
+      let of = of_file k one here in
+      let file = file_of items areas program.files (0 + k) of.select in
+      let area : HasRecordArea areas code.tables.areas file = subst (HasRecordArea areas code.tables.areas) of.file_is (record_area k of.file of.there) in
+      subst (NamesPlaces code.tables) (sym of.is)
+      (names_places items areas program.files code.tables item_entries (0 + k) of.select (names_of of.select k of.selected) area.there)
+
+  file_sound : (k : ℕ) (one : CodeFile) → slice_get code.files k ≡ Some one → IsCodeFile code.tables one
+  file_sound k one here =
+      let of = of_file k one here in
+      let file = file_of items areas program.files (0 + k) of.select in
+      let area : HasRecordArea areas code.tables.areas file = subst (HasRecordArea areas code.tables.areas) of.file_is (record_area k of.file of.there) in
+      let sound : IsSound areas file = subst (IsSound areas) of.file_is (each_at (IsSound areas) files (sound_files items program files_keep) k of.file of.there) in
+      subst (IsCodeFile code.tables) (sym of.is)
+      (is_code_file items areas program.files code.tables item_entries (0 + k) of.select (names_of of.select k of.selected) sound
+      (slice_index_or code.tables.areas file.places.area []) (slice_get-get_or code.tables.areas file.places.area [] area.there) area.long)
+
+  -- ---- the tables
+
+  item_so : (k : ℕ) (one : DataItem) → slice_get code.tables.items k ≡ Some one → IsDataItem code.tables.areas one
+  item_so k one here =
+      ⊎_elim (λ first. let from = mapped_from data_item items k one first in subst (IsDataItem code.tables.areas) from.2 (item_in_order k from.0 from.1))
+      (λ last. let from = mapped_from (sent_entry items) files last.0 one last.1 in subst (IsDataItem code.tables.areas) from.2 (sent_in_order last.0 from.0 from.1))
+      (split_at (map data_item items) (map (sent_entry items) files) k one (sym (ap (λ l. slice_get l k) items_are) ∙ here))
 
   pub order : IsTables code.tables
   order = record {
-    areas = λ k area here. small_areas program.storage entries_keep k area (sym (ap (λ l. slice_get l k) areas_are) ∙ here);
-    items = λ k one here.
-        let from = mapped_from data_item items k one (sym (ap (λ l. slice_get l k) items_are) ∙ here) in
-        subst (IsDataItem code.tables.areas) from.2
-        (is_data_item code.tables.areas from.0 (all_at formed.IsFormed items (all_formed program.storage entries_keep) k from.0 from.1)
-        (item_lies k from.0 from.1));
+    areas = λ k area here. small_areas program entries_keep descriptions_keep k area (sym (ap (λ l. slice_get l k) areas_are) ∙ here);
+    items = item_so;
     senders = λ k one here. each_at IsSent body.tables.senders names.senders k one (sym (ap (λ l. slice_get l k) senders_are) ∙ here);
     inspections = λ k one here.
         each_at IsInspection body.tables.inspections names.inspections k one (sym (ap (λ l. slice_get l k) inspections_are) ∙ here);
@@ -317,7 +528,7 @@ module _ (program : Program) (keep : program_rules program ≡ []) where
 
   finds : known_along code.tables code.instructions empty ≡ Some empty
   finds =
-      let flows = paragraphs_flows found all_permitted code item_entries order lies (paragraphs program) storage all_keep stands in
+      let flows = paragraphs_flows found all_permitted code has_files item_entries order lies (paragraphs program) storage all_keep stands in
       let flow = (subst (Flows code.tables) (sym is_flat) flows).by None in
       along_append code.tables body.instructions (Stop ∷ []) empty ∙ ap (λ o. and_then o (known_along code.tables (Stop ∷ []))) flow.1
 
@@ -328,7 +539,7 @@ module _ (program : Program) (keep : program_rules program ≡ []) where
     abbrev all_heights : List ℕ
     all_heights = ordered.0
 
-    lying : AreParagraphs count (Falls (heights all_heights)) count storage body
+    lying : AreParagraphs files count (Falls (heights all_heights)) count storage body
     lying = met (Falls (heights all_heights)) (recursion_from_All (Falls (heights all_heights)) (performed program) ordered.1.fall)
 
     so_many : length code.starts ≡ count
@@ -360,6 +571,46 @@ module _ (program : Program) (keep : program_rules program ≡ []) where
         subst (StartsAt code.instructions number) (ap (λ l. slice_index l number) (sym starts_are))
         (subst (λ n. StartsAt code.instructions n (slice_index body.starts number)) e lying_there)
 
+    names_file : (one : Instruction) → IsSuitedAt files one → NamesFile (length code.files) one
+    names_file (File file verb) h =
+        let within = h.within in
+        omega (arith, within, ap length files_are, codes_count items areas program.files 0 program.selects, files_count items areas program.files 0 program.selects)
+    names_file (Tick line) h = tt
+    names_file Show h = tt
+    names_file Stop h = tt
+    names_file (Count counter turns) h = tt
+    names_file (CountNumber counter) h = tt
+    names_file (Turn counter to) h = tt
+    names_file Accept h = tt
+    names_file Date h = tt
+    names_file (Branch to) h = tt
+    names_file (Jump to) h = tt
+    names_file Join h = tt
+    names_file (Perform line first last) h = tt
+    names_file (Back paragraph) h = tt
+    names_file (TestStatus class) h = tt
+    names_file Unheard h = tt
+    names_file (Data one) h = tt
+
+    suits_file : (one : Instruction) → IsSuitedAt files one → SuitsFile (table.entries_of code.tables code.files) one
+    suits_file (File file verb) h = subst (λ (all : List connector.Entry). Suits (entry_at all file.number) verb) (sym entries_same) h.suits
+    suits_file (Tick line) h = tt
+    suits_file Show h = tt
+    suits_file Stop h = tt
+    suits_file (Count counter turns) h = tt
+    suits_file (CountNumber counter) h = tt
+    suits_file (Turn counter to) h = tt
+    suits_file Accept h = tt
+    suits_file Date h = tt
+    suits_file (Branch to) h = tt
+    suits_file (Jump to) h = tt
+    suits_file Join h = tt
+    suits_file (Perform line first last) h = tt
+    suits_file (Back paragraph) h = tt
+    suits_file (TestStatus class) h = tt
+    suits_file Unheard h = tt
+    suits_file (Data one) h = tt
+
     pub verified : IsVerified code
     verified =
         let n = length-append body.instructions (Stop ∷ []) in
@@ -376,6 +627,10 @@ module _ (program : Program) (keep : program_rules program ≡ []) where
             paragraphs = All-from_recursion (NamesParagraph (length code.starts)) code.instructions
                 (subst (λ k. AllByRecursion (NamesParagraph k) code.instructions) (sym so_many)
                 (all_both (NamesParagraph count) body.instructions (Stop ∷ []) lying.paragraphs (tt, tt)));
+            files = All-from_recursion (NamesFile (length code.files)) code.instructions
+                (all_both (NamesFile (length code.files)) body.instructions (Stop ∷ [])
+                (all_weaker (IsSuitedAt files) (NamesFile (length code.files)) names_file body.instructions lying.suited) (tt, tt));
+            places = All-from_recursion (NamesPlaces code.tables) code.files (every (NamesPlaces code.tables) code.files file_names);
             starts = All-from_recursion (IsAddress (length code.instructions)) code.starts
                 (subst (AllByRecursion (IsAddress (length code.instructions))) (sym starts_are)
                 (all_weaker (λ start. start ≤ length body.instructions) (IsAddress (length code.instructions))
@@ -389,5 +644,11 @@ module _ (program : Program) (keep : program_rules program ≡ []) where
             order = in_order_all;
             stops = ap (slice_get code.instructions) at_end ∙ at_seam body.instructions Stop [];
             finds = record { last = empty; along = finds };
+            files = record {
+              sound = All-from_recursion (IsCodeFile code.tables) code.files (every (IsCodeFile code.tables) code.files file_sound);
+              suit = All-from_recursion (SuitsFile (table.entries_of code.tables code.files)) code.instructions
+                  (all_both (SuitsFile (table.entries_of code.tables code.files)) body.instructions (Stop ∷ [])
+                  (all_weaker (IsSuitedAt files) (SuitsFile (table.entries_of code.tables code.files)) suits_file body.instructions lying.suited) (tt, tt));
+            };
           };
         }

@@ -49,11 +49,13 @@ values_named items name = values_of (slice_get (all_conditions items) (condition
 abbrev pub range_piece : Literal → Option Literal → Piece
 range_piece from None before = record {
   tables = record no_tables { senders = literal_entry (literal_sender from.value) ∷ [] };
+  files = [];
   starts = [];
   instructions = Data (i.Test (t.OrEqual (record { number = length before.tables.senders }))) ∷ [];
 }
 range_piece from (Some last) before = record {
   tables = record no_tables { senders = literal_entry (literal_sender from.value) ∷ literal_entry (literal_sender last.value) ∷ [] };
+  files = [];
   starts = [];
   instructions = Data (i.Test (t.OrWithin (record { number = length before.tables.senders }))) ∷ [];
 }
@@ -98,6 +100,7 @@ module _ (items : List Placed) where
   compared_piece one (operand.Item reference) = taking_piece items (i.Test (t.Compare one)) reference
   compared_piece one (operand.Literal literal) = λ before. record {
     tables = record no_tables { senders = literal_entry (literal_sender literal.value) ∷ [] };
+    files = [];
     starts = [];
     instructions = Data (i.Test (t.CompareLiteral one (record { number = length before.tables.senders }))) ∷ [];
   }

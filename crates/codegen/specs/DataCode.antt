@@ -56,6 +56,7 @@ works_piece all before = plain (map Data all)
 abbrev pub number_piece : Fraction → Piece
 number_piece x before = record {
   tables = record no_tables { numbers = x ∷ [] };
+  files = [];
   starts = [];
   instructions = Data (i.Literal (record { number = length before.tables.numbers })) ∷ [];
 }
@@ -73,6 +74,7 @@ adjustment_piece (adjustment.Minus n) before = both (integer_piece (number_of n)
 abbrev pub text_piece : List ℕ → Piece
 text_piece bytes before = record {
   tables = record no_tables { texts = bytes ∷ [] };
+  files = [];
   starts = [];
   instructions = Data (i.AppendLiteral (record { number = length before.tables.texts })) ∷ [];
 }
@@ -84,6 +86,7 @@ literal_entry sender = record { taken = sender.taken; bytes = sender.bytes }
 abbrev pub literal_piece : LiteralValue → Piece
 literal_piece value before = record {
   tables = record no_tables { senders = literal_entry (literal_sender value) ∷ [] };
+  files = [];
   starts = [];
   instructions = Data (i.TakeLiteral (record { number = length before.tables.senders })) ∷ [];
 }

@@ -20,6 +20,7 @@ use Rattle.codegen.specs.DataCode.{text_piece, reference_piece, taking_piece}
 abbrev pub inspection_piece : Inspection → Piece
 inspection_piece one before = record {
   tables = record no_tables { inspections = one ∷ [] };
+  files = [];
   starts = [];
   instructions = Data (i.Inspect (record { number = length before.tables.inspections })) ∷ [];
 }

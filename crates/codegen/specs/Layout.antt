@@ -1,11 +1,19 @@
 -- The layout of a program's code (own choice).
-use Rattle.std.specs.Prelude.{ℕ, zero, suc, List, [], ◌∷◌, length, map, Option, Some, None}
-use Rattle.source_tree.specs.declared.entry.Entry.{Entry}
+use Rattle.std.specs.Prelude.{ℕ, zero, suc, List, [], ◌∷◌, ◌++◌, length, map, Option, Some, None}
 use Rattle.source_tree.specs.declared.moving.Moving.{Moving}
 use Rattle.source_tree.specs.declared.moving.Moving.TheVariants.{Move, Initialize, Set}
 use Rattle.source_tree.specs.declared.text.Text.{Text}
 use Rattle.source_tree.specs.declared.text.Text.TheVariants.{Display, Accept, AcceptDate, Inspect}
+use Rattle.records.specs.declared.verb.Verb as on_files
+use Rattle.records.specs.declared.verb.Verb.TheVariants as file_verb
+use Rattle.source_tree.specs.declared.name.Name.{Name}
+use Rattle.source_tree.specs.declared.reference.Reference.{Reference}
 use Rattle.source_tree.specs.declared.phrases.Phrases.{Phrases}
+use Rattle.source_tree.specs.declared.phrases.FilePhrases.{FilePhrases}
+use Rattle.source_tree.specs.declared.phrases.FilePhrases.TheVariants as file_phrases
+use Rattle.source_tree.specs.declared.filing.Opening.{Opening}
+use Rattle.source_tree.specs.declared.filing.Filing.{Filing}
+use Rattle.source_tree.specs.declared.filing.Filing.TheVariants as filing
 use Rattle.source_tree.specs.declared.arithmetic.Arithmetic.{Arithmetic}
 use Rattle.source_tree.specs.declared.branching.Branching.{Branching}
 use Rattle.source_tree.specs.declared.branching.Branching.TheVariants as branch
@@ -30,12 +38,18 @@ use Rattle.source_tree.specs.declared.program.Section.{Section}
 use Rattle.source_tree.specs.declared.program.Program.{Program}
 use Rattle.source_tree.specs.Evaluate.{selected_asked}
 use Rattle.source_tree.specs.Performing.{turns_of}
-use Rattle.source_tree.specs.Places.{Placed, items_of}
+use Rattle.source_tree.specs.Places.{Placed}
 use Rattle.source_tree.specs.Procedures.{Range, paragraphs_or_one, range_of}
 use Rattle.source_tree.specs.Setting.{Scope, scope}
-use Rattle.source_tree.specs.Starts.{areas_at_start}
+use Rattle.source_tree.specs.Records.{program_areas}
+use Rattle.source_tree.specs.ProgramFiles.{ProgramFile}
+use Rattle.source_tree.specs.References.{ItemPlace}
+use Rattle.source_tree.specs.Filing.{read_verb, start_verb}
 use Rattle.data_instructions.specs.declared.tables.DataTables.{DataTables}
+use Rattle.data_instructions.specs.declared.tables.DataItem.{DataItem}
 use Rattle.data_instructions.specs.Codes.{data_item}
+use Rattle.file_tables.specs.declared.class.StatusClass.{StatusClass}
+use Rattle.file_tables.specs.declared.class.StatusClass.TheVariants.{Successful, AtEnd, InvalidKey}
 use Rattle.code_image.specs.declared.code.Code.{Code}
 use Rattle.code_image.specs.declared.instruction.Instruction.TheVariants.{Tick, Stop, Count, CountNumber, Turn, Perform, Back}
 use Rattle.data_instructions.specs.declared.instruction.DataInstruction.TheVariants as i
@@ -49,6 +63,7 @@ use Rattle.codegen.specs.PatternCode.{initializes_piece, sets_piece}
 use Rattle.codegen.specs.StringCode.{string_piece}
 use Rattle.codegen.specs.InspectCode.{inspect_piece}
 use Rattle.codegen.specs.UntilCode.{tick_piece, until_piece}
+use Rattle.codegen.specs.FileCode.{code_files, sent_entry, file_piece, test_piece, unheard_piece, into_piece, from_piece, on_name_piece, on_record_piece}
 
 abbrev pub stop_run_piece : ℕ → Piece
 stop_run_piece line before = plain (Tick line ∷ Stop ∷ [])
@@ -150,6 +165,64 @@ module _ (scope : Scope) {S : Type 0} (inside : S → Piece) where
       both (tick_piece line) (both (condition_piece scope.items condition) (either_piece (in_order inside statements) (phrase_piece otherwise)))
   branching_piece line (branch.Evaluate one) = both (tick_piece line) (selecting_piece one.subjects one.selected one.other)
 
+  -- ---- file statements
+
+  -- the statements of a phrase for a status, or else what comes of a status that nothing takes
+  abbrev pub taken_piece : Option ItemPlace → Option (List S) → Piece
+  taken_piece status None = unheard_piece status
+  taken_piece status (Some statements) = phrase_piece (Some statements)
+
+  -- behind a success
+  abbrev pub success_piece : FilePhrases S → Piece
+  success_piece file_phrases.Absent = nothing_piece
+  success_piece (file_phrases.AtEnd pair) = phrase_piece pair.did_not
+  success_piece (file_phrases.InvalidKey pair) = phrase_piece pair.did_not
+
+  -- the phrase for statuses of a class
+  abbrev pub class_piece : Option ItemPlace → StatusClass → Option (List S) → Piece
+  class_piece status class arose = both (test_piece class) (either_piece (taken_piece status arose) (unheard_piece status))
+
+  -- behind another status
+  abbrev pub failure_piece : Option ItemPlace → FilePhrases S → Piece
+  failure_piece status file_phrases.Absent = unheard_piece status
+  failure_piece status (file_phrases.AtEnd pair) = class_piece status AtEnd pair.arose
+  failure_piece status (file_phrases.InvalidKey pair) = class_piece status InvalidKey pair.arose
+
+  -- what comes of the status; `onward` comes first after a success
+  abbrev pub status_piece : Option ItemPlace → FilePhrases S → Piece → Piece
+  status_piece status phrases onward =
+      both (test_piece Successful) (either_piece (both onward (success_piece phrases)) (failure_piece status phrases))
+
+  abbrev pub statement_on_piece : FilePhrases S → (ProgramFile → Piece) → (ProgramFile → on_files.Verb) → ProgramFile → Piece
+  statement_on_piece phrases onward verb file = both (file_piece (verb file) file) (status_piece file.places.status phrases (onward file))
+
+  -- nothing comes first
+  abbrev pub alone_piece : FilePhrases S → (ProgramFile → on_files.Verb) → ProgramFile → Piece
+  alone_piece phrases verb = statement_on_piece phrases (λ file. nothing_piece) verb
+
+  abbrev pub open_piece : Opening → Piece
+  open_piece one = on_name_piece scope.items scope.files one.file (alone_piece file_phrases.Absent (λ file. file_verb.Open one.mode))
+
+  abbrev pub close_piece : Name → Piece
+  close_piece one = on_name_piece scope.items scope.files one (alone_piece file_phrases.Absent (λ file. file_verb.Close))
+
+  abbrev pub record_piece : on_files.Verb → Reference → Option Reference → FilePhrases S → Piece
+  record_piece verb one from phrases =
+      both (from_piece scope.items one from) (on_record_piece scope.items scope.files one (alone_piece phrases (λ file. verb)))
+
+  -- a file statement, behind its `tick`; each file of OPEN and CLOSE in turn
+  abbrev pub filing_piece : Filing S → Piece
+  filing_piece (filing.Open all) = in_order open_piece all
+  filing_piece (filing.Close all) = in_order close_piece all
+  filing_piece (filing.Read file next into key phrases) =
+      on_name_piece scope.items scope.files file
+      (statement_on_piece phrases (into_piece scope.items into) (λ file. read_verb scope.items file next key))
+  filing_piece (filing.Write one from phrases) = record_piece file_verb.Write one from phrases
+  filing_piece (filing.Rewrite one from phrases) = record_piece file_verb.Rewrite one from phrases
+  filing_piece (filing.Delete file phrases) = on_name_piece scope.items scope.files file (alone_piece phrases (λ file. file_verb.Delete))
+  filing_piece (filing.Start file key phrases) =
+      on_name_piece scope.items scope.files file (alone_piece phrases (λ file. start_verb scope.items file key))
+
   -- a statement at this line, by its family
   abbrev pub verb_piece : ℕ → Verb S → Piece
   verb_piece line (verb.Moving one) = both (tick_piece line) (moving_piece scope.items one)
@@ -158,6 +231,7 @@ module _ (scope : Scope) {S : Type 0} (inside : S → Piece) where
   verb_piece line (verb.Performing one) = performing_piece line one
   verb_piece line (verb.Text one) = both (tick_piece line) (texts_piece scope.items one)
   verb_piece line (verb.Stringing one) = stringing_piece line one
+  verb_piece line (verb.Filing one) = both (tick_piece line) (filing_piece one)
   verb_piece line (verb.Ending one) = ending_piece line one
 
 module _ (scope : Scope) where
@@ -173,7 +247,7 @@ module _ (scope : Scope) where
 
 -- a code paragraph starts
 abbrev pub start_piece : Piece
-start_piece before = record { tables = no_tables; starts = length before.instructions ∷ []; instructions = [] }
+start_piece before = record { tables = no_tables; files = []; starts = length before.instructions ∷ []; instructions = [] }
 
 -- the end of the code paragraph of this number
 abbrev pub back_piece : ℕ → Piece
@@ -192,14 +266,20 @@ module _ (scope : Scope) where
 abbrev pub end_piece : Code
 end_piece = plain (Stop ∷ [])
 
--- the bytes of working storage at the start, and its items
-abbrev pub storage_tables : List Entry → DataTables
-storage_tables entries = record no_tables { areas = areas_at_start entries; items = map data_item (items_of entries) }
+-- the bytes of all areas at the start, and the items; behind these what READ INTO sends of each file
+abbrev pub storage_items : List Placed → List ProgramFile → List DataItem
+storage_items items files = map data_item items ++ map (sent_entry items) files
 
-abbrev pub storage_code : List Entry → Code
-storage_code entries = record nothing { tables = storage_tables entries }
+abbrev pub storage_tables : Program → DataTables
+storage_tables program =
+    record no_tables { areas = program_areas program; items = storage_items (scope program).items (scope program).files }
+
+-- the tables before the first statement
+abbrev pub storage_code : Program → Code
+storage_code program =
+    record nothing { tables = storage_tables program; files = code_files (scope program).items program.selects (scope program).files }
 
 abbrev pub code_of : Program → Code
 code_of program =
-    let storage = storage_code program.storage in
+    let storage = storage_code program in
     joined (joined storage (in_order (section_piece (scope program)) program.sections storage)) end_piece

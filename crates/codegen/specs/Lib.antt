@@ -7,9 +7,12 @@ pub mod PatternCode
 pub mod StringCode
 pub mod InspectCode
 pub mod UntilCode
+pub mod FileCode
 pub mod Operations
 pub mod Layout
 pub mod Phrases
 pub mod EvaluateCode
 pub mod Sides
 pub mod Values
+pub mod Sent
+pub mod Filed

@@ -15,6 +15,7 @@ use Rattle.codegen.specs.ConditionCode.{condition_number, condition_item}
 abbrev pub overlay_piece : List ℕ → List ℕ → Piece
 overlay_piece bytes marks before = record {
   tables = record no_tables { texts = bytes ∷ marks ∷ [] };
+  files = [];
   starts = [];
   instructions = Data (i.Overlay (record { number = length before.tables.texts })) ∷ [];
 }

@@ -12,7 +12,7 @@ abbrev pub no_tables : DataTables
 no_tables = record { areas = []; items = []; numbers = []; senders = []; texts = []; inspections = [] }
 
 abbrev pub nothing : Code
-nothing = record { tables = no_tables; starts = []; instructions = [] }
+nothing = record { tables = no_tables; files = []; starts = []; instructions = [] }
 
 abbrev pub joined_tables : DataTables → DataTables → DataTables
 joined_tables a b = record {
@@ -26,7 +26,12 @@ joined_tables a b = record {
 
 -- one code after another
 abbrev pub joined : Code → Code → Code
-joined a b = record { tables = joined_tables a.tables b.tables; starts = a.starts ++ b.starts; instructions = a.instructions ++ b.instructions }
+joined a b = record {
+  tables = joined_tables a.tables b.tables;
+  files = a.files ++ b.files;
+  starts = a.starts ++ b.starts;
+  instructions = a.instructions ++ b.instructions;
+}
 
 -- one piece after another
 abbrev pub both : Piece → Piece → Piece
@@ -38,4 +43,4 @@ in_order piece (one ∷ more) before = joined (piece one before) (in_order piece
 
 -- instructions that name nothing new
 abbrev pub plain : List Instruction → Code
-plain instructions = record { tables = no_tables; starts = []; instructions = instructions }
+plain instructions = record { tables = no_tables; files = []; starts = []; instructions = instructions }

@@ -20,6 +20,7 @@ use Rattle.codegen.specs.DataCode.{work_piece, text_piece, reference_piece, taki
 abbrev pub up_to_text_piece : List ℕ → Piece
 up_to_text_piece delimiter before = record {
   tables = record no_tables { texts = delimiter ∷ [] };
+  files = [];
   starts = [];
   instructions = Data (i.Gather (g.UpToText (record { number = length before.tables.texts }))) ∷ [];
 }
@@ -28,6 +29,7 @@ up_to_text_piece delimiter before = record {
 abbrev pub text_up_to_place_piece : List ℕ → Piece
 text_up_to_place_piece bytes before = record {
   tables = record no_tables { texts = bytes ∷ [] };
+  files = [];
   starts = [];
   instructions = Data (i.Gather (g.TextUpToPlace (record { number = length before.tables.texts }))) ∷ [];
 }

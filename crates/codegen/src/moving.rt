@@ -62,7 +62,11 @@ impl<'a> Emitter<'a> {
     }
 
     /// The moves to receivers, in order.
-    fn emit_receivers(&self, code: &mut Code, all: &[Reference]) -> Result<(), AllocError>
+    pub(crate) fn emit_receivers(
+        &self,
+        code: &mut Code,
+        all: &[Reference],
+    ) -> Result<(), AllocError>
         requires declared { IsDeclared self.now.declarations.now }
         requires rules { each (λ (one : Reference). each (subscript_rules (items_in self.now.declarations.now)) one.subscripts) all.now ≡ [] }
         ensures { OnOk result (code.new ≡ joined code.old (spec.receivers_piece (items_in self.now.declarations.now) all.now code.old)) }

@@ -1,6 +1,6 @@
 //! The code of a program.
 
-ghost use Rattle.std.specs.Prelude.{◌≡◌, IfOk};
+ghost use Rattle.std.specs.Prelude.{◌≡◌, length, IfOk};
 ghost use Rattle.source_tree.specs.Given.{Given};
 ghost use Rattle.source_tree.specs.Meaning.{Run, meaning};
 ghost use Rattle.code_image.specs.Demands.{IsVerified};
@@ -21,6 +21,8 @@ pub fn generate(alloc: Global, checked: &Checked<'_>) -> Result<Code, AllocError
     ensures ends { IfOk result (λ code. (given : Given) → Runs code given (meaning checked.now given)) }
     // and nothing else is.
     ensures ends_only { IfOk result (λ code. (given : Given) (run : Run) → Runs code given run → run ≡ meaning checked.now given) }
+    // There is one file for each SELECT.
+    ensures files { IfOk result (λ code. length code.files ≡ length checked.now.selects) }
     // A machine can run it.
     ensures verified { IfOk result (λ code. IsVerified code) }
 {

@@ -1,17 +1,23 @@
-//! What code has of working storage: the bytes of its areas at the start, and its items.
+//! What code has before the first statement: the bytes of all areas at the start, the items, and what READ INTO sends of each file.
 
 ghost use Rattle.std.specs.Prelude.{◌≡◌, [], map, IfOk};
 ghost use Rattle.source_tree.specs.EntryRules.{entry_rules};
 ghost use Rattle.data_instructions.specs.Codes.{data_item};
-ghost use Rattle.check_rules.specs.Named.{IsDeclared, items_in};
+ghost use Rattle.program_files.specs.Files.{file_in};
+ghost use Rattle.check_rules.specs.Named.{IsDeclared, items_in, files_in};
+ghost use Rattle.codegen.specs.FileCode as files;
 ghost use Rattle.codegen.specs.Layout as spec;
+ghost use Rattle.codegen.specs.Sent.{edits, first_editing};
 
+use crate::file_table::code_files;
 use check_rules::Declarations;
 use code_image::Code;
 use data_instructions::{DataItem, DataTables};
 use initial_storage::InitialStorage;
+use items::Kind;
 use layout::PlacedItem;
 use picture::Picture;
+use program_files::ProgramFile;
 use sqlite_items::Items;
 use std::alloc::{AllocError, Global};
 
@@ -36,7 +42,7 @@ fn data_item(one: &PlacedItem) -> Result<DataItem, AllocError>
     })
 }
 
-/// The items of working storage.
+/// The items of working storage and of records.
 fn data_items(alloc: Global, declarations: &Declarations<'_>) -> Result<Items<DataItem>, AllocError>
     requires { IsDeclared declarations.now }
     ensures { IfOk result (λ items. items ≡ map data_item (items_in declarations.now)) }
@@ -48,16 +54,87 @@ fn data_items(alloc: Global, declarations: &Declarations<'_>) -> Result<Items<Da
     Ok(items)
 }
 
+/// Both are edited, in the same way.
+fn are_edited_alike(one: Kind, other: Kind) -> bool
+    ensures { result ≡ files.edited_alike one other }
+{
+    match (one, other) {
+        (Kind::AlphanumericEdited, Kind::AlphanumericEdited) => true,
+        (
+            Kind::NumericEdited {
+                blank_when_zero: one,
+            },
+            Kind::NumericEdited {
+                blank_when_zero: other,
+            },
+        ) => one == other,
+        _ => false,
+    }
+}
+
+/// An item of the file's record area that is edited, as what is sent is.
+fn is_edited_in(file: &ProgramFile<'_>, one: &PlacedItem) -> bool
+    ensures { result ≡ edits file.now one.now }
+{
+    let item = one.item;
+    one.area == file.area
+        && are_edited_alike(item.kind, file.sent.kind)
+        && item.length == file.sent.length
+}
+
+/// The picture of the first of these items that edits the file's record.
+fn sent_editing(items: &[PlacedItem], file: &ProgramFile<'_>) -> Result<Option<Picture>, AllocError>
+    ensures { IfOk result (λ editing. editing ≡ first_editing (edits file.now) items.now) }
+{
+    for one in items {
+        if is_edited_in(file, one) {
+            return editing_of(one);
+        }
+    }
+    Ok(None)
+}
+
+/// What READ INTO sends of a file.
+fn sent_entry(
+    declarations: &Declarations<'_>,
+    file: &ProgramFile<'_>,
+) -> Result<DataItem, AllocError>
+    requires { IsDeclared declarations.now }
+    ensures { IfOk result (λ entry. entry ≡ files.sent_entry (items_in declarations.now) (file_in (items_in declarations.now) file.now)) }
+{
+    Ok(DataItem {
+        item: file.sent,
+        editing: sent_editing(declarations.layout.items.as_slice(), file)?,
+        area: file.area,
+        offset: 0,
+    })
+}
+
+/// The items, and behind them what READ INTO sends of each file.
+fn storage_items(
+    alloc: Global,
+    declarations: &Declarations<'_>,
+) -> Result<Items<DataItem>, AllocError>
+    requires { IsDeclared declarations.now }
+    ensures { IfOk result (λ items. items ≡ spec.storage_items (items_in declarations.now) (files_in declarations.now)) }
+{
+    let mut items = data_items(alloc, declarations)?;
+    for file in &declarations.files.files {
+        items.push(sent_entry(declarations, file)?)?;
+    }
+    Ok(items)
+}
+
 /// The tables before the first statement.
 fn storage_tables(alloc: Global, declarations: &Declarations<'_>) -> Result<DataTables, AllocError>
     requires declared { IsDeclared declarations.now }
-    requires rules { entry_rules declarations.now.entries.now ≡ [] }
-    ensures { IfOk result (λ tables. tables ≡ spec.storage_tables declarations.now.entries.now) }
+    requires rules { entry_rules declarations.now.program.now.storage ≡ [] }
+    ensures { IfOk result (λ tables. tables ≡ spec.storage_tables declarations.now.program.now) }
 {
-    let InitialStorage { areas } = InitialStorage::of(alloc, declarations.entries)?;
+    let InitialStorage { areas } = InitialStorage::of(alloc, declarations.program)?;
     Ok(DataTables {
         areas,
-        items: data_items(alloc, declarations)?,
+        items: storage_items(alloc, declarations)?,
         numbers: Items::new(alloc),
         senders: Items::new(alloc),
         texts: Items::new(alloc),
@@ -71,11 +148,12 @@ pub(crate) fn storage_code(
     declarations: &Declarations<'_>,
 ) -> Result<Code, AllocError>
     requires declared { IsDeclared declarations.now }
-    requires rules { entry_rules declarations.now.entries.now ≡ [] }
-    ensures { IfOk result (λ code. code ≡ spec.storage_code declarations.now.entries.now) }
+    requires rules { entry_rules declarations.now.program.now.storage ≡ [] }
+    ensures { IfOk result (λ code. code ≡ spec.storage_code declarations.now.program.now) }
 {
     Ok(Code {
         tables: storage_tables(alloc, declarations)?,
+        files: code_files(alloc, declarations)?,
         starts: Items::new(alloc),
         instructions: Items::new(alloc),
     })

@@ -187,6 +187,27 @@ impl<'a> Emitter<'a> {
         emit_work(code, DataInstruction::DropPlace)
     }
 
+    /// Senders DELIMITED BY an operand.
+    fn emit_all_by(
+        &self,
+        code: &mut Code,
+        senders: &[Operand],
+        delimiter: &Operand,
+    ) -> Result<(), AllocError>
+        requires declared { IsDeclared self.now.declarations.now }
+        requires senders { each (sent_rules (items_in self.now.declarations.now)) senders.now ≡ [] }
+        requires delimiter { sent_rules (items_in self.now.declarations.now) delimiter.now ≡ [] }
+        ensures { OnOk result (code.new ≡ joined code.old (spec.sending_by_piece (items_in self.now.declarations.now) senders.now (Some delimiter.now) code.old)) }
+    {
+        match delimiter {
+            Operand::Literal(literal) => {
+                let text = literal_text(self.alloc, &literal.value)?;
+                self.emit_all_cut(code, text.as_slice(), senders)
+            }
+            Operand::Item(reference) => self.emit_all_delimited(code, senders, reference),
+        }
+    }
+
     /// Senders with their delimiter.
     fn emit_sending(&self, code: &mut Code, one: &Sending) -> Result<(), AllocError>
         requires declared { IsDeclared self.now.declarations.now }
@@ -197,11 +218,7 @@ impl<'a> Emitter<'a> {
         let senders = one.senders.as_slice();
         match &one.delimiter {
             None => self.emit_all_sized(code, senders),
-            Some(Operand::Literal(literal)) => {
-                let text = literal_text(self.alloc, &literal.value)?;
-                self.emit_all_cut(code, text.as_slice(), senders)
-            }
-            Some(Operand::Item(reference)) => self.emit_all_delimited(code, senders, reference),
+            Some(delimiter) => self.emit_all_by(code, senders, delimiter),
         }
     }
 
@@ -259,7 +276,7 @@ impl<'a> Emitter<'a> {
         one: &Stringing<Statement>,
     ) -> Result<(), AllocError>
         requires declared { IsDeclared self.now.declarations.now }
-        requires entries { entry_rules self.now.declarations.now.entries.now ≡ [] }
+        requires entries { entry_rules self.now.declarations.now.program.now.storage ≡ [] }
         requires string { string_rules (items_in self.now.declarations.now) one.now ≡ [] }
         requires arose { rules.phrase_rules (rules.statement_rules (scope_in self.now.declarations.now) all_permitted) one.now.phrases.arose ≡ [] }
         requires did_not { rules.phrase_rules (rules.statement_rules (scope_in self.now.declarations.now) all_permitted) one.now.phrases.did_not ≡ [] }

@@ -1,7 +1,10 @@
 use Rattle.std.proofs.Common.{rules, ◌≡◌, ◌+◌, true, List, [], ◌∷◌, ◌++◌, length, drop, Some, refl, sym, ap, subst, arith, ◌∙◌, length-append}
 use Rattle.std.specs.List.{AllByRecursion}
 use Rattle.std.proofs.lemmas.Grind.{common_steps}
+use Rattle.records.specs.declared.verb.Verb.{Verb}
+use Rattle.records.specs.declared.verb.Verb.TheVariants as file_verb
 use Rattle.source_tree.specs.declared.statement.Statement.{Statement, the_lemmas}
+use Rattle.source_tree.specs.declared.filing.Filing.{Filing}
 use Rattle.source_tree.specs.declared.branching.Branching.{Branching}
 use Rattle.source_tree.specs.declared.branching.Branching.TheVariants.{If}
 use Rattle.source_tree.specs.declared.until.TestTime.{TestTime}
@@ -9,18 +12,25 @@ use Rattle.source_tree.specs.declared.condition.Condition.TheVariants.{Any}
 use Rattle.source_tree.specs.declared.evaluate.Subject.{Subject}
 use Rattle.source_tree.specs.declared.evaluate.When.{When}
 use Rattle.source_tree.specs.declared.evaluate.Selected.{Selected}
+use Rattle.source_tree.specs.declared.stringing.Sending.{Sending}
 use Rattle.source_tree.specs.Broken.{each}
 use Rattle.source_tree.specs.Evaluate.{asked_each, whens_asked, selected_asked}
 use Rattle.source_tree.specs.EvaluateRules.{when_rules, selected_rules}
+use Rattle.source_tree.specs.Filing as meaning
+use Rattle.source_tree.specs.Filing.{file_with_record, phrases_of}
+use Rattle.source_tree.specs.FilingRules.{delete_rules, file_named_rules, filing_rules, read_rules, record_rules, start_rules}
 use Rattle.source_tree.specs.NameRules.{item_rules}
 use Rattle.source_tree.specs.ConditionRules.{varying_rules, condition_rules, until_rules}
-use Rattle.source_tree.specs.Rules.{all_permitted, integer_item, verb_rules, arithmetic_rules, stringing_rules, branching_rules, performing_rules, phrases_rules, phrase_rules, performed_rules, turns_rules, evaluate_rules, statement_rules}
+use Rattle.source_tree.specs.Rules.{all_permitted, integer_item, verb_rules, arithmetic_rules, stringing_rules, branching_rules, performing_rules, phrases_rules, phrase_rules, file_phrases_rules, performed_rules, turns_rules, evaluate_rules, statement_rules}
 use Rattle.source_tree.specs.ArithmeticRules.{operation_rules}
-use Rattle.source_tree.specs.LookUp.{items_named}
+use Rattle.source_tree.specs.LookUp.{first, items_named}
+use Rattle.source_tree.specs.ProgramFiles.{ProgramFile, files_named}
 use Rattle.source_tree.specs.StringRules.{sending_rules, receiver_item, only_length, string_rules}
+use Rattle.program_files.specs.Files.{file_in}
 use Rattle.check_rules.specs.Named.{scope_in}
 use Rattle.check_rules.proofs.RuleLayers as layers
 use Rattle.data_instructions.specs.declared.instruction.DataInstruction.TheVariants as i
+use Rattle.file_tables.specs.declared.class.StatusClass.TheVariants.{Successful}
 use Rattle.code_image.specs.declared.code.Code.{Code}
 use Rattle.code_image.specs.declared.instruction.Instruction.TheVariants.{Jump, Join}
 use Rattle.codegen.specs.declared.phrases.Way.{Way}
@@ -28,8 +38,10 @@ use Rattle.codegen.specs.Pieces.{Piece, joined, both, in_order}
 use Rattle.codegen.specs.Meeting.{branch_code, jump_code, either_piece, nothing_piece}
 use Rattle.codegen.specs.DataCode.{work_piece, taking_piece}
 use Rattle.codegen.specs.ConditionCode.{condition_piece}
+use Rattle.codegen.specs.StringCode.{string_piece}
 use Rattle.codegen.specs.UntilCode.{tick_piece, turning_piece, until_before_piece, until_after_piece, until_from_piece, vary_begin_piece, vary_on_piece, until_piece}
-use Rattle.codegen.specs.Layout.{turn_end, count_begin, counted_turn, counted_piece, turn_piece, phrase_piece, selecting_piece, branching_piece, statement_piece}
+use Rattle.codegen.specs.FileCode.{file_piece, test_piece, unheard_piece, on_file_piece, into_piece, from_piece, on_name_piece}
+use Rattle.codegen.specs.Layout.{turn_end, count_begin, counted_turn, counted_piece, turn_piece, phrase_piece, phrases_piece, selecting_piece, branching_piece, taken_piece, success_piece, failure_piece, status_piece, statement_on_piece, alone_piece, filing_piece, statement_piece}
 use Rattle.codegen.specs.Phrases.{met, IsWay, met_all}
 use Rattle.codegen.proofs.EvaluateKept.{groups_of, other_of}
 use Rattle.codegen.proofs.Opening.{opened_way, opened_longer, with_last, still_ways, groups_go_on, groups_done}
@@ -39,6 +51,8 @@ use Rattle.codegen.proofs.Pieces.{joined_nothing}
 use Rattle.codegen.proofs.Sequences.{then_piece, is_so, ends_so, on_ok}
 use Rattle.codegen.proofs.Meeting.{meeting, phrases_stand}
 use Rattle.codegen.proofs.Kept.{front_kept, back_kept, one_kept, item_kept}
+use Rattle.codegen.proofs.FilingKept.{first_kept, read_key_kept, read_into_kept, start_key_kept, record_names_one, record_from_kept}
+use Rattle.codegen.proofs.OnFiles.{none_found, one_found}
 use Rattle.codegen.proofs.emitter.Emitter.+statement.Goals as goal
 
 pub emit_statement-emit_moving-requires-clause-rules : goal.emit_statement-emit_moving-requires-clause-rules
@@ -67,6 +81,16 @@ emit_statement-emit_stringing-requires t c =
     let front = front_kept (string_rules scope.items one) (phrases_rules (statement_rules scope all_permitted) one.phrases) r in
     let phrases = back_kept (string_rules scope.items one) (phrases_rules (statement_rules scope all_permitted) one.phrases) r in
     (search (rules, the_lemmas), (c.requires.declared, (c.requires.entries, (front, (front_kept first second phrases, back_kept first second phrases)))))
+
+pub emit_statement-emit_filing-requires : goal.emit_statement-emit_filing-requires
+emit_statement-emit_filing-requires t c =
+    let scope = scope_in c.args.self.now.declarations.now in
+    let one = c.in-Filing.filing in
+    let own = filing_rules scope.items scope.files one in
+    let inner = file_phrases_rules (statement_rules scope all_permitted) (phrases_of one) in
+    let r : own ++ inner ≡ [] =
+    sym (ap (verb_rules scope all_permitted (statement_rules scope all_permitted)) c.in-Filing.is) ∙ sym (layers.statement_is scope all_permitted c.args.one.now) ∙ c.requires.rules in
+    (search (rules, the_lemmas), (c.requires.declared, (c.requires.entries, (front_kept own inner r, back_kept own inner r))))
 
 pub emit_statement-emit_branching-requires : goal.emit_statement-emit_branching-requires
 emit_statement-emit_branching-requires t c =
@@ -488,3 +512,295 @@ pub emit_stringing-emit_string-requires-clause-pointer : goal.emit_stringing-emi
 emit_stringing-emit_string-requires-clause-pointer t c =
     let items = (scope_in c.args.self.now.declarations.now).items in
     pointer_kept items (only_length (items_named items c.args.one.now.receiver.item)) c.args.one.now.pointer (keeps_string items c.args.one.now c.requires.string).pointer
+
+pub emit_filing-emit_read-requires : goal.emit_filing-emit_read-requires
+emit_filing-emit_read-requires t c =
+    let scope = scope_in c.args.self.now.declarations.now in
+    let phrases = c.in-Read.phrases in
+    let d = rw c.in-Read.is at c.decreases in
+    let own : file_named_rules scope.items scope.files c.in-Read.file (read_rules scope.items scope.files c.in-Read.file.place c.in-Read.next c.in-Read.into c.in-Read.key phrases) ≡ [] = sym (ap (filing_rules scope.items scope.files) c.in-Read.is) ∙ c.requires.rules in
+    let inner : file_phrases_rules (statement_rules scope all_permitted) phrases ≡ [] =
+    sym (ap (λ (f : Filing Statement). file_phrases_rules (statement_rules scope all_permitted) (phrases_of f)) c.in-Read.is) ∙ c.requires.phrases in
+    (omega (arith, d), (c.requires.declared, (c.requires.entries, (own, inner))))
+
+pub emit_filing-emit_record-requires : goal.emit_filing-emit_record-requires
+emit_filing-emit_record-requires t c =
+    let scope = scope_in c.args.self.now.declarations.now in
+    let phrases = c.in-Write.phrases in
+    let d = rw c.in-Write.is at c.decreases in
+    let own : record_rules scope.items scope.files c.in-Write.record c.in-Write.from phrases ≡ [] = sym (ap (filing_rules scope.items scope.files) c.in-Write.is) ∙ c.requires.rules in
+    let inner : file_phrases_rules (statement_rules scope all_permitted) phrases ≡ [] =
+    sym (ap (λ (f : Filing Statement). file_phrases_rules (statement_rules scope all_permitted) (phrases_of f)) c.in-Write.is) ∙ c.requires.phrases in
+    (omega (arith, d), (c.requires.declared, (c.requires.entries, (own, inner))))
+
+pub emit_filing-emit_record-requires-in-Rewrite : goal.emit_filing-emit_record-requires-in-Rewrite
+emit_filing-emit_record-requires-in-Rewrite t c =
+    let scope = scope_in c.args.self.now.declarations.now in
+    let phrases = c.in-Rewrite.phrases in
+    let d = rw c.in-Rewrite.is at c.decreases in
+    let own : record_rules scope.items scope.files c.in-Rewrite.record c.in-Rewrite.from phrases ≡ [] = sym (ap (filing_rules scope.items scope.files) c.in-Rewrite.is) ∙ c.requires.rules in
+    let inner : file_phrases_rules (statement_rules scope all_permitted) phrases ≡ [] =
+    sym (ap (λ (f : Filing Statement). file_phrases_rules (statement_rules scope all_permitted) (phrases_of f)) c.in-Rewrite.is) ∙ c.requires.phrases in
+    (omega (arith, d), (c.requires.declared, (c.requires.entries, (own, inner))))
+
+pub emit_filing-emit_delete-requires : goal.emit_filing-emit_delete-requires
+emit_filing-emit_delete-requires t c =
+    let scope = scope_in c.args.self.now.declarations.now in
+    let phrases = c.in-Delete.phrases in
+    let d = rw c.in-Delete.is at c.decreases in
+    let own : file_named_rules scope.items scope.files c.in-Delete.file (delete_rules scope.items scope.files c.in-Delete.file.place phrases) ≡ [] = sym (ap (filing_rules scope.items scope.files) c.in-Delete.is) ∙ c.requires.rules in
+    let inner : file_phrases_rules (statement_rules scope all_permitted) phrases ≡ [] =
+    sym (ap (λ (f : Filing Statement). file_phrases_rules (statement_rules scope all_permitted) (phrases_of f)) c.in-Delete.is) ∙ c.requires.phrases in
+    (omega (arith, d), (c.requires.declared, (c.requires.entries, inner)))
+
+pub emit_filing-emit_starting-requires : goal.emit_filing-emit_starting-requires
+emit_filing-emit_starting-requires t c =
+    let scope = scope_in c.args.self.now.declarations.now in
+    let phrases = c.in-Start.phrases in
+    let d = rw c.in-Start.is at c.decreases in
+    let own : file_named_rules scope.items scope.files c.in-Start.file (start_rules scope.items scope.files c.in-Start.file.place c.in-Start.key phrases) ≡ [] = sym (ap (filing_rules scope.items scope.files) c.in-Start.is) ∙ c.requires.rules in
+    let inner : file_phrases_rules (statement_rules scope all_permitted) phrases ≡ [] =
+    sym (ap (λ (f : Filing Statement). file_phrases_rules (statement_rules scope all_permitted) (phrases_of f)) c.in-Start.is) ∙ c.requires.phrases in
+    (omega (arith, d), (c.requires.declared, (c.requires.entries, (own, inner))))
+
+pub emit_filing-returns-in-Read : goal.emit_filing-returns-in-Read
+emit_filing-returns-in-Read t c =
+    let scope = scope_in c.args.self.now.declarations.now in
+    let inside = statement_piece scope in
+    let old = c.args.code.now in
+    let tick = tick_piece c.args.line in
+    let verb = λ (file : ProgramFile). meaning.read_verb scope.items file c.in-Read.next c.in-Read.key in
+    let piece = on_name_piece scope.items scope.files c.in-Read.file (statement_on_piece scope inside c.in-Read.phrases (into_piece scope.items c.in-Read.into) verb) in
+    let result = c.emit_read.result in
+    let new = c.emit_read.new.code in
+    is_so result new (joined old (both tick piece old)) (joined old (both tick (filing_piece scope inside c.args.one.now) old))
+    (ends_so result tick piece old c.emit_tick.new.code new c.in_ok-emit_tick.ensures c.emit_read.ensures)
+    (sym (ap (λ (one : Filing Statement). joined old (both tick (filing_piece scope inside one) old)) c.in-Read.is))
+
+pub emit_read-read_verb-requires-clause-rules : goal.emit_read-read_verb-requires-clause-rules
+emit_read-read_verb-requires-clause-rules t c =
+    let scope = scope_in c.args.self.now.declarations.now in
+    let name = c.args.name.now in
+    let known = file_in scope.items c.in-Some.file.now in
+    let asked = read_rules scope.items scope.files name.place c.args.next c.args.into.now c.args.key.now c.args.phrases.now in
+    read_key_kept scope.items scope.files name.place c.args.next c.args.into.now c.args.key.now c.args.phrases.now known
+    (first_kept name.place asked (files_named scope.files name) known c.requires.rules c.in-Some.ensures)
+
+pub emit_read-emit_on_file-requires : goal.emit_read-emit_on_file-requires
+emit_read-emit_on_file-requires t c =
+    let scope = scope_in c.args.self.now.declarations.now in
+    let name = c.args.name.now in
+    let known = file_in scope.items c.in-Some.file.now in
+    let asked = read_rules scope.items scope.files name.place c.args.next c.args.into.now c.args.key.now c.args.phrases.now in
+    let into = read_into_kept scope.items scope.files name.place c.args.next c.args.into.now c.args.key.now c.args.phrases.now known
+    (first_kept name.place asked (files_named scope.files name) known c.requires.rules c.in-Some.ensures) in
+    (omega (arith, c.decreases), (c.requires.declared, (c.requires.entries, (into, c.requires.phrases))))
+
+pub emit_read-returns-in_default : goal.emit_read-returns-in_default
+emit_read-returns-in_default t c =
+    let scope = scope_in c.args.self.now.declarations.now in
+    let verb = λ (file : ProgramFile). meaning.read_verb scope.items file c.args.next c.args.key.now in
+    none_found (first (files_named scope.files c.args.name.now)) (statement_on_piece scope (statement_piece scope) c.args.phrases.now (into_piece scope.items c.args.into.now) verb)
+    c.args.code.now c.in_default.ensures
+
+pub emit_read-returns : goal.emit_read-returns
+emit_read-returns t c =
+    let scope = scope_in c.args.self.now.declarations.now in
+    let inside = statement_piece scope in
+    let old = c.args.code.now in
+    let phrases = c.args.phrases.now in
+    let known = file_in scope.items c.in-Some.file.now in
+    let found = first (files_named scope.files c.args.name.now) in
+    let piece = statement_on_piece scope inside phrases (into_piece scope.items c.args.into.now) (λ (file : ProgramFile). meaning.read_verb scope.items file c.args.next c.args.key.now) in
+    let behind = status_piece scope inside known.places.status phrases (into_piece scope.items c.args.into.now known) in
+    let made = both (file_piece c.in_ok-verb.verb known) behind in
+    is_so c.emit_on_file.result c.emit_on_file.new.code (joined old (made old)) (joined old (on_file_piece found piece old)) c.emit_on_file.ensures
+    (one_found found piece known made old c.in-Some.ensures (ap (λ (verb : Verb). both (file_piece verb known) behind old) c.in_ok-verb.ensures))
+
+pub emit_record-emit_from-requires-clause-rules : goal.emit_record-emit_from-requires-clause-rules
+emit_record-emit_from-requires-clause-rules t c =
+    let scope = scope_in c.args.self.now.declarations.now in
+    record_from_kept scope.items scope.files c.args.one.now c.args.from.now c.args.phrases.now c.requires.rules
+
+pub emit_record-file_of_record-requires-clause-named : goal.emit_record-file_of_record-requires-clause-named
+emit_record-file_of_record-requires-clause-named t c =
+    let scope = scope_in c.args.self.now.declarations.now in
+    record_names_one scope.items scope.files c.args.one.now c.args.from.now c.args.phrases.now c.requires.rules
+
+pub emit_record-returns-in_default : goal.emit_record-returns-in_default
+emit_record-returns-in_default t c =
+    let scope = scope_in c.args.self.now.declarations.now in
+    let one = c.args.one.now in
+    let now = c.emit_from.new.code in
+    let found = file_with_record scope.files (first (items_named scope.items one.item)) in
+    let piece = alone_piece scope (statement_piece scope) c.args.phrases.now (λ (file : ProgramFile). c.args.verb) in
+    then_piece (from_piece scope.items one c.args.from.now) (on_file_piece found piece) c.args.code.now now now c.in_ok-emit_from.ensures
+    (none_found found piece now c.in_default.ensures)
+
+pub emit_record-returns : goal.emit_record-returns
+emit_record-returns t c =
+    let scope = scope_in c.args.self.now.declarations.now in
+    let inside = statement_piece scope in
+    let old = c.args.code.now in
+    let now = c.emit_from.new.code in
+    let new = c.emit_on_file.new.code in
+    let result = c.emit_on_file.result in
+    let one = c.args.one.now in
+    let phrases = c.args.phrases.now in
+    let known = file_in scope.items c.in-Some.file.now in
+    let found = file_with_record scope.files (first (items_named scope.items one.item)) in
+    let piece = alone_piece scope inside phrases (λ (file : ProgramFile). c.args.verb) in
+    let from = from_piece scope.items one c.args.from.now in
+    ends_so result from (on_file_piece found piece) old now new c.in_ok-emit_from.ensures
+    (is_so result new (joined now (piece known now)) (joined now (on_file_piece found piece now)) c.emit_on_file.ensures
+    (one_found found piece known (piece known) now c.in-Some.ensures refl))
+
+pub emit_delete-returns-in_default : goal.emit_delete-returns-in_default
+emit_delete-returns-in_default t c =
+    let scope = scope_in c.args.self.now.declarations.now in
+    none_found (first (files_named scope.files c.args.name.now)) (alone_piece scope (statement_piece scope) c.args.phrases.now (λ (file : ProgramFile). file_verb.Delete))
+    c.args.code.now c.in_default.ensures
+
+pub emit_delete-returns : goal.emit_delete-returns
+emit_delete-returns t c =
+    let scope = scope_in c.args.self.now.declarations.now in
+    let old = c.args.code.now in
+    let known = file_in scope.items c.in-Some.file.now in
+    let found = first (files_named scope.files c.args.name.now) in
+    let piece = alone_piece scope (statement_piece scope) c.args.phrases.now (λ (file : ProgramFile). file_verb.Delete) in
+    is_so c.emit_on_file.result c.emit_on_file.new.code (joined old (piece known old)) (joined old (on_file_piece found piece old)) c.emit_on_file.ensures
+    (one_found found piece known (piece known) old c.in-Some.ensures refl)
+
+pub emit_starting-start_verb-requires-clause-rules : goal.emit_starting-start_verb-requires-clause-rules
+emit_starting-start_verb-requires-clause-rules t c =
+    let scope = scope_in c.args.self.now.declarations.now in
+    let name = c.args.name.now in
+    let known = file_in scope.items c.in-Some.file.now in
+    let asked = start_rules scope.items scope.files name.place c.args.key.now c.args.phrases.now in
+    start_key_kept scope.items scope.files name.place c.args.key.now c.args.phrases.now known
+    (first_kept name.place asked (files_named scope.files name) known c.requires.rules c.in-Some.ensures)
+
+pub emit_starting-returns-in_default : goal.emit_starting-returns-in_default
+emit_starting-returns-in_default t c =
+    let scope = scope_in c.args.self.now.declarations.now in
+    let verb = λ (file : ProgramFile). meaning.start_verb scope.items file c.args.key.now in
+    none_found (first (files_named scope.files c.args.name.now)) (alone_piece scope (statement_piece scope) c.args.phrases.now verb) c.args.code.now c.in_default.ensures
+
+pub emit_starting-returns : goal.emit_starting-returns
+emit_starting-returns t c =
+    let scope = scope_in c.args.self.now.declarations.now in
+    let inside = statement_piece scope in
+    let old = c.args.code.now in
+    let phrases = c.args.phrases.now in
+    let known = file_in scope.items c.in-Some.file.now in
+    let found = first (files_named scope.files c.args.name.now) in
+    let piece = alone_piece scope inside phrases (λ (file : ProgramFile). meaning.start_verb scope.items file c.args.key.now) in
+    let behind = status_piece scope inside known.places.status phrases nothing_piece in
+    let made = both (file_piece c.in_ok-verb.verb known) behind in
+    is_so c.emit_on_file.result c.emit_on_file.new.code (joined old (made old)) (joined old (on_file_piece found piece old)) c.emit_on_file.ensures
+    (one_found found piece known made old c.in-Some.ensures (ap (λ (verb : Verb). both (file_piece verb known) behind old) c.in_ok-verb.ensures))
+
+pub emit_on_file-returns : goal.emit_on_file-returns
+emit_on_file-returns t c =
+    let scope = scope_in c.args.self.now.declarations.now in
+    let inside = statement_piece scope in
+    let old = c.args.code.now in
+    let phrases = c.args.phrases.now in
+    let known = file_in scope.items c.args.file.now in
+    let tested = c.emit_test.new.code in
+    let branched = c.emit_branch.new.code in
+    let done = c.emit_success.new.code in
+    let new = c.emit_meeting.new.code in
+    let file = file_piece c.args.verb known in
+    let test = test_piece Successful in
+    let into = into_piece scope.items c.args.into.now known in
+    let success = success_piece scope inside phrases in
+    let first_way = both into success in
+    let failure = failure_piece scope inside known.places.status phrases in
+    let ways = either_piece first_way failure in
+    let branch = c.in_ok-branch.branch in
+    let other = c.in_ok-other.other in
+    on_ok c.emit_meeting.result c.emit_meeting.ensures
+    (λ (m : new ≡ met branch other c.emit_failure.new.code).
+    then_piece file (both test ways) old c.emit_file.new.code new c.in_ok-emit_file.ensures
+    (then_piece test ways c.emit_file.new.code tested new c.in_ok-emit_test.ensures
+    (meeting first_way failure tested branched done c.emit_jump.new.code c.emit_failure.new.code new branch other
+    c.in_ok-branch.ensures.code c.in_ok-branch.ensures.address
+    (then_piece into success branched c.emit_into.new.code done c.in_ok-emit_into.ensures c.in_ok-emit_success.ensures)
+    c.in_ok-other.ensures.code c.in_ok-other.ensures.other c.in_ok-emit_failure.ensures m)))
+
+pub emit_success-emit_phrase-requires : goal.emit_success-emit_phrase-requires
+emit_success-emit_phrase-requires t c =
+    let inside = statement_rules (scope_in c.args.self.now.declarations.now) all_permitted in
+    let pair = c.in-AtEnd.pair in
+    let d = rw c.in-AtEnd.is at c.decreases in
+    let r : phrases_rules inside pair ≡ [] = sym (ap (file_phrases_rules inside) c.in-AtEnd.is) ∙ c.requires.phrases in
+    (omega (arith, d), (c.requires.declared, (c.requires.entries, back_kept (phrase_rules inside pair.arose) (phrase_rules inside pair.did_not) r)))
+
+pub emit_success-emit_phrase-requires-in-InvalidKey : goal.emit_success-emit_phrase-requires-in-InvalidKey
+emit_success-emit_phrase-requires-in-InvalidKey t c =
+    let inside = statement_rules (scope_in c.args.self.now.declarations.now) all_permitted in
+    let pair = c.in-InvalidKey.pair in
+    let d = rw c.in-InvalidKey.is at c.decreases in
+    let r : phrases_rules inside pair ≡ [] = sym (ap (file_phrases_rules inside) c.in-InvalidKey.is) ∙ c.requires.phrases in
+    (omega (arith, d), (c.requires.declared, (c.requires.entries, back_kept (phrase_rules inside pair.arose) (phrase_rules inside pair.did_not) r)))
+
+pub emit_failure-emit_class_phrase-requires : goal.emit_failure-emit_class_phrase-requires
+emit_failure-emit_class_phrase-requires t c =
+    let inside = statement_rules (scope_in c.args.self.now.declarations.now) all_permitted in
+    let pair = c.in-AtEnd.pair in
+    let d = rw c.in-AtEnd.is at c.decreases in
+    let r : phrases_rules inside pair ≡ [] = sym (ap (file_phrases_rules inside) c.in-AtEnd.is) ∙ c.requires.phrases in
+    (omega (arith, d), (c.requires.declared, (c.requires.entries, front_kept (phrase_rules inside pair.arose) (phrase_rules inside pair.did_not) r)))
+
+pub emit_failure-emit_class_phrase-requires-in-InvalidKey : goal.emit_failure-emit_class_phrase-requires-in-InvalidKey
+emit_failure-emit_class_phrase-requires-in-InvalidKey t c =
+    let inside = statement_rules (scope_in c.args.self.now.declarations.now) all_permitted in
+    let pair = c.in-InvalidKey.pair in
+    let d = rw c.in-InvalidKey.is at c.decreases in
+    let r : phrases_rules inside pair ≡ [] = sym (ap (file_phrases_rules inside) c.in-InvalidKey.is) ∙ c.requires.phrases in
+    (omega (arith, d), (c.requires.declared, (c.requires.entries, front_kept (phrase_rules inside pair.arose) (phrase_rules inside pair.did_not) r)))
+
+pub emit_class_phrase-returns : goal.emit_class_phrase-returns
+emit_class_phrase-returns t c =
+    let scope = scope_in c.args.self.now.declarations.now in
+    let old = c.args.code.now in
+    let tested = c.emit_test.new.code in
+    let new = c.emit_meeting.new.code in
+    let status = (file_in scope.items c.args.file.now).places.status in
+    let test = test_piece c.args.class in
+    let first_way = taken_piece scope (statement_piece scope) status c.args.arose.now in
+    let unheard = unheard_piece status in
+    let branch = c.in_ok-branch.branch in
+    let other = c.in_ok-other.other in
+    on_ok c.emit_meeting.result c.emit_meeting.ensures
+    (λ (m : new ≡ met branch other c.emit_unheard.new.code).
+    then_piece test (either_piece first_way unheard) old tested new c.in_ok-emit_test.ensures
+    (meeting first_way unheard tested c.emit_branch.new.code c.emit_phrase_taken.new.code c.emit_jump.new.code c.emit_unheard.new.code new branch other
+    c.in_ok-branch.ensures.code c.in_ok-branch.ensures.address c.in_ok-emit_phrase_taken.ensures c.in_ok-other.ensures.code c.in_ok-other.ensures.other
+    c.in_ok-emit_unheard.ensures m))
+
+pub emit_phrase_taken-emit_statements-requires : goal.emit_phrase_taken-emit_statements-requires
+emit_phrase_taken-emit_statements-requires t c =
+    let scope = scope_in c.args.self.now.declarations.now in
+    let e : c.args.phrase.now ≡ Some c.as_slice.result.now = c.in-Some.is ∙ ap (λ (l : List Statement). Some l) (sym c.as_slice.ensures) in
+    let d = rw e at c.decreases in (
+      omega (arith, d),
+      (c.requires.declared, (c.requires.entries, sym (ap (phrase_rules (statement_rules scope all_permitted)) e) ∙ c.requires.rules)),
+    )
+
+pub emit_stringing-returns : goal.emit_stringing-returns
+emit_stringing-returns t c =
+    let scope = scope_in c.args.self.now.declarations.now in
+    let one = c.args.one.now in
+    let old = c.args.code.now in
+    let ticked = c.emit_tick.new.code in
+    let put = c.emit_string.new.code in
+    let new = c.emit_phrases.new.code in
+    let result = c.emit_phrases.result in
+    let tick = tick_piece c.args.line in
+    let text = string_piece scope.items one.sendings one.receiver one.pointer in
+    let phrases = phrases_piece scope (statement_piece scope) one.phrases in
+    let is : put ≡ joined ticked (text ticked) =
+    c.in_ok-emit_string.ensures ∙ ap (λ (all : List Sending). joined ticked (string_piece scope.items all one.receiver one.pointer ticked)) c.as_slice.ensures in
+    ends_so result tick (both text phrases) old ticked new c.in_ok-emit_tick.ensures (ends_so result text phrases ticked put new is c.emit_phrases.ensures)

@@ -76,3 +76,33 @@ decreases-emit_selected l = 8 * goal.size-emit_selected l + 2
 
 abbrev pub decreases-emit_stringing : goal.decreases-emit_stringing
 decreases-emit_stringing l = 8 * goal.size-emit_stringing l + 4
+
+abbrev pub decreases-emit_filing : goal.decreases-emit_filing
+decreases-emit_filing l = 8 * goal.size-emit_filing l + 7
+
+abbrev pub decreases-emit_read : goal.decreases-emit_read
+decreases-emit_read l = 8 * goal.size-emit_read l + 6
+
+abbrev pub decreases-emit_record : goal.decreases-emit_record
+decreases-emit_record l = 8 * goal.size-emit_record l + 6
+
+abbrev pub decreases-emit_delete : goal.decreases-emit_delete
+decreases-emit_delete l = 8 * goal.size-emit_delete l + 6
+
+abbrev pub decreases-emit_starting : goal.decreases-emit_starting
+decreases-emit_starting l = 8 * goal.size-emit_starting l + 6
+
+abbrev pub decreases-emit_on_file : goal.decreases-emit_on_file
+decreases-emit_on_file l = 8 * goal.size-emit_on_file l + 5
+
+abbrev pub decreases-emit_failure : goal.decreases-emit_failure
+decreases-emit_failure l = 8 * goal.size-emit_failure l + 4
+
+abbrev pub decreases-emit_success : goal.decreases-emit_success
+decreases-emit_success l = 8 * goal.size-emit_success l + 3
+
+abbrev pub decreases-emit_class_phrase : goal.decreases-emit_class_phrase
+decreases-emit_class_phrase l = 8 * goal.size-emit_class_phrase l + 3
+
+abbrev pub decreases-emit_phrase_taken : goal.decreases-emit_phrase_taken
+decreases-emit_phrase_taken l = 8 * goal.size-emit_phrase_taken l + 2

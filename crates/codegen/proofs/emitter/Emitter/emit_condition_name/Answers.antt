@@ -13,6 +13,7 @@ use Rattle.codegen.specs.DataCode.{dimensions_of, work_piece, works_piece, subsc
 use Rattle.codegen.specs.ConditionCode.{condition_item, values_piece, condition_name_piece}
 use Rattle.codegen.specs.Values.{AreFormedValues}
 use Rattle.codegen.proofs.ConditionNames.{values_formed}
+use Rattle.codegen.proofs.ConditionValues.{descriptions_kept}
 use Rattle.codegen.proofs.Kept.{back_kept}
 use Rattle.codegen.proofs.Sequences.{is_so, ends_so}
 use Rattle.codegen.proofs.emitter.Emitter.emit_condition_name.Goals as goal
@@ -23,7 +24,10 @@ emit_subscripts-requires-clause-rules c =
 
 pub emit_values-requires : goal.emit_values-requires
 emit_values-requires c =
-    subst AreFormedValues (sym c.values_named.ensures) (values_formed c.args.self.now.declarations.now.entries.now c.args.one.now.item c.requires.entries)
+    let declarations = c.args.self.now.declarations.now in
+    subst AreFormedValues (sym c.values_named.ensures)
+    (values_formed declarations.program.now c.args.one.now.item c.requires.entries
+    (descriptions_kept (items_in declarations) declarations.program.now c.requires.declared.file_rules))
 
 pub returns : goal.returns
 returns c =

@@ -1,0 +1,7 @@
+-- What file statements look at of a file.
+use Rattle.records.specs.Spec.{Spec}
+use Rattle.program_files.specs.declared.file.ProgramFile.{ProgramFile}
+
+-- its organization and its keys
+abbrev pub spec_in : ProgramFile → Spec
+spec_in one = record { organization = one.organization; record_length = one.record_length; alternates = one.alternates.items }
