@@ -1,32 +1,24 @@
--- Images and their one run.
-use Rattle.std.proofs.Common.{◌≡◌, ◌∙◌, ℕ, List, Vec, Result, Ok, Err, sym, subst, ap, inl, inr}
+-- Images and their one code.
+use Rattle.std.proofs.Common.{◌≡◌, ◌∙◌, ℕ, List, [], ◌∷◌, length, Vec, Result, Ok, Err, refl, subst, ap, arith, inl, inr}
 use Rattle.std.specs.Prelude.{IfOk, OnOk}
 use Rattle.std.specs.declared.alloc.AllocError.{AllocError}
 use Rattle.std.specs.declared.alloc.Global.{Global}
-use Rattle.station.specs.State.{State}
 use Rattle.source_tree.specs.declared.program.Program.{Program}
-use Rattle.source_tree.specs.Given.{Given, given_on}
+use Rattle.source_tree.specs.Given.{Given}
 use Rattle.source_tree.specs.Meaning.{meaning}
 use Rattle.code_image.specs.Demands.{IsVerified, Refuses}
 use Rattle.image_tables.specs.declared.fault.ImageFault.{ImageFault}
 use Rattle.image_tables.specs.declared.fault.ImageFault.TheVariants as in_image
-use Rattle.machine.specs.declared.ended.Ended.{Ended as MachineEnded}
-use Rattle.machine.specs.declared.ended.Ended.TheVariants as machine
-use Rattle.machine.specs.declared.ended.Refusal.TheVariants as refused
-use Rattle.machine.specs.Ends as run
-use Rattle.machine.specs.Ends.{code_of, day_of}
-use Rattle.machine.specs.declared.machine.Machine.{Machine}
-use Rattle.run_unit.specs.Ends.{EndsAs, ForImage, IfUnbegun, IsEndOfImage, ended_of}
-use Rattle.run_unit.specs.declared.ended.Refusal.TheVariants.{Image, Device, Memory}
+use Rattle.run_unit.specs.Ends.{ForImage, IsEndOfImage}
+use Rattle.run_unit.specs.declared.ended.Refusal.TheVariants.{Image, Device, Full, Damaged, Memory}
 use Rattle.run_unit.specs.declared.ended.Ended.{Ended}
 use Rattle.run_unit.specs.declared.ended.Ended.TheVariants.{Stopped, Budget, Faulted, Refused}
-use Rattle.source_tree.specs.Meaning.{Run}
 use Rattle.code_image.specs.declared.code.Code.{Code}
 use Rattle.code_image.specs.Spelling.{spelling, HasSpelling}
 use Rattle.code_image.specs.Reading.{code_at}
 use Rattle.code_image.specs.Table.{Runs}
 use Rattle.run_unit.specs.Images.{IsImageOf, IsImage, RefusesImage, MeansAs}
-use Rattle.run_unit.proofs.Stages.{value}
+use Rattle.run_unit.proofs.Results.{value}
 
 -- what `spelling_law` says
 abbrev pub OneSpelling : Type 0
@@ -34,6 +26,10 @@ OneSpelling = (code : Code) → HasSpelling code → code_at (spelling code) ≡
 
 pub read_again : OneSpelling → (image : List ℕ) (code : Code) → IsImageOf image code → code_at image ≡ Ok code
 read_again spelt image code is = ap code_at is.bytes ∙ spelt code is.spelt
+
+-- an image is of one code
+pub one_code : OneSpelling → (image : List ℕ) (code other : Code) → IsImageOf image code → IsImageOf image other → code ≡ other
+one_code spelt image code other a b = value (read_again spelt image code a) (read_again spelt image other b)
 
 -- verified code breaks no demand
 keeps_demands : (code : Code) (fault : ImageFault) → IsVerified code → Refuses code fault → ⊥
@@ -59,39 +55,19 @@ end_of_image spelt image Budget is for = tt
 end_of_image spelt image (Faulted fault line) is for = tt
 end_of_image spelt image (Refused (Image fault)) is for = never_refused spelt image is.0 fault is.1 for
 end_of_image spelt image (Refused Device) is for = tt
+end_of_image spelt image (Refused Full) is for = tt
+end_of_image spelt image (Refused Damaged) is for = tt
 end_of_image spelt image (Refused Memory) is for = tt
 
--- what a machine answers is answered of an image
-pub for_image : (image : List ℕ) (ended : MachineEnded) → IsImage image → ForImage (ended_of ended) image
-for_image image machine.Stopped is = is
-for_image image machine.Budget is = is
-for_image image (machine.Faulted fault line) is = is
-for_image image (machine.Refused refused.Device) is = is
-
--- a machine's run has begun
-pub begun : (fact : Type 0) (ended : MachineEnded) → IfUnbegun (ended_of ended) fact
-begun fact machine.Stopped = tt
-begun fact machine.Budget = tt
-begun fact (machine.Faulted fault line) = tt
-begun fact (machine.Refused refused.Device) = tt
-
 -- what is written of a tree's code is an image that means the same
-pub made : (tree : Program) (code : Code) (written : Result (Vec ℕ Global) AllocError) → ((given : Given) → Runs code given (meaning tree given)) → IsVerified code
+pub made : (tree : Program) (code : Code) (written : Result (Vec ℕ Global) AllocError) → ((given : Given) → Runs code given (meaning tree given))
+    → length code.files ≡ length tree.selects → IsVerified code
     → IfOk written (λ bytes. bytes.items ≡ spelling code) → OnOk written (HasSpelling code) → IfOk written (λ image. MeansAs tree image.items)
-made tree code (Ok image) ends verified bytes spelt =
-    λ given. record { code = code; is = record { bytes = bytes; spelt = spelt; verified = verified }; runs = ends given }
-made tree code (Err e) ends verified bytes spelt = tt
+made tree code (Ok image) ends files verified bytes spelt =
+    record { code = code; is = record { bytes = bytes; spelt = spelt; verified = verified }; files = files; runs = ends }
+made tree code (Err e) ends files verified bytes spelt = tt
 
--- a machine that was loaded has the run of its code, on its day
-pub runs_as : (budget : ℕ) (run : Run) (state : State) (machine : Machine) (day : List ℕ) (code : Code) → code_of machine ≡ code → day_of machine ≡ day
-    → Runs code (given_on state day budget) run → Runs (code_of machine) (given_on state (day_of machine) budget) run
-runs_as budget run state machine day code same_code same_day runs =
-    subst (λ (c : Code). Runs c (given_on state (day_of machine) budget) run) (sym same_code)
-    (subst (λ (d : List ℕ). Runs code (given_on state d budget) run) (sym same_day) runs)
-
--- what is so after a machine's run
-pub ends_as : (all : Run) (old now : State) (ended : MachineEnded) → run.EndsAs all old ended now → EndsAs all old (ended_of ended) now
-ends_as all old now machine.Stopped ends = ends
-ends_as all old now machine.Budget ends = ends
-ends_as all old now (machine.Faulted fault line) ends = ends
-ends_as all old now (machine.Refused refused.Device) ends = tt
+-- of two lists of one length both are empty, or none
+pub none_too : {A B : Type 0} (xs : List A) (ys : List B) → length xs ≡ length ys → ys ≡ [] → xs ≡ []
+none_too [] ys same none = refl
+none_too (x ∷ xs) ys same none = let zero : length ys ≡ 0 = ap length none in absurd (omega arith)

@@ -9,7 +9,7 @@ use Rattle.tokens.specs.Tokens.{TokensOf}
 use Rattle.tokens.specs.Scanning.{tokens}
 use Rattle.source_tree.specs.declared.program.Program.{Program}
 use Rattle.statements.specs.Spelling.{max_nesting}
-use Rattle.data_division.specs.Forms.{HasForms}
+use Rattle.data_division.specs.Forms.{HasForms, program_entries}
 use Rattle.divisions.specs.Spelling.{Spells}
 use Rattle.divisions.specs.Faults.{IsAnswer, parse_of}
 use Rattle.answers.specs.Answer.{Fails}
@@ -34,17 +34,7 @@ use Rattle.run_unit.specs.Trees.{IsReadFrom, IsTreeAnswer, IsRecursion, IsToldOf
 use Rattle.run_unit.specs.Images.{IsImageAnswer}
 use Rattle.run_unit.specs.declared.fault.CompileError.{CompileError}
 use Rattle.run_unit.specs.declared.fault.CompileError.TheVariants.{Memory, Refused}
-
-ok : {A : Type 0} (F : Type 0) → A → Result A F
-ok F a = Ok a
-
-same : {A F : Type 0} {a b : A} → ok F a ≡ ok F b → a ≡ b
-unfolding ok
-same e = cc
-
-pub value : {A F : Type 0} {r : Result A F} {a b : A} → r ≡ Ok a → r ≡ Ok b → a ≡ b
-unfolding ok
-value {F = F} e f = same {F = F} (sym e ∙ f)
+use Rattle.run_unit.proofs.Results.{value}
 
 -- what `reference_format` and `laws` say
 abbrev pub OneFormat : Type 0
@@ -77,13 +67,10 @@ no_place : {A : Type 0} {o : Option A} {a : A} → o ≡ None → o ≡ Some a �
 no_place none some = cc
 
 -- where a tree of the greatest depth, whose pictures have forms, spells the tokens, only memory refuses it
-pub tree_refusal : (tree : Program) → HasForms tree.storage → (e : ParseError) → IsAnswer max_nesting tree (Err e) → IsTreeAnswer tree (Err (from_tree e))
+pub tree_refusal : (tree : Program) → HasForms (program_entries tree) → (e : ParseError) → IsAnswer max_nesting tree (Err e) → IsTreeAnswer tree (Err (from_tree e))
 tree_refusal tree formed in_tree.Memory allowed = tt
 tree_refusal tree formed (in_tree.Refused fault) (inl deeper) = absurd (let deep : 64 < 64 = deeper.1 in omega (arith, deep))
 tree_refusal tree formed (in_tree.Refused fault) (inr formless) = absurd (no_place formed formless.1)
-
-fails_not : {A F : Type 0} {a : A} {fault : F} {r : Result A F} → r ≡ Ok a → r ≡ Err fault → ⊥
-fails_not is fails = cc
 
 -- what `one_answer` says
 abbrev pub NoRing : Type 0

@@ -9,9 +9,9 @@ use Rattle.divisions.specs.Spelling.{Spells}
 use Rattle.code_image.specs.declared.code.Code.{Code}
 use Rattle.code_image.specs.Table.{Runs}
 use Rattle.run_unit.specs.Trees.{IsTreeOf}
-use Rattle.run_unit.specs.Images.{IsImageOf, HasRun}
-use Rattle.run_unit.proofs.Stages.{value, OneFormat, OneScan, spelled_by}
-use Rattle.run_unit.proofs.Images.{OneSpelling, read_again}
+use Rattle.run_unit.specs.Images.{HasRun}
+use Rattle.run_unit.proofs.Stages.{OneFormat, OneScan, spelled_by}
+use Rattle.run_unit.proofs.Images.{OneSpelling, one_code}
 
 -- what `one_tree` says
 abbrev pub OneTree : Type 0
@@ -24,11 +24,7 @@ one_tree format scan spelling source tree other a b =
     (spelled_by format scan source tree a.read other_read.characters other_read.tokens (format source other_read.characters other_read.format) (scan other_read.characters other_read.tokens other_read.scanned))
     other_read.spelled
 
--- an image is of one code
-pub one_code : OneSpelling → (image : List ℕ) (code other : Code) → IsImageOf image code → IsImageOf image other → code ≡ other
-one_code spelt image code other a b = value (read_again spelt image code a) (read_again spelt image other b)
-
--- and has one run with what it is given
+-- an image has one run with what it is given
 pub one_run : OneSpelling → ((code : Code) (given : Given) (run other : Run) → Runs code given run → Runs code given other → run ≡ other)
     → (image : List ℕ) (given : Given) (run other : Run) → HasRun image given run → HasRun image given other → run ≡ other
 one_run spelt law image given run other a b =

@@ -1,5 +1,5 @@
 -- Images of programs, and their runs.
-use Rattle.std.specs.Prelude.{◌≡◌, ◌⊎◌, ℕ, List, Vec, Result, Ok, Err}
+use Rattle.std.specs.Prelude.{◌≡◌, ◌⊎◌, ℕ, List, length, Vec, Result, Ok, Err}
 use Rattle.std.specs.declared.alloc.Global.{Global}
 use Rattle.source_tree.specs.declared.program.Program.{Program}
 use Rattle.source_tree.specs.Given.{Given}
@@ -25,9 +25,12 @@ pub record HasRun (image : List ℕ) (given : Given) (run : Run) : Type 0 where
   pub is : IsImageOf image code
   pub runs : Runs code given run
 
--- Whatever it is given, the run of the image is what the tree means.
-abbrev pub MeansAs : Program → List ℕ → Type 0
-MeansAs tree image = (given : Given) → HasRun image given (meaning tree given)
+-- The image has as many files as the tree, and whatever it is given, its run is what the tree means.
+pub record MeansAs (tree : Program) (image : List ℕ) : Type 0 where
+  pub code : Code
+  pub is : IsImageOf image code
+  pub files : length code.files ≡ length tree.selects
+  pub runs : (given : Given) → Runs code given (meaning tree given)
 
 -- What `compile` may answer where this is the tree of the source text: an image that means the same, or that memory ran out.
 abbrev pub IsImageAnswer : Program → Result (Vec ℕ Global) CompileError → Type 0

@@ -2,5 +2,8 @@ pub mod Faults
 pub mod Trees
 pub mod Images
 pub mod Ends
+pub mod Alone
+pub mod Volume
 pub use Rattle.answers.specs.Answer
 pub use Rattle.source_tree.specs.Meaning
+pub use Rattle.machine.specs.Prefix

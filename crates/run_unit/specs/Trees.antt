@@ -12,7 +12,7 @@ use Rattle.source_tree.specs.Recursion.{HasOrder}
 use Rattle.source_tree.specs.Rules.{program_rules}
 use Rattle.check_rules.specs.Told.{Recurses}
 use Rattle.statements.specs.Spelling.{max_nesting}
-use Rattle.data_division.specs.Forms.{HasForms}
+use Rattle.data_division.specs.Forms.{HasForms, program_entries}
 use Rattle.divisions.specs.Spelling.{Spells}
 use Rattle.divisions.specs.Faults.{parse_of}
 use Rattle.run_unit.specs.Faults.{StageFault, OfLines, OfTokens, OfTree, OfRules}
@@ -31,7 +31,7 @@ pub record IsReadFrom (source : List ℕ) (tree : Program) : Type 0 where
   pub format : HasCharacters source characters
   pub scanned : TokensOf characters tokens
   pub spelled : Spells max_nesting tree tokens
-  pub formed : HasForms tree.storage
+  pub formed : HasForms (program_entries tree)
 
 -- And it keeps the rules, and none of its PERFORMs leads back to the paragraph that it stands in.
 pub record IsTreeOf (source : List ℕ) (tree : Program) : Type 0 where

@@ -1,10 +1,11 @@
 //! How a run ends.
 
 ghost use Rattle.std.specs.Prelude.{◌≡◌};
-ghost use Rattle.run_unit.specs.Ends.{number_of, ended_of};
+ghost use Rattle.run_unit.specs.Ends.{number_of, ended_of, refusal_of, of_opening};
 
 use code_image::{ImageError, ImageFault};
 use data_instructions::ProgramFault;
+use records::StoreFault;
 use std::alloc::AllocError;
 use thiserror::Error;
 
@@ -17,13 +18,16 @@ pub enum Refusal {
     /// 80.
     #[error("the device failed")]
     Device,
+    /// 81.
+    #[error("the volume is full")]
+    Full,
+    /// 82.
+    #[error("the volume is damaged")]
+    Damaged,
     /// 83.
     #[error("out of memory")]
     Memory,
 }
-
-/// The number of want of memory.
-const MEMORY: u8 = 83;
 
 impl Refusal {
     /// The number that the product prints.
@@ -33,7 +37,36 @@ impl Refusal {
         match self {
             Refusal::Image(fault) => fault.number(),
             Refusal::Device => machine::Refusal::Device.number(),
-            Refusal::Memory => MEMORY,
+            Refusal::Full => machine::Refusal::Full.number(),
+            Refusal::Damaged => machine::Refusal::Damaged.number(),
+            Refusal::Memory => machine::Refusal::Memory.number(),
+        }
+    }
+}
+
+impl Refusal {
+    /// Why a machine's run was given up.
+    fn of(refusal: machine::Refusal) -> Refusal
+        ensures { result ≡ refusal_of refusal }
+    {
+        match refusal {
+            machine::Refusal::Device => Refusal::Device,
+            machine::Refusal::Full => Refusal::Full,
+            machine::Refusal::Damaged => Refusal::Damaged,
+            machine::Refusal::Memory => Refusal::Memory,
+        }
+    }
+
+    /// Why a volume isn't opened. One with the other layout counts as damaged, for there is no store for it yet.
+    pub(crate) fn of_opening(fault: StoreFault) -> Refusal
+        ensures { result ≡ of_opening fault }
+    {
+        match fault {
+            StoreFault::Device => Refusal::Device,
+            StoreFault::Memory => Refusal::Memory,
+            StoreFault::Full | StoreFault::Damaged | StoreFault::Spent | StoreFault::Layout => {
+                Refusal::Damaged
+            }
         }
     }
 }
@@ -70,7 +103,7 @@ pub enum Ended {
     Stopped,
     /// A statement was to begin, and the budget was used up.
     Budget,
-    /// 90 or 91: the statement that began in this line of the source did something wrong.
+    /// 90 to 92: the statement that began in this line of the source did something wrong.
     Faulted { fault: ProgramFault, line: u32 },
     /// The run was given up, or never began.
     Refused(Refusal),
@@ -85,7 +118,7 @@ impl Ended {
             machine::Ended::Stopped => Ended::Stopped,
             machine::Ended::Budget => Ended::Budget,
             machine::Ended::Faulted { fault, line } => Ended::Faulted { fault, line },
-            machine::Ended::Refused(machine::Refusal::Device) => Ended::Refused(Refusal::Device),
+            machine::Ended::Refused(refusal) => Ended::Refused(Refusal::of(refusal)),
         }
     }
 }

@@ -1,37 +1,39 @@
 //! Running an image.
 
-ghost use Rattle.std.specs.Prelude.{◌≡◌, ◌↔◌, ℕ, All, IfOk, IfErr};
-ghost use Rattle.station.specs.History.{Through};
-ghost use Rattle.source_tree.specs.Given.{given_on};
+ghost use Rattle.std.specs.Prelude.{◌≡◌, ◌≢◌, ◌↔◌, [], All, IfOk, IfErr};
+ghost use Rattle.half_store.specs.Half.{Holds};
+ghost use Rattle.records.specs.Files.{Files};
+ghost use Rattle.source_tree.specs.Given.{given_on, given_over};
 ghost use Rattle.source_tree.specs.Meaning.{Run};
 ghost use Rattle.code_image.specs.declared.code.Code.{Code};
-ghost use Rattle.machine.specs.Ends.{code_of, day_of, IsDigit, Moment};
-ghost use Rattle.run_unit.specs.Images.{IsImageOf, HasRun};
-ghost use Rattle.run_unit.specs.Ends.{EndsAs, HasCause, IsCauseOf, ForImage, IfUnbegun, IsLoaded};
+ghost use Rattle.code_image.specs.Table.{Runs};
+ghost use Rattle.machine.specs.Ends.{IsDigit};
+ghost use Rattle.run_unit.specs.Alone.{RunsAlone};
+ghost use Rattle.run_unit.specs.Images.{IsImageOf};
+ghost use Rattle.run_unit.specs.Ends.{HasCause, IsCauseOf, ForImage, IfUnbegun, IsLoaded};
+ghost use Rattle.run_unit.specs.Volume.{RunsOnVolume};
 
 use crate::ended::{Ended, Refusal};
-use code_image::{from_bytes, verify};
-use machine::Machine;
+use crate::volume::{run_alone, run_on_volume};
+use code_image::{Verified, from_bytes, verify};
 use station::Station;
 use std::alloc::Global;
 
-/// A machine with the code of an image.
-fn load(alloc: Global, image: &[u8], day: [u8; 6]) -> Result<Machine, Refusal>
-    requires { All IsDigit day }
-    ensures loaded { IfOk result (λ machine. IsImageOf image.now (code_of machine)) }
-    ensures day { IfOk result (λ machine. day_of machine ≡ day) }
+/// The code of an image.
+fn load(alloc: Global, image: &[u8]) -> Result<Verified, Refusal>
+    ensures loaded { IfOk result (λ code. IsImageOf image.now code) }
     ensures only { (code : Code) → IsImageOf image.now code → IsLoaded code result }
     ensures cause { IfErr result (λ refusal. IsCauseOf refusal image.now) }
 {
     let code = from_bytes(alloc, image)?;
-    let verified = verify(alloc, code)?;
-    Ok(Machine::new(alloc, verified, day)?)
+    Ok(verify(alloc, code)?)
 }
 
 /// Runs an image, with a budget of one for each statement. The day is six ASCII digits, YYMMDD.
 ///
-/// `Refused` by 70 to 74 where the bytes are no image, and by 83 where memory runs out, both before any call on the station;
-/// by 80 where the station failed.
+/// An image with files runs over the volume that the station's sectors are, which is opened first; one without files leaves
+/// them alone. `Refused` by 70 to 74 where the bytes are no image, before any call on the station; by 80 where the station failed,
+/// by 82 where its sectors hold no files, by 81 where the volume has no room for a change, and by 83 where memory runs out.
 pub fn run_image<S: Station>(
     alloc: Global,
     image: &[u8],
@@ -45,18 +47,31 @@ pub fn run_image<S: Station>(
     ensures cause { HasCause result (S.failures station.old) (S.failures station.new) }
     // Bytes are refused by 70 to 74 for the fault that they have, and run only where they are an image.
     ensures image { ForImage result image.now }
-    // Where they are refused, or memory runs out, nothing was done.
+    // Where they are refused nothing was done, and so it is where memory runs out and the image has no files.
     ensures unbegun { IfUnbegun result (station.new ≡ station.old) }
-    // At each moment a beginning of the image's run was shown, of the console's lines the first were taken, and nothing
-    // else was done.
-    ensures moments { S.is_honest station.old → (run : Run) → HasRun image.now (given_on (S.state station.old) day budget) run →
-        Through (S.history station.old) (S.history station.new) (S.state station.new) (Moment run (S.state station.old)) }
-    // At the end all of it was, and the end is the run's.
-    ensures ends { S.is_honest station.old → (run : Run) → HasRun image.now (given_on (S.state station.old) day budget) run →
-        EndsAs run (S.state station.old) result (S.state station.new) }
+    ensures memory { (code : Code) → IsImageOf image.now code → code.files ≡ [] → result ≡ Ended.Refused Refusal.Memory → station.new ≡ station.old }
+    // An image without files: at each moment a beginning of its run was shown, of the console's lines the first were taken, and nothing
+    // else was done. At the end all of it was, and the end is the run's.
+    ensures alone { S.is_honest station.old → (code : Code) → IsImageOf image.now code → code.files ≡ [] →
+        (run : Run) → Runs code (given_on (S.state station.old) day budget) run →
+        RunsAlone run (S.history station.old) (S.state station.old) result (S.history station.new) (S.state station.new) }
+    // An image with files: from the opening of the volume on, at each moment a beginning of its run was told, and whatever a crash leaves
+    // holds the files after the statuses that were received, or after one more, which is in progress. At the end all of it was told, and
+    // the files are the last.
+    ensures volume { S.is_honest station.old → (code : Code) → IsImageOf image.now code → code.files ≢ [] →
+        (run : Files → Run) → ((files : Files) → Runs code (given_over files (S.state station.old) day budget) (run files)) →
+        RunsOnVolume Holds run (S.history station.old) (S.state station.old) result (S.history station.new) (S.state station.new) }
+    // A volume that holds files isn't told to be damaged.
+    ensures sound { S.is_honest station.old → (files : Files) → Holds (S.state station.old).disk.present files → result ≢ Ended.Refused Refusal.Damaged }
 {
-    match load(alloc, image, day) {
-        Ok(machine) => Ended::of(machine.run(station, budget)),
+    match load(alloc, image) {
+        Ok(code) => {
+            if code.code().files.is_empty() {
+                run_alone(alloc, code, station, day, budget)
+            } else {
+                run_on_volume(alloc, code, station, day, budget)
+            }
+        }
         Err(refusal) => Ended::Refused(refusal),
     }
 }

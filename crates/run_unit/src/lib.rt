@@ -8,7 +8,10 @@ mod ended;
 mod fault;
 mod image;
 mod laws;
+mod no_files;
+mod over;
 mod source;
+mod volume;
 
 pub use compiling::compile;
 pub use data_instructions::ProgramFault;
@@ -16,4 +19,5 @@ pub use ended::{Ended, Refusal};
 pub use fault::{CompileError, CompileFault};
 pub use image::run_image;
 pub use laws::one_meaning;
+pub use over::run_over;
 pub use source::run_source;

@@ -1,18 +1,21 @@
 //! Compiling and running in one call.
 
-ghost use Rattle.std.specs.Prelude.{◌≡◌, ◌↔◌, All, OnErr, IfOk, IfErr};
-ghost use Rattle.station.specs.History.{Through};
+ghost use Rattle.std.specs.Prelude.{◌≡◌, ◌≢◌, ◌↔◌, [], All, Ok, OnErr, IfOk, IfErr};
+ghost use Rattle.half_store.specs.Half.{Holds};
+ghost use Rattle.records.specs.Files.{Files};
 ghost use Rattle.source_tree.specs.declared.program.Program.{Program};
-ghost use Rattle.source_tree.specs.Given.{given_on};
+ghost use Rattle.source_tree.specs.Given.{given_on, given_over};
 ghost use Rattle.source_tree.specs.Meaning.{meaning};
-ghost use Rattle.machine.specs.Ends.{IsDigit, Moment};
+ghost use Rattle.machine.specs.Ends.{IsDigit};
 ghost use Rattle.run_unit.specs.Faults.{fault_of};
 ghost use Rattle.run_unit.specs.Trees.{IsTreeOf, IsFaultOf};
-ghost use Rattle.run_unit.specs.Ends.{EndsAs, HasCause, IfUnbegun, IsEndOfImage, ForSource};
+ghost use Rattle.run_unit.specs.Ends.{IsEndOfImage, ForSource};
+ghost use Rattle.run_unit.specs.Alone.{RunsAlone};
+ghost use Rattle.run_unit.specs.Volume.{RunsOnVolume};
 ghost use Rattle.run_unit.specs.declared.fault.CompileError.TheVariants.{Memory};
 
 use crate::compiling::compile;
-use crate::ended::Ended;
+use crate::ended::{Ended, Refusal};
 use crate::fault::CompileError;
 use crate::image::run_image;
 use code_image::spelling_law;
@@ -35,19 +38,23 @@ pub fn run_source<S: Station>(
     // where there is none.
     ensures untouched { OnErr result (station.new ≡ station.old) }
     ensures fault { IfErr result (λ e. IsFaultOf source.now (fault_of e)) }
-    // Its image is never refused, and where memory runs out before the run nothing was done.
+    // Its image is never refused, and where memory runs out and the program has no files nothing was done.
     ensures own { IfOk result IsEndOfImage }
-    ensures unbegun { IfOk result (λ ended. IfUnbegun ended (station.new ≡ station.old)) }
+    ensures memory { (tree : Program) → IsTreeOf source.now tree → tree.selects ≡ [] → result ≡ Ok (Ended.Refused Refusal.Memory) → station.new ≡ station.old }
     // A source text is run only if it has a tree. One with a tree is refused for want of memory alone.
     ensures accepted { IfOk result (λ _. (tree : Program) × IsTreeOf source.now tree) }
     ensures only { (tree : Program) → IsTreeOf source.now tree → IfErr result (λ e. e ≡ Memory) }
-    // At each moment of the call a beginning of what the tree means was shown, of the console's lines the first were taken, and
-    // nothing else was done.
-    ensures moments { S.is_honest station.old → (tree : Program) → IsTreeOf source.now tree →
-        Through (S.history station.old) (S.history station.new) (S.state station.new) (Moment (meaning tree (given_on (S.state station.old) day budget)) (S.state station.old)) }
-    // At the end all of it was, and the end is the meaning's.
-    ensures ends { S.is_honest station.old → (tree : Program) → IsTreeOf source.now tree →
-        IfOk result (λ ended. EndsAs (meaning tree (given_on (S.state station.old) day budget)) (S.state station.old) ended (S.state station.new)) }
+    // A program without files: at each moment of the call a beginning of what the tree means was shown, of the console's lines the first
+    // were taken, and nothing else was done. At the end all of it was, and the end is the meaning's.
+    ensures alone { S.is_honest station.old → (tree : Program) → IsTreeOf source.now tree → tree.selects ≡ [] →
+        IfOk result (λ ended. RunsAlone (meaning tree (given_on (S.state station.old) day budget)) (S.history station.old) (S.state station.old) ended (S.history station.new) (S.state station.new)) }
+    // A program with files: from the opening of the volume on, at each moment a beginning of what the tree means was told, and whatever a
+    // crash leaves holds the files that it means after the statuses that were received, or after one more, which is in progress. At the
+    // end all of it was told, and the files are the last.
+    ensures volume { S.is_honest station.old → (tree : Program) → IsTreeOf source.now tree → tree.selects ≢ [] →
+        IfOk result (λ ended. RunsOnVolume Holds (λ files. meaning tree (given_over files (S.state station.old) day budget)) (S.history station.old) (S.state station.old) ended (S.history station.new) (S.state station.new)) }
+    // A volume that holds files isn't told to be damaged.
+    ensures sound { S.is_honest station.old → (files : Files) → Holds (S.state station.old).disk.present files → IfOk result (λ ended. ended ≢ Ended.Refused Refusal.Damaged) }
 {
     spelling_law();
     let image = compile(alloc, source)?;

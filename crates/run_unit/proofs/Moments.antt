@@ -1,0 +1,153 @@
+-- Moments and ends of a run, over connectors and over the store below them, and without files.
+use Rattle.std.proofs.Common.{◌≡◌, ◌∙◌, ◌⊎◌, ℕ, suc, ◌+◌, List, [], ◌++◌, refl, sym, subst, ap, arith, inl, inr}
+use Rattle.std.proofs.lemmas.List.{append-nil}
+use Rattle.station.specs.Disk.{Sector}
+use Rattle.station.specs.State.{State, Event}
+use Rattle.station.specs.History.{Through, EachImage}
+use Rattle.station.proofs.Spans.{stays, weakens}
+use Rattle.records.specs.Files.{Files}
+use Rattle.source_tree.specs.State as end
+use Rattle.source_tree.specs.State.{End}
+use Rattle.source_tree.specs.Given.{Given, given_on, given_over}
+use Rattle.source_tree.specs.Told.{note_count}
+use Rattle.source_tree.specs.Meaning.{Run}
+use Rattle.source_tree.proofs.Telling.{notes_append}
+use Rattle.data_instructions.specs.Faults.{fault_of}
+use Rattle.code_image.specs.declared.code.Code.{Code}
+use Rattle.code_image.specs.Points.{first_point}
+use Rattle.code_image.specs.Table.{Runs}
+use Rattle.machine.specs.declared.machine.Machine.{Machine}
+use Rattle.machine.specs.declared.ended.Ended.{Ended as MachineEnded}
+use Rattle.machine.specs.declared.ended.Ended.TheVariants as machine
+use Rattle.machine.specs.declared.ended.Refusal.TheVariants as refused
+use Rattle.machine.specs.Prefix.{files_at, last_files, NoteComes, HoldsSoFar, TakesLines, Moment}
+use Rattle.machine.specs.Ends.{code_of, day_of, Finished, EndsAs, IsOwnEnd}
+use Rattle.machine.proofs.Moments.{nothing_taken}
+use Rattle.machine.proofs.Steps.{tells_more, files_here}
+use Rattle.run_unit.specs.Alone.{Alone, FinishedAlone, EndsAlone, RunsAlone}
+use Rattle.run_unit.specs.Ends.{ended_of}
+use Rattle.run_unit.specs.Volume.{EndsOver, RunsOver}
+use Rattle.run_unit.specs.declared.ended.Refusal.TheVariants.{Damaged, Memory}
+use Rattle.run_unit.specs.declared.ended.Ended.{Ended}
+use Rattle.run_unit.specs.declared.ended.Ended.TheVariants.{Refused}
+
+-- ---- where a run begins
+
+-- The files are those that it was given.
+files_first : (code : Code) (given : Given) (run : Run) → Runs code given run → files_at run 0 ≡ given.files
+files_first code given run runs = files_here (first_point code given) run (tells_more code runs.0 (first_point code given) run runs.1) refl
+
+-- Nothing was told yet.
+pub at_first : (holds : List Sector → Files → Type 0) (code : Code) (files : Files) (run : Run) (day : List ℕ) (budget : ℕ) (s : State)
+    → Runs code (given_over files s day budget) run → EachImage (λ image. holds image files) s → Moment holds run s s
+unfolding given_over
+at_first holds code files run day budget s runs held = record {
+  told = record { seen = []; rest = run.events; since = sym (append-nil s.events); begins = refl };
+  files = λ image crash. inl (subst (holds image) (sym (files_first code (given_over files s day budget) run runs)) (held image crash));
+  console = inl (nothing_taken s);
+  disk = λ none. refl;
+}
+
+-- A machine has the run of its code, on its day.
+pub runs_as : (machine : Machine) (code : Code) (day : List ℕ) (files : Files) (s : State) (budget : ℕ) (run : Run) → code_of machine ≡ code → day_of machine ≡ day
+    → Runs code (given_over files s day budget) run → Runs (code_of machine) (given_over files s (day_of machine) budget) run
+runs_as machine code day files s budget run same_code same_day runs =
+    subst (λ (c : Code). Runs c (given_over files s (day_of machine) budget) run) (sym same_code)
+    (subst (λ (d : List ℕ). Runs code (given_over files s d budget) run) (sym same_day) runs)
+
+-- ---- where what an image holds by one sense, it holds by another
+
+module _ (here below : List Sector → Files → Type 0) (under : (image : List Sector) (files : Files) → here image files → below image files)
+    (run : Run) (old : State) where
+  so_far_below : (seen rest : List Event) (image : List Sector) → HoldsSoFar here run seen rest image → HoldsSoFar below run seen rest image
+  so_far_below seen rest image (inl held) = inl (under image (files_at run (note_count seen)) held)
+  so_far_below seen rest image (inr held) = inr (under image (files_at run (note_count seen + 1)) held.0, held.1)
+
+  moment_below : (now : State) → Moment here run old now → Moment below run old now
+  moment_below now moment = record {
+    told = moment.told;
+    files = λ image crash. so_far_below moment.told.seen moment.told.rest image (moment.files image crash);
+    console = moment.console;
+    disk = moment.disk;
+  }
+
+  finished_below : (how : End) (now : State) → Finished here run how old now → Finished below run how old now
+  finished_below how now is = record {
+    end = is.end;
+    told = is.told;
+    lines = is.lines;
+    files = λ image crash. under image (last_files run) (is.files image crash);
+    disk = is.disk;
+  }
+
+  ends_below : (ended : MachineEnded) (now : State) → EndsAs here run old ended now → EndsOver below run old (ended_of ended) now
+  ends_below machine.Stopped now ends = finished_below end.Stopped now ends
+  ends_below machine.Budget now ends = finished_below end.Budget now ends
+  ends_below (machine.Faulted fault line) now ends = finished_below (end.Faulted (fault_of fault) line) now ends
+  ends_below (machine.Refused refused.Device) now ends = ends
+  ends_below (machine.Refused refused.Full) now ends = ends
+  ends_below (machine.Refused refused.Damaged) now ends = ends
+  ends_below (machine.Refused refused.Memory) now ends = inl ends
+
+  -- a machine ran
+  pub ran_over : (past later : List State) (new : State) (ended : MachineEnded) → Moment below run old old
+      → Through past later new (Moment here run old) → EndsAs here run old ended new → RunsOver below run past old (ended_of ended) later new
+  ran_over past later new ended first moments ends = record {
+    first = first;
+    moments = weakens past later new (Moment here run old) (Moment below run old) moment_below moments;
+    ends = ends_below ended new ends;
+  }
+
+-- memory ran out before the run
+pub never_ran : (holds : List Sector → Files → Type 0) (run : Run) (past : List State) (old : State)
+    → Moment holds run old old → RunsOver holds run past old (Refused Memory) past old
+never_ran holds run past old first = record { first = first; moments = stays past old (Moment holds run old) first; ends = inr refl }
+
+-- files that are there aren't found damaged
+pub no_damage_over : (holds : List Sector → Files → Type 0) (run : Run) (old : State) (ended : Ended) (now : State)
+    → EndsOver holds run old ended now → ended ≡ Refused Damaged → ⊥
+no_damage_over holds run old ended now ends is = subst (λ (e : Ended). EndsOver holds run old e now) is ends
+
+-- ---- runs without files
+
+pub given_none : (s : State) (day : List ℕ) (budget : ℕ) → given_on s day budget ≡ given_over [] s day budget
+unfolding given_on given_over
+given_none s day budget = refl
+
+no_note : (seen rest : List Event) → note_count (seen ++ rest) ≡ 0 → NoteComes rest → ⊥
+no_note seen rest none (note, more, is) =
+    let sum = notes_append seen rest in
+    let one : note_count rest ≡ suc (note_count more) = ap note_count is in
+    omega (arith, sum, one, none)
+
+lines_taken : (all seen rest : List Event) (old now : State) → note_count all ≡ 0 → all ≡ seen ++ rest → TakesLines old now ⊎ NoteComes rest → TakesLines old now
+lines_taken all seen rest old now none is (inl takes) = takes
+lines_taken all seen rest old now none is (inr comes) = absurd (no_note seen rest (sym (ap note_count is) ∙ none) comes)
+
+module _ (holds : List Sector → Files → Type 0) (run : Run) (old : State) (none : note_count run.events ≡ 0) where
+  alone_of : (now : State) → Moment holds run old now → Alone run old now
+  alone_of now moment = record {
+    told = moment.told;
+    console = lines_taken run.events moment.told.seen moment.told.rest old now none moment.told.begins moment.console;
+    disk = moment.disk none;
+  }
+
+  finished_alone : (how : End) (now : State) → Finished holds run how old now → FinishedAlone run how old now
+  finished_alone how now is = record { end = is.end; told = is.told; lines = is.lines; disk = is.disk none }
+
+  ends_alone : (ended : MachineEnded) (now : State) → IsOwnEnd ended → EndsAs holds run old ended now → EndsAlone run old (ended_of ended) now
+  ends_alone machine.Stopped now own ends = finished_alone end.Stopped now ends
+  ends_alone machine.Budget now own ends = finished_alone end.Budget now ends
+  ends_alone (machine.Faulted fault line) now own ends = finished_alone (end.Faulted (fault_of fault) line) now ends
+  ends_alone (machine.Refused refused.Device) now own ends = tt
+  ends_alone (machine.Refused refused.Full) now own ends = absurd own
+  ends_alone (machine.Refused refused.Damaged) now own ends = absurd own
+  ends_alone (machine.Refused refused.Memory) now own ends = absurd own
+
+  -- a machine ran
+  pub ran_alone : (past later : List State) (new : State) (ended : MachineEnded) → IsOwnEnd ended
+      → Through past later new (Moment holds run old) → EndsAs holds run old ended new → RunsAlone run past old (ended_of ended) later new
+  ran_alone past later new ended own moments ends = record {
+    moments = weakens past later new (Moment holds run old) (Alone run old) alone_of moments;
+    ends = ends_alone ended new own ends;
+  }

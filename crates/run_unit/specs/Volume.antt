@@ -1,0 +1,48 @@
+-- Runs of programs with files, over a volume.
+use Rattle.std.specs.Prelude.{◌≡◌, ◌⊎◌, List}
+use Rattle.station.specs.Disk.{Sector}
+use Rattle.station.specs.State.{State, synced}
+use Rattle.station.specs.History.{Spans, Through}
+use Rattle.station.specs.Opening.{Opening}
+use Rattle.records.specs.Files.{Files}
+use Rattle.source_tree.specs.State as end
+use Rattle.source_tree.specs.Meaning.{Run}
+use Rattle.data_instructions.specs.Faults.{fault_of}
+use Rattle.machine.specs.Prefix.{Moment, TakesLines}
+use Rattle.machine.specs.Ends.{Finished, BeforeNote}
+use Rattle.run_unit.specs.declared.ended.Refusal.TheVariants.{Image, Device, Full, Damaged, Memory}
+use Rattle.run_unit.specs.declared.ended.Ended.{Ended}
+use Rattle.run_unit.specs.declared.ended.Ended.TheVariants.{Stopped, Budget, Faulted, Refused}
+
+-- why a volume isn't opened
+abbrev pub IsUnopened : Ended → Type 0
+IsUnopened (Refused Device) = Unit {0}
+IsUnopened (Refused Damaged) = Unit {0}
+IsUnopened (Refused Memory) = Unit {0}
+IsUnopened other = ⊥
+
+-- What is so after each end of a run from a state. A full volume ends it in a file statement alone, want of memory there or before it begins,
+-- damage never.
+abbrev pub EndsOver : (List Sector → Files → Type 0) → Run → State → Ended → State → Type 0
+EndsOver holds run old Stopped now = Finished holds run end.Stopped old now
+EndsOver holds run old Budget now = Finished holds run end.Budget old now
+EndsOver holds run old (Faulted fault line) now = Finished holds run (end.Faulted (fault_of fault) line) old now
+EndsOver holds run old (Refused (Image fault)) now = ⊥
+EndsOver holds run old (Refused Device) now = TakesLines old now
+EndsOver holds run old (Refused Full) now = BeforeNote run old now
+EndsOver holds run old (Refused Damaged) now = ⊥
+EndsOver holds run old (Refused Memory) now = BeforeNote run old now ⊎ (now ≡ old)
+
+-- A run over the files that a store stands for, from a state to another, by this end: each moment is one of the run, the first one too.
+pub record RunsOver (holds : List Sector → Files → Type 0) (run : Run) (past : List State) (old : State) (ended : Ended) (later : List State) (new : State) : Type 0 where
+  pub first : Moment holds run old old
+  pub moments : Through past later new (Moment holds run old)
+  pub ends : EndsOver holds run old ended new
+
+-- A call that opens a volume and runs. Until the volume is opened nothing is told, and whatever a crash leaves was possible before the
+-- call; and so it is where it isn't opened. Else the volume held files, and from its opening on each moment is one of the run that the
+-- program has with these files.
+pub data RunsOnVolume (holds : List Sector → Files → Type 0) (run : Files → Run) (past : List State) (old : State) (ended : Ended) (later : List State) (new : State) : Type 0 where
+  Unopened : IsUnopened ended → Through past later new (Opening old) → RunsOnVolume holds run past old ended later new
+  Opened : (files : Files) (opened : List State) → holds old.disk.present files → Spans past opened (Opening old)
+      → RunsOver holds (run files) opened (synced old) ended later new → RunsOnVolume holds run past old ended later new

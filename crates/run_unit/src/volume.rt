@@ -1,0 +1,70 @@
+//! Runs over a volume, and runs that leave it alone.
+
+ghost use Rattle.std.specs.Prelude.{◌≡◌, ◌≢◌, ◌↔◌, [], All};
+ghost use Rattle.half_store.specs.Half.{Holds};
+ghost use Rattle.records.specs.Files.{Files};
+ghost use Rattle.source_tree.specs.Given.{given_on, given_over};
+ghost use Rattle.source_tree.specs.Meaning.{Run};
+ghost use Rattle.code_image.specs.Table.{Runs};
+ghost use Rattle.machine.specs.Ends.{IsDigit};
+ghost use Rattle.run_unit.specs.Alone.{RunsAlone};
+ghost use Rattle.run_unit.specs.Ends.{HasCause, IsRun};
+ghost use Rattle.run_unit.specs.Volume.{RunsOnVolume};
+
+use crate::ended::{Ended, Refusal};
+use crate::no_files::NoFiles;
+use crate::over::run_over;
+use code_image::{Verified, run_law};
+use half_store::HalfStore;
+use machine::Machine;
+use station::Station;
+use std::alloc::Global;
+
+/// Runs code without files. No sector is written.
+pub(crate) fn run_alone<S: Station>(
+    alloc: Global,
+    code: Verified,
+    station: &mut S,
+    day: [u8; 6],
+    budget: u64,
+) -> Ended
+    requires day { All IsDigit day }
+    requires files { code.files ≡ [] }
+    ensures sectors { S.sectors station.new ≡ S.sectors station.old }
+    ensures honest { S.is_honest station.old ↔ S.is_honest station.new }
+    ensures cause { HasCause result (S.failures station.old) (S.failures station.new) }
+    ensures run { IsRun result }
+    ensures memory { result ≡ Ended.Refused Refusal.Memory → station.new ≡ station.old }
+    ensures alone { S.is_honest station.old → (run : Run) → Runs code (given_on (S.state station.old) day budget) run →
+        RunsAlone run (S.history station.old) (S.state station.old) result (S.history station.new) (S.state station.new) }
+    ensures sound { result ≢ Ended.Refused Refusal.Damaged }
+{
+    run_law();
+    let Ok(machine) = Machine::new(alloc, code, day) else {
+        return Ended::Refused(Refusal::Memory);
+    };
+    Ended::of(machine.run(station, &mut NoFiles, budget))
+}
+
+/// Opens the volume and runs code over its files.
+pub(crate) fn run_on_volume<S: Station>(
+    alloc: Global,
+    code: Verified,
+    station: &mut S,
+    day: [u8; 6],
+    budget: u64,
+) -> Ended
+    requires day { All IsDigit day }
+    ensures sectors { S.sectors station.new ≡ S.sectors station.old }
+    ensures honest { S.is_honest station.old ↔ S.is_honest station.new }
+    ensures cause { HasCause result (S.failures station.old) (S.failures station.new) }
+    ensures run { IsRun result }
+    ensures volume { S.is_honest station.old → (run : Files → Run) → ((files : Files) → Runs code (given_over files (S.state station.old) day budget) (run files)) →
+        RunsOnVolume Holds run (S.history station.old) (S.state station.old) result (S.history station.new) (S.state station.new) }
+    ensures sound { S.is_honest station.old → (files : Files) → Holds (S.state station.old).disk.present files → result ≢ Ended.Refused Refusal.Damaged }
+{
+    match HalfStore::open(alloc, station) {
+        Ok(store) => run_over(alloc, code, station, store, day, budget),
+        Err(fault) => Ended::Refused(Refusal::of_opening(fault)),
+    }
+}
