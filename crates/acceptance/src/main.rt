@@ -5,6 +5,7 @@
 mod ending;
 mod row;
 mod run;
+mod volume;
 
 use row::read_row;
 use run::check_row;

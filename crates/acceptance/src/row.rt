@@ -16,10 +16,21 @@ pub struct Row {
     pub budget: u64,
     /// The lines of the console.
     pub lines: Vec<Vec<u8>>,
+    /// The statuses that it receives, one a line.
+    pub notes: Option<Vec<u8>>,
+    /// The files that it leaves, as `listed` tells them. A row that tells notes or files runs over a new volume.
+    pub files: Option<Vec<u8>>,
 }
 
-/// Reads the files of a row: `NAME.cob`, `NAME.out`, `NAME.end` and, where there is one, `NAME.budget`, and `NAME.in` with the
-/// lines of the console.
+impl Row {
+    /// Whether it runs over a volume.
+    pub fn has_volume(&self) -> bool {
+        self.notes.is_some() || self.files.is_some()
+    }
+}
+
+/// Reads the files of a row: `NAME.cob`, `NAME.out`, `NAME.end` and, where there is one, `NAME.budget`, `NAME.in` with the
+/// lines of the console, `NAME.notes` with the statuses that it receives and `NAME.files` with the files that it leaves.
 pub fn read_row<R: Files + AllocGlobal>(rt: &R, name: &str) -> io::Result<Row> {
     let alloc = rt.alloc();
     let end = fs::read_to_string(rt, format!(in alloc; "{name}.end")?)?;
@@ -29,6 +40,8 @@ pub fn read_row<R: Files + AllocGlobal>(rt: &R, name: &str) -> io::Result<Row> {
         end: end.as_str().trim_end().to_string(alloc)?,
         budget: read_budget(rt, name)?,
         lines: read_lines(rt, name)?,
+        notes: read_if_there(rt, format!(in alloc; "{name}.notes")?.as_str())?,
+        files: read_if_there(rt, format!(in alloc; "{name}.files")?.as_str())?,
     })
 }
 

@@ -2,6 +2,7 @@
 
 use crate::ending::Ending;
 use crate::row::Row;
+use crate::volume::{listed, new_volume, noted};
 use run_unit::{compile, run_image, run_source};
 use station::MemoryStation;
 use std::alloc::{AllocError, Global};
@@ -14,6 +15,8 @@ const DAY: [u8; 6] = *b"000000";
 struct Seen {
     shown: Vec<u8>,
     end: String,
+    notes: Vec<u8>,
+    files: Vec<u8>,
 }
 
 /// How a row differs from what its files say, if it does.
@@ -38,14 +41,31 @@ fn difference(alloc: Global, row: &Row, seen: &Seen) -> Result<Option<String>, A
         let count = seen.shown.len();
         return Ok(Some(format!(in alloc; "it showed other {count} bytes")?));
     }
+    if differs(&row.notes, &seen.notes) {
+        return Ok(Some("it received other statuses".to_string(alloc)?));
+    }
+    if differs(&row.files, &seen.files) {
+        return Ok(Some("it left other files".to_string(alloc)?));
+    }
     Ok(None)
 }
 
-/// A station without sectors, with the row's console lines.
+/// What is seen isn't what is told, if that is told.
+fn differs(told: &Option<Vec<u8>>, seen: &Vec<u8>) -> bool {
+    match told {
+        Some(told) => told.as_slice() != seen.as_slice(),
+        None => false,
+    }
+}
+
+/// A station with the row's console lines, and with a new volume where the row has one.
 fn station_of(alloc: Global, row: &Row) -> Result<MemoryStation, AllocError> {
     let mut lines = Vec::new(alloc);
     for line in row.lines.as_slice() {
         lines.push(line.clone()?)?;
+    }
+    if row.has_volume() {
+        return new_volume(alloc, lines);
     }
     MemoryStation::new(alloc, Vec::new(alloc), lines)
 }
@@ -56,7 +76,7 @@ fn see_source(alloc: Global, row: &Row) -> Result<Seen, AllocError> {
         Ok(ended) => Ending::Run(ended),
         Err(fault) => Ending::Compile(fault),
     };
-    told(alloc, &station, ending)
+    told(alloc, row, &mut station, ending)
 }
 
 fn see_image(alloc: Global, row: &Row) -> Result<Seen, AllocError> {
@@ -68,12 +88,24 @@ fn see_image(alloc: Global, row: &Row) -> Result<Seen, AllocError> {
         }
         Err(fault) => Ending::Compile(fault),
     };
-    told(alloc, &station, ending)
+    told(alloc, row, &mut station, ending)
 }
 
-fn told(alloc: Global, station: &MemoryStation, ending: Ending) -> Result<Seen, AllocError> {
+fn told(
+    alloc: Global,
+    row: &Row,
+    station: &mut MemoryStation,
+    ending: Ending,
+) -> Result<Seen, AllocError> {
+    let files = if row.has_volume() {
+        listed(alloc, station)?
+    } else {
+        Vec::new(alloc)
+    };
     Ok(Seen {
         shown: station.shown()?,
         end: format!(in alloc; "{ending}")?,
+        notes: noted(alloc, station)?,
+        files,
     })
 }

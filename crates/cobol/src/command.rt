@@ -4,6 +4,7 @@ use crate::host_station::HostStation;
 use crate::source_file::read_source;
 use crate::verdict::Verdict;
 use crate::words::{Request, read_words};
+use half_store::format;
 use run_unit::{compile, run_image};
 use std::alloc::Global;
 use std::convert::AsStr;
@@ -12,6 +13,8 @@ use std::rt::Files;
 
 /// The steps that a run is given.
 const BUDGET: u64 = 1_000_000_000;
+/// How many sectors the volume has that a run begins with.
+const SECTORS: u32 = 1024;
 /// The day that a program is told, YYMMDD.
 const DAY: [u8; 6] = *b"000000";
 
@@ -55,7 +58,7 @@ fn image_of<R: Files + AllocGlobal>(rt: &R, path: &str) -> Result<Vec<u8>, Verdi
     compile(rt.alloc(), source.as_slice()).map_err(Verdict::refusing)
 }
 
-/// Runs an image over the host's console, with this budget.
+/// Runs an image over the host's console and a new volume in memory, with this budget.
 pub fn run_on_host<C: BufRead + Drop, O: Write + Drop>(
     alloc: Global,
     image: &[u8],
@@ -63,9 +66,12 @@ pub fn run_on_host<C: BufRead + Drop, O: Write + Drop>(
     console: C,
     out: O,
 ) -> Verdict {
-    let Ok(mut station) = HostStation::new(alloc, console, out) else {
+    let Ok(mut station) = HostStation::new(alloc, console, out, SECTORS) else {
         return Verdict::memory();
     };
+    if format(&mut station).is_err() {
+        return Verdict::device();
+    }
     let ended = run_image(alloc, image, &mut station, DAY, budget);
     Verdict::after(ended, station.flush())
 }

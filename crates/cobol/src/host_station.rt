@@ -1,8 +1,8 @@
-//! A station on the host: console lines come from a reader, shown bytes go to a writer. Without a volume it has no sectors.
+//! A station on the host: console lines come from a reader, shown bytes go to a writer, and its sectors stand in memory.
 //!
 //! It is claimed of it that it counts its failures, and nothing more.
 
-ghost use Rattle.std.specs.Prelude.{◌≡◌, ◌≤◌, [], IsErr};
+ghost use Rattle.std.specs.Prelude.{◌≡◌, ◌≤◌, [], IsErr, IfOk};
 ghost use Rattle.station.specs.Failures.{CountsFailure};
 ghost use Rattle.cobol.specs.Host.{nothing_known};
 
@@ -18,17 +18,22 @@ pub struct HostStation<R, W: Write + Drop> {
     console: R,
     out: BufWriter<W>,
     failures: u64,
-    /// The sectors of its volume.
+    /// How many sectors it has.
     sectors: u32,
+    volume: Vec<[u8; 4096]>,
 }
 
 impl<R: BufRead + Drop, W: Write + Drop> HostStation<R, W> {
-    pub fn new(alloc: Global, console: R, out: W) -> io::Result<HostStation<R, W>> {
+    /// A station with so many sectors of zeros.
+    pub fn new(alloc: Global, console: R, out: W, sectors: u32) -> io::Result<HostStation<R, W>>
+        ensures { IfOk result (λ station. station.sectors ≡ sectors) }
+    {
         Ok(HostStation {
             console,
             out: BufWriter::new(alloc, out)?,
             failures: 0,
-            sectors: 0,
+            sectors,
+            volume: vec![in alloc; [0; 4096]; sectors as usize]?,
         })
     }
 
@@ -76,12 +81,25 @@ impl<R: BufRead + Drop, W: Write + Drop> Device for HostStation<R, W> {
         self.sectors
     }
 
-    fn read(&mut self, _sector: u32, _bytes: &mut [u8; 4096]) -> Result<(), DeviceError> {
-        self.fail()
+    fn read(&mut self, sector: u32, bytes: &mut [u8; 4096]) -> Result<(), DeviceError> {
+        match self.volume.get(sector as usize) {
+            Some(there) => {
+                *bytes = *there;
+                Ok(())
+            }
+            None => self.fail(),
+        }
     }
 
-    fn write(&mut self, _sector: u32, _bytes: &[u8; 4096]) -> Result<(), DeviceError> {
-        self.fail()
+    fn write(&mut self, sector: u32, bytes: &[u8; 4096]) -> Result<(), DeviceError> {
+        self.flush()?;
+        match self.volume.get_mut(sector as usize) {
+            Some(there) => {
+                *there = *bytes;
+                Ok(())
+            }
+            None => self.fail(),
+        }
     }
 
     fn sync(&mut self) -> Result<(), DeviceError> {

@@ -101,6 +101,39 @@ fn ten_thousand_statements(rt: HostRuntime) -> Result<(), Fail> {
     Ok(())
 }
 
+/// Writes a row and reads it again; then a READ behind the end, which nothing takes.
+const FILES: &str = "       IDENTIFICATION DIVISION.
+       PROGRAM-ID. FILES.
+       ENVIRONMENT DIVISION.
+       INPUT-OUTPUT SECTION.
+       FILE-CONTROL.
+           SELECT F ASSIGN TO \"ROWS\".
+       DATA DIVISION.
+       FILE SECTION.
+       FD F.
+       01 R PIC X(4).
+       PROCEDURE DIVISION.
+       MAIN.
+           OPEN OUTPUT F.
+           MOVE \"ROW1\" TO R. WRITE R.
+           CLOSE F.
+           OPEN INPUT F.
+           MOVE SPACES TO R. READ F. DISPLAY R.
+           READ F.
+           DISPLAY R.
+";
+
+#[test]
+fn a_program_with_files(rt: HostRuntime) -> Result<(), Fail> {
+    fs::write(&rt, "files.cob", FILES)?;
+    let seen = see(&rt, &["files.cob"])?;
+    fs::remove_file(&rt, "files.cob")?;
+    assert_eq!(rt; seen.out.as_slice(), b"ROW1\n".as_slice());
+    assert_eq!(rt; seen.err.as_slice(), b"fault 92 at line 18\n".as_slice());
+    assert_eq!(rt; seen.status, 3);
+    Ok(())
+}
+
 #[test]
 fn a_source_that_is_too_large(rt: HostRuntime) -> Result<(), Fail> {
     fs::write(&rt, "large.cob", vec![in rt.alloc(); b' '; 8_000_001]?)?;

@@ -1,0 +1,17 @@
+       IDENTIFICATION DIVISION.
+       PROGRAM-ID. A.
+       ENVIRONMENT DIVISION.
+       INPUT-OUTPUT SECTION.
+       FILE-CONTROL.
+           SELECT F ASSIGN TO "ROWS" STATUS S.
+       DATA DIVISION.
+       FILE SECTION.
+       FD F.
+       01 R PIC 9.9.
+       WORKING-STORAGE SECTION.
+       01 S PIC XX.
+       01 N PIC 9.
+       PROCEDURE DIVISION.
+       MAIN.
+           READ F INTO N.
+           STOP RUN.

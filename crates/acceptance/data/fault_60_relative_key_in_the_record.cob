@@ -1,0 +1,16 @@
+       IDENTIFICATION DIVISION.
+       PROGRAM-ID. A.
+       ENVIRONMENT DIVISION.
+       INPUT-OUTPUT SECTION.
+       FILE-CONTROL.
+           SELECT F ASSIGN TO "ROWS" RELATIVE
+               ACCESS RANDOM RELATIVE KEY N.
+       DATA DIVISION.
+       FILE SECTION.
+       FD F.
+       01 R.
+          02 N PIC 9.
+       PROCEDURE DIVISION.
+       MAIN.
+           OPEN INPUT F.
+           STOP RUN.

@@ -1,0 +1,17 @@
+       IDENTIFICATION DIVISION.
+       PROGRAM-ID. A.
+       ENVIRONMENT DIVISION.
+       INPUT-OUTPUT SECTION.
+       FILE-CONTROL.
+           SELECT F ASSIGN TO "ROWS" INDEXED RECORD KEY K STATUS S.
+       DATA DIVISION.
+       FILE SECTION.
+       FD F.
+       01 R.
+          02 K PIC X(3).
+       WORKING-STORAGE SECTION.
+       01 S PIC XX.
+       PROCEDURE DIVISION.
+       MAIN.
+           START F KEY < K.
+           STOP RUN.

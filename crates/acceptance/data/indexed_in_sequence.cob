@@ -1,0 +1,45 @@
+       IDENTIFICATION DIVISION.
+       PROGRAM-ID. INSEQ.
+       ENVIRONMENT DIVISION.
+       INPUT-OUTPUT SECTION.
+       FILE-CONTROL.
+           SELECT F ASSIGN TO "ROWS" ORGANIZATION IS INDEXED
+               ACCESS MODE IS SEQUENTIAL RECORD KEY IS K
+               FILE STATUS IS S.
+       DATA DIVISION.
+       FILE SECTION.
+       FD F.
+       01 R.
+          02 K PIC X.
+          02 D PIC X(2).
+       WORKING-STORAGE SECTION.
+       01 S PIC XX.
+       PROCEDURE DIVISION.
+       MAIN.
+           OPEN OUTPUT F.
+           MOVE "AAA" TO R. WRITE R.
+           MOVE "CCC" TO R. WRITE R.
+           MOVE "EEE" TO R. WRITE R.
+           CLOSE F.
+           OPEN I-O F.
+           DISPLAY "REWRITE WITHOUT READ". REWRITE R. DISPLAY S.
+           DISPLAY "DELETE WITHOUT READ". DELETE F. DISPLAY S.
+           READ F. DISPLAY S R.
+           MOVE "AZZ" TO R. REWRITE R. DISPLAY S.
+           DISPLAY "AND ONCE MORE". REWRITE R. DISPLAY S.
+           READ F. DISPLAY S R.
+           DISPLAY "ANOTHER KEY". MOVE "DDD" TO R. REWRITE R. DISPLAY S.
+           READ F. DISPLAY S R.
+           DELETE F. DISPLAY S.
+           READ F AT END DISPLAY "END" END-READ. DISPLAY S.
+           READ F. DISPLAY S.
+           MOVE "B" TO K. START F KEY > K. DISPLAY S.
+           READ F. DISPLAY S R.
+           DELETE F. DISPLAY S.
+           MOVE "C" TO K. START F. DISPLAY S.
+           READ F. DISPLAY S.
+           MOVE "A" TO K. START F INVALID KEY DISPLAY "NO"
+               NOT INVALID KEY DISPLAY "YES" END-START.
+           READ F. DISPLAY S R.
+           CLOSE F.
+           STOP RUN.

@@ -1,0 +1,22 @@
+       IDENTIFICATION DIVISION.
+       PROGRAM-ID. INDSEQ.
+       ENVIRONMENT DIVISION.
+       INPUT-OUTPUT SECTION.
+       FILE-CONTROL.
+           SELECT F ASSIGN TO "ROWS" ORGANIZATION IS INDEXED
+               RECORD KEY IS K FILE STATUS IS S.
+       DATA DIVISION.
+       FILE SECTION.
+       FD F.
+       01 R.
+          02 K PIC 9.
+          02 D PIC X(3).
+       WORKING-STORAGE SECTION.
+       01 S PIC XX.
+       PROCEDURE DIVISION.
+       MAIN.
+           OPEN OUTPUT F. DISPLAY S.
+           MOVE "2TWO" TO R. WRITE R. DISPLAY S.
+           MOVE "1ONE" TO R. WRITE R. DISPLAY S.
+           MOVE "2TOO" TO R. WRITE R. DISPLAY S.
+           STOP RUN.

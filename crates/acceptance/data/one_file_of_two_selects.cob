@@ -1,0 +1,28 @@
+       IDENTIFICATION DIVISION.
+       PROGRAM-ID. TWOSEL.
+       ENVIRONMENT DIVISION.
+       INPUT-OUTPUT SECTION.
+       FILE-CONTROL.
+           SELECT F ASSIGN TO "ROWS" STATUS S.
+           SELECT G ASSIGN TO ROWS STATUS S.
+           SELECT H ASSIGN TO "ROWS" STATUS S.
+       DATA DIVISION.
+       FILE SECTION.
+       FD F.
+       01 R PIC X(4).
+       FD G.
+       01 Q PIC X(4).
+       FD H.
+       01 P PIC X(5).
+       WORKING-STORAGE SECTION.
+       01 S PIC XX.
+       PROCEDURE DIVISION.
+       MAIN.
+           OPEN OUTPUT F. DISPLAY S.
+           OPEN INPUT G. DISPLAY S.
+           CLOSE F. DISPLAY S.
+           OPEN INPUT G. DISPLAY S.
+           OPEN INPUT H. DISPLAY S.
+           CLOSE G. DISPLAY S.
+           OPEN INPUT H. DISPLAY S.
+           STOP RUN.

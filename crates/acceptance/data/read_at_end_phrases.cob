@@ -1,0 +1,24 @@
+       IDENTIFICATION DIVISION.
+       PROGRAM-ID. ATEND.
+       ENVIRONMENT DIVISION.
+       INPUT-OUTPUT SECTION.
+       FILE-CONTROL.
+           SELECT F ASSIGN TO "ROWS".
+       DATA DIVISION.
+       FILE SECTION.
+       FD F.
+       01 R PIC X(4).
+       WORKING-STORAGE SECTION.
+       01 X PIC 9 VALUE 0.
+       PROCEDURE DIVISION.
+       MAIN.
+           OPEN OUTPUT F.
+           MOVE "ROW1" TO R. WRITE R.
+           CLOSE F.
+           OPEN INPUT F.
+           READ F AT END ADD 1 TO X NOT AT END DISPLAY "R" END-READ.
+           DISPLAY X R.
+           READ F AT END ADD 1 TO X NOT AT END DISPLAY "R" END-READ.
+           DISPLAY X R.
+           CLOSE F.
+           STOP RUN.

@@ -1,0 +1,36 @@
+       IDENTIFICATION DIVISION.
+       PROGRAM-ID. SEQSTAT.
+       ENVIRONMENT DIVISION.
+       INPUT-OUTPUT SECTION.
+       FILE-CONTROL.
+           SELECT F ASSIGN TO "ROWS" FILE STATUS IS S.
+       DATA DIVISION.
+       FILE SECTION.
+       FD F.
+       01 R PIC X(10).
+       WORKING-STORAGE SECTION.
+       01 S PIC XX.
+       PROCEDURE DIVISION.
+       MAIN.
+           OPEN INPUT F. DISPLAY S.
+           OPEN OUTPUT F. DISPLAY S.
+           MOVE "FIRST" TO R. WRITE R. DISPLAY S.
+           MOVE "SECOND" TO R. WRITE R. DISPLAY S.
+           CLOSE F. DISPLAY S.
+           CLOSE F. DISPLAY S.
+           OPEN I-O F. DISPLAY S.
+           REWRITE R. DISPLAY S.
+           READ F. DISPLAY S.
+           MOVE "CHANGED" TO R. REWRITE R. DISPLAY S.
+           REWRITE R. DISPLAY S.
+           READ F. DISPLAY S.
+           READ F. DISPLAY S.
+           READ F. DISPLAY S.
+           OPEN I-O F. DISPLAY S.
+           WRITE R. DISPLAY S.
+           CLOSE F. DISPLAY S.
+           OPEN EXTEND F. DISPLAY S.
+           READ F. DISPLAY S.
+           MOVE "THIRD" TO R. WRITE R. DISPLAY S.
+           CLOSE F. DISPLAY S.
+           STOP RUN.
