@@ -17,6 +17,10 @@ mod evaluate_rows;
 #[cfg(test)]
 mod evaluate_texts;
 #[cfg(test)]
+mod file_rows;
+#[cfg(test)]
+mod file_texts;
+#[cfg(test)]
 mod inspect_rows;
 #[cfg(test)]
 mod inspect_texts;

@@ -2,10 +2,11 @@
 ghost use Rattle.names.specs.Table.{IsTable};
 
 use crate::asserted::{same, same_in};
+use crate::program_texts::program;
 use crate::reference_texts::{LINE, OPERAND, qualified};
-use crate::texts::entries;
-use entry_rules::check_entries;
-use names::{ConditionNames, LookUp, NameTable, condition_names, item_names};
+use check_rules::Declarations;
+use names::{ConditionNames, LookUp, NameTable};
+use sqlite_items::Items;
 use std::alloc::Global;
 use std::process::Abort;
 
@@ -92,14 +93,11 @@ fn rows_hold(rt: &impl Abort, alloc: Global, table: &NameTable, rows: &[(&str, L
 }
 
 fn items_are_found(rt: &impl Abort, alloc: Global) {
-    let all = entries(rt, alloc, ENTRIES);
-    if check_entries(alloc, &all).is_err() {
+    let program = program(rt, alloc, ENTRIES, Items::from_vec(Vec::new(alloc)));
+    let Ok(declared) = Declarations::of(alloc, &program) else {
         panic!(rt; "a rule is broken, or no memory");
-    }
-    let Ok(table) = item_names(alloc, &all) else {
-        panic!(rt; "no memory");
     };
-    rows_hold(rt, alloc, &table, ROWS);
+    rows_hold(rt, alloc, &declared.names, ROWS);
 }
 
 fn declared_in_order(rt: &impl Abort, all: &ConditionNames) {
@@ -116,18 +114,12 @@ fn declared_in_order(rt: &impl Abort, all: &ConditionNames) {
 }
 
 fn conditions_are_found(rt: &impl Abort, alloc: Global) {
-    let all = entries(rt, alloc, WITH_CONDITIONS);
-    if check_entries(alloc, &all).is_err() {
+    let program = program(rt, alloc, WITH_CONDITIONS, Items::from_vec(Vec::new(alloc)));
+    let Ok(declared) = Declarations::of(alloc, &program) else {
         panic!(rt; "a rule is broken, or no memory");
-    }
-    let Ok(items) = item_names(alloc, &all) else {
-        panic!(rt; "no memory");
     };
-    let Ok(conditions) = condition_names(alloc, &items, &all) else {
-        panic!(rt; "no memory");
-    };
-    declared_in_order(rt, &conditions);
-    rows_hold(rt, alloc, &conditions.names, CONDITION_ROWS);
+    declared_in_order(rt, &declared.conditions);
+    rows_hold(rt, alloc, &declared.conditions.names, CONDITION_ROWS);
 }
 
 #[test]

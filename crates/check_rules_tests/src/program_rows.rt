@@ -124,7 +124,7 @@ pub fn told(rt: &impl Abort, alloc: Global, one: &Program) -> Expected {
             holds(rt, checked.program().sections.len() == one.sections.len());
             holds(
                 rt,
-                checked.declarations().entries.len() == one.storage.len(),
+                checked.declarations().program.storage.len() == one.storage.len(),
             );
             None
         }

@@ -258,6 +258,13 @@ fn section(rt: &impl Abort, alloc: Global, sentences: Items<Sentence>) -> Sectio
     }
 }
 
+/// The statement in a sentence of its own.
+pub fn section_of(rt: &impl Abort, alloc: Global, one: Statement) -> Items<Section> {
+    let statements = alone(rt, alloc, one);
+    let sentences = alone(rt, alloc, Sentence { statements });
+    alone(rt, alloc, section(rt, alloc, sentences))
+}
+
 /// The sentences in one paragraph.
 pub fn together(rt: &impl Abort, alloc: Global, texts: &[&str]) -> Items<Section> {
     let mut all = Vec::new(alloc);
@@ -320,6 +327,8 @@ pub fn program(
 ) -> Program {
     Program {
         name: name(rt, alloc, 1, VERB, "P"),
+        selects: Items::from_vec(Vec::new(alloc)),
+        files: Items::from_vec(Vec::new(alloc)),
         storage: Items::from_vec(entries(rt, alloc, storage)),
         sections,
     }

@@ -1,11 +1,11 @@
 //! Rules of references, MOVE, DISPLAY and ACCEPT, with their places.
 use crate::asserted::same_in;
+use crate::program_texts::program;
 use crate::reference_texts;
 use crate::reference_texts::{ADDED, LINE, OPERAND, operand, reference};
-use crate::texts::entries;
 use check_rules::{BrokenRule, Declarations, Rule};
-use entry_rules::check_entries;
-use source_tree::Entry;
+use source_tree::Program;
+use sqlite_items::Items;
 use std::alloc::Global;
 use std::process::Abort;
 
@@ -91,17 +91,14 @@ fn told(answer: Result<(), BrokenRule>) -> Expected {
     }
 }
 
-fn checked(rt: &impl Abort, alloc: Global) -> Vec<Entry> {
-    entries(rt, alloc, ENTRIES)
+fn without_statements(rt: &impl Abort, alloc: Global) -> Program {
+    program(rt, alloc, ENTRIES, Items::from_vec(Vec::new(alloc)))
 }
 
 fn operands(rt: &impl Abort, alloc: Global) {
-    let all = checked(rt, alloc);
-    if check_entries(alloc, &all).is_err() {
+    let program = without_statements(rt, alloc);
+    let Ok(declared) = Declarations::of(alloc, &program) else {
         panic!(rt; "a rule is broken, or no memory");
-    }
-    let Ok(declared) = Declarations::of(alloc, &all, &[]) else {
-        panic!(rt; "no memory");
     };
     for (text, expected) in OPERANDS {
         let one = operand(rt, alloc, LINE, text);
@@ -110,12 +107,9 @@ fn operands(rt: &impl Abort, alloc: Global) {
 }
 
 fn moves(rt: &impl Abort, alloc: Global) {
-    let all = checked(rt, alloc);
-    if check_entries(alloc, &all).is_err() {
+    let program = without_statements(rt, alloc);
+    let Ok(declared) = Declarations::of(alloc, &program) else {
         panic!(rt; "a rule is broken, or no memory");
-    }
-    let Ok(declared) = Declarations::of(alloc, &all, &[]) else {
-        panic!(rt; "no memory");
     };
     for (from, to, expected) in MOVES {
         let sender = operand(rt, alloc, LINE, from);
@@ -131,12 +125,9 @@ fn moves(rt: &impl Abort, alloc: Global) {
 }
 
 fn texts(rt: &impl Abort, alloc: Global) {
-    let all = checked(rt, alloc);
-    if check_entries(alloc, &all).is_err() {
+    let program = without_statements(rt, alloc);
+    let Ok(declared) = Declarations::of(alloc, &program) else {
         panic!(rt; "a rule is broken, or no memory");
-    }
-    let Ok(declared) = Declarations::of(alloc, &all, &[]) else {
-        panic!(rt; "no memory");
     };
     let shown = [
         operand(rt, alloc, LINE, "T,2"),

@@ -1,5 +1,6 @@
 //! Assertions of the rows, as functions: a call of one is proved at once, while a macro in a test makes a path of its own there, on
 //! which everything that the test holds has to be accounted for.
+use crate::read::{NOWHERE, Outcome};
 use std::fmt::Debug;
 use std::process::Abort;
 
@@ -21,4 +22,23 @@ pub fn same_in<T: PartialEq + Debug + Drop>(
     expected: T,
 ) {
     assert_eq!(rt; told, expected, "{row:?}");
+}
+
+/// Asserts that this was read, or that reading halted there.
+pub fn same_outcome(
+    rt: &impl Abort,
+    row: &str,
+    found: Option<Outcome>,
+    shape: &str,
+    left: usize,
+    halt: usize,
+) {
+    let Some(found) = found else {
+        return same_in(rt, &row, "no memory, or no tokens", shape);
+    };
+    same_in(rt, &row, found.halt, halt);
+    same_in(rt, &row, found.shape.as_str(), shape);
+    if halt == NOWHERE {
+        same_in(rt, &row, found.left, left);
+    }
 }

@@ -1,4 +1,4 @@
-//! Rows of the data division: which texts have which entries, where reading halts, and which pictures have no form.
+//! Rows of the data division and of FILE-CONTROL: which texts have which files, entries and SELECTs, where reading halts, and which pictures have no form.
 #![tactic(auto)]
 
 #[cfg(test)]
@@ -7,5 +7,9 @@ mod asserted;
 mod read;
 #[cfg(test)]
 mod rows;
+#[cfg(test)]
+mod select_rows;
+#[cfg(test)]
+mod selected;
 #[cfg(test)]
 mod shape;

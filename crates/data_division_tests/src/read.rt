@@ -1,11 +1,10 @@
-//! What is read of a text: its entries, how many tokens are left, and where reading halted.
+//! What is read of a text: its files and entries, how many tokens are left, and where reading halted.
 
-use crate::shape::push_entries;
-use data_division::{data_division, first_formless};
+use crate::shape::{push_entries, push_files};
+use data_division::{DataDivision, data_division, first_formless};
 use grammar::{Halt, ReadFault, Tokens};
 use lexical::Place;
 use source_lines::logical;
-use source_tree::Entry;
 use sqlite_items::Items;
 use std::alloc::{AllocError, Global};
 use tokens::{Token, scan};
@@ -13,7 +12,7 @@ use tokens::{Token, scan};
 /// What was read.
 #[derive(Drop)]
 pub struct Outcome {
-    /// The entries; empty where none were read.
+    /// The files and the entries; empty where none were read.
     pub shape: String,
     /// Where the first picture without a form stands; line and column 0 where each has one.
     pub formless: (u32, u8),
@@ -28,7 +27,7 @@ pub const NOWHERE: usize = usize::MAX;
 
 const HEADER: &str = "       DATA DIVISION.\n       WORKING-STORAGE SECTION.\n           ";
 
-fn tokens_of(alloc: Global, source: &str) -> Option<Items<Token>> {
+pub fn tokens_of(alloc: Global, source: &str) -> Option<Items<Token>> {
     let Ok(lines) = logical(alloc, source.as_bytes()) else {
         return None;
     };
@@ -38,21 +37,27 @@ fn tokens_of(alloc: Global, source: &str) -> Option<Items<Token>> {
     Some(scanned)
 }
 
-fn halt_of(fault: ReadFault) -> usize {
+pub fn halt_of(fault: ReadFault) -> usize {
     match fault {
         ReadFault::Halted(Halt::Unexpected(left) | Halt::TooDeep(left)) => left,
         ReadFault::Memory => NOWHERE,
     }
 }
 
-fn shape_of(alloc: Global, entries: &[Entry]) -> Result<String, AllocError> {
+fn shape_of(alloc: Global, division: &DataDivision) -> Result<String, AllocError> {
     let mut shape = String::new(alloc);
-    push_entries(&mut shape, entries)?;
+    push_files(&mut shape, division.files.as_slice())?;
+    push_entries(&mut shape, division.storage.as_slice())?;
     Ok(shape)
 }
 
-fn formless_in(alloc: Global, entries: &[Entry]) -> Result<(u32, u8), AllocError> {
-    Ok(match first_formless(alloc, entries)? {
+fn formless_in(alloc: Global, division: &DataDivision) -> Result<(u32, u8), AllocError> {
+    let found = first_formless(
+        alloc,
+        division.files.as_slice(),
+        division.storage.as_slice(),
+    )?;
+    Ok(match found {
         Some(Place { line, column }) => (line, column),
         None => (0, 0),
     })
@@ -63,9 +68,9 @@ pub fn read_source(alloc: Global, source: &str) -> Option<Outcome> {
     let scanned = tokens_of(alloc, source)?;
     let mut tokens = Tokens::new(scanned.as_slice());
     match data_division(alloc, &mut tokens) {
-        Ok(entries) => Some(Outcome {
-            shape: shape_of(alloc, entries.as_slice()).ok()?,
-            formless: formless_in(alloc, entries.as_slice()).ok()?,
+        Ok(division) => Some(Outcome {
+            shape: shape_of(alloc, &division).ok()?,
+            formless: formless_in(alloc, &division).ok()?,
             left: tokens.len(),
             halt: NOWHERE,
         }),

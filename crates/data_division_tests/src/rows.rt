@@ -1,9 +1,8 @@
 //! Rows of entries.
 
-use crate::asserted::same_in;
-use crate::read::{NOWHERE, Outcome, read_entries, read_source};
+use crate::asserted::{same_in, same_outcome};
+use crate::read::{NOWHERE, read_entries, read_source};
 use data_division::{clauses_law, data_division_law, entry_law};
-use std::process::Abort;
 
 /// Entries, and what is read of them.
 const ENTRIES: [(&str, &str); 33] = [
@@ -103,11 +102,32 @@ const HALTS: [(&str, usize); 26] = [
 ];
 
 /// Whole data divisions, what is read of them, and how many tokens are left.
-const DIVISIONS: [(&str, &str, usize); 6] = [
+const DIVISIONS: [(&str, &str, usize); 10] = [
     ("", "", 0),
     ("       PROCEDURE DIVISION.\n", "", 3),
     ("       DATA DIVISION.\n", "", 0),
-    ("       DATA DIVISION.\n       FILE SECTION.\n", "", 3),
+    (
+        "       DATA DIVISION.\n       FILE SECTION.\n       FD F.\n       01 A.\n       02 B PIC X.\n       PROCEDURE DIVISION.\n",
+        "F[01 A;02 B PIC X;]",
+        3,
+    ),
+    // clauses of an FD in any order, with their optional words and without them
+    (
+        "       DATA DIVISION.\n       FILE SECTION.\n       FD F LABEL RECORDS ARE STANDARD BLOCK CONTAINS 1 TO 10 RECORDS\n           RECORD CONTAINS 80 CHARACTERS DATA RECORDS ARE A B.\n       01 A.\n       01 B.\n       FD G DATA RECORD C RECORD 8 BLOCK 5 LABEL RECORD OMITTED.\n       01 C.\n       WORKING-STORAGE SECTION.\n       01 D.\n",
+        "F[01 A;01 B;]G[01 C;]01 D;",
+        0,
+    ),
+    (
+        "       DATA DIVISION.\n       FILE SECTION.\n       FD F BLOCK 5 CHARACTERS LABEL RECORD IS STANDARD.\n       01 A.\n       88 B VALUE 1.\n",
+        "F[01 A;88 B 1.;]",
+        0,
+    ),
+    (
+        "       DATA DIVISION.\n       FILE SECTION.\n       FD F BLOCK CONTAINS 5 TO 9.\n       01 A.\n",
+        "F[01 A;]",
+        0,
+    ),
+    ("       DATA DIVISION.\n       FD F.\n", "", 3),
     (
         "       DATA DIVISION.\n       WORKING-STORAGE SECTION.\n       PROCEDURE DIVISION.\n",
         "",
@@ -121,12 +141,39 @@ const DIVISIONS: [(&str, &str, usize); 6] = [
 ];
 
 /// Data divisions at which reading halts, and the number of tokens from there on.
-const DIVISION_HALTS: [(&str, usize); 3] = [
+const DIVISION_HALTS: [(&str, usize); 10] = [
     ("       DATA\n", 0),
     ("       DATA DIVISION\n       WORKING-STORAGE SECTION.\n", 3),
     (
         "       DATA DIVISION.\n       WORKING-STORAGE.\n       01 A.\n",
         4,
+    ),
+    // a file section has an FD, and an FD an entry
+    ("       DATA DIVISION.\n       FILE SECTION.\n", 0),
+    (
+        "       DATA DIVISION.\n       FILE SECTION.\n       WORKING-STORAGE SECTION.\n",
+        3,
+    ),
+    (
+        "       DATA DIVISION.\n       FILE SECTION.\n       FD F.\n       WORKING-STORAGE SECTION.\n",
+        3,
+    ),
+    // a clause that stands already: at its first word
+    (
+        "       DATA DIVISION.\n       FILE SECTION.\n       FD F RECORD 8 BLOCK 9 RECORD 8.\n",
+        3,
+    ),
+    (
+        "       DATA DIVISION.\n       FILE SECTION.\n       FD F BLOCK 8 TO RECORDS.\n",
+        2,
+    ),
+    (
+        "       DATA DIVISION.\n       FILE SECTION.\n       FD F LABEL RECORD.\n",
+        1,
+    ),
+    (
+        "       DATA DIVISION.\n       FILE SECTION.\n       FD F DATA RECORDS.\n",
+        1,
     ),
 ];
 
@@ -139,23 +186,9 @@ const FORMLESS: [(&str, (u32, u8)); 5] = [
     ("01 A VALUE 1 PICTURE IS SV.", (3, 36)),
 ];
 
-fn same_outcome(
-    rt: &impl Abort,
-    row: &str,
-    found: Option<Outcome>,
-    shape: &str,
-    left: usize,
-    halt: usize,
-) {
-    let Some(found) = found else {
-        return same_in(rt, &row, "no memory, or no tokens", shape);
-    };
-    same_in(rt, &row, found.halt, halt);
-    same_in(rt, &row, found.shape.as_str(), shape);
-    if halt == NOWHERE {
-        same_in(rt, &row, found.left, left);
-    }
-}
+/// A data division whose second FD has a picture without a form, as its working storage has.
+const FORMLESS_FILE: &str =
+    "       DATA DIVISION.\n       FILE SECTION.\n       FD F.\n       01 A PIC X.\n       FD G.\n       01 B PIC Q.\n       WORKING-STORAGE SECTION.\n       01 C PIC QQ.\n";
 
 #[test]
 fn entries_are_read(rt: HostRuntime) {
@@ -196,6 +229,14 @@ fn pictures_without_a_form(rt: HostRuntime) {
             Some(found) => same_in(&rt, text, found.formless, *place),
             None => same_in(&rt, text, (1, 1), *place),
         }
+    }
+}
+
+#[test]
+fn pictures_of_records_come_first(rt: HostRuntime) {
+    match read_source(rt.alloc(), FORMLESS_FILE) {
+        Some(found) => same_in(&rt, &FORMLESS_FILE, found.formless, (6, 17)),
+        None => same_in(&rt, &FORMLESS_FILE, (1, 1), (6, 17)),
     }
 }
 

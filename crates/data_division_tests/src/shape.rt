@@ -1,12 +1,12 @@
-//! Entries, written out again.
+//! Files and entries, written out again.
 
 use source_tree::{
-    ConditionEntry, Entry, Figurative, ItemEntry, Literal, LiteralValue, Name, NumericLiteral,
-    Sign, SignClause, SignPosition, UsageClause,
+    ConditionEntry, Entry, Figurative, FileDescription, ItemEntry, Literal, LiteralValue, Name,
+    NumericLiteral, Sign, SignClause, SignPosition, UsageClause,
 };
 use std::alloc::AllocError;
 
-fn push_bytes(to: &mut String, bytes: &[u8]) -> Result<(), AllocError> {
+pub fn push_bytes(to: &mut String, bytes: &[u8]) -> Result<(), AllocError> {
     to.push_str(str::from_utf8(bytes).unwrap_or("?"))
 }
 
@@ -111,6 +111,17 @@ pub fn push_entries(to: &mut String, entries: &[Entry]) -> Result<(), AllocError
             Entry::Condition(one) => push_condition(to, one)?,
         }
         to.push_str(";")?;
+    }
+    Ok(())
+}
+
+/// Each file's name, and the entries of its records in brackets.
+pub fn push_files(to: &mut String, files: &[FileDescription]) -> Result<(), AllocError> {
+    for file in files {
+        push_bytes(to, file.name.characters.as_slice())?;
+        to.push_str("[")?;
+        push_entries(to, file.entries.as_slice())?;
+        to.push_str("]")?;
     }
     Ok(())
 }

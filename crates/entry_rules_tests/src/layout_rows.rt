@@ -1,7 +1,8 @@
-//! Entries that were checked are laid out: what `check_entries` answers is what `Layout::of` asks for.
+//! Entries that were checked are laid out: what `check_entries` and `check_descriptions` answer is what `Layout::of` asks for.
 use crate::asserted::same;
+use crate::file_rows::program;
 use crate::texts::entries;
-use entry_rules::check_entries;
+use entry_rules::{check_descriptions, check_entries};
 use layout::Layout;
 use std::alloc::Global;
 use std::process::Abort;
@@ -14,11 +15,17 @@ const TABLE: &[&str] = &[
 ];
 
 fn laid_out(rt: &impl Abort, alloc: Global) {
-    let all = entries(rt, alloc, TABLE);
-    if check_entries(alloc, &all).is_err() {
+    let storage = entries(rt, alloc, TABLE);
+    let files = Vec::new(alloc);
+    let program = program(rt, alloc, storage, files);
+    let storage = program.storage.as_slice();
+    let Ok(bytes) = check_entries(alloc, storage) else {
+        panic!(rt; "a rule is broken, or no memory");
+    };
+    if check_descriptions(alloc, storage, bytes, program.files.as_slice()).is_err() {
         panic!(rt; "a rule is broken, or no memory");
     }
-    let Ok(layout) = Layout::of(alloc, &all) else {
+    let Ok(layout) = Layout::of(alloc, &program) else {
         panic!(rt; "no memory");
     };
     match layout.items.as_slice() {

@@ -8,6 +8,8 @@ mod clause_rows;
 #[cfg(test)]
 mod condition_rows;
 #[cfg(test)]
+mod file_rows;
+#[cfg(test)]
 mod layout_rows;
 #[cfg(test)]
 mod level_rows;

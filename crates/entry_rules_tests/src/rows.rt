@@ -23,10 +23,19 @@ fn expected(row: &Row) -> Result<(), CheckError> {
     }
 }
 
+/// What was told, without the bytes of areas.
+pub fn told(answer: Result<u64, CheckError>) -> Result<(), CheckError> {
+    match answer {
+        Ok(_) => Ok(()),
+        Err(error) => Err(error),
+    }
+}
+
 /// Checks each row.
 pub fn check(rt: &impl Abort, alloc: Global, rows: &[Row]) {
     for row in rows {
         let all = entries(rt, alloc, row.entries);
-        same_in(rt, &row.entries, check_entries(alloc, &all), expected(row));
+        let answer = told(check_entries(alloc, &all));
+        same_in(rt, &row.entries, answer, expected(row));
     }
 }

@@ -48,7 +48,7 @@ fn records(rt: &impl Abort, alloc: Global, count: u16) -> Vec<Entry> {
     all
 }
 
-fn refused_at(told: Result<(), CheckError>) -> Option<(u8, u32, u8)> {
+fn refused_at(told: Result<u64, CheckError>) -> Option<(u8, u32, u8)> {
     match told {
         Err(CheckError::Refused(one)) => Some((
             one.rule.number(),
@@ -61,7 +61,7 @@ fn refused_at(told: Result<(), CheckError>) -> Option<(u8, u32, u8)> {
 
 fn storage(rt: &impl Abort, alloc: Global) {
     let mut all = records(rt, alloc, 16);
-    same(rt, check_entries(alloc, &all), Ok(()));
+    same(rt, check_entries(alloc, &all), Ok(1_000_000));
     let longer = entry(rt, alloc, 17, "01 B PIC=X(62501) REDEFINES=A");
     if all.push(longer).is_err() {
         panic!(rt; "no memory");
@@ -80,7 +80,7 @@ fn count(rt: &impl Abort, alloc: Global) {
             panic!(rt; "no memory");
         }
     }
-    same(rt, check_entries(alloc, &all), Ok(()));
+    same(rt, check_entries(alloc, &all), Ok(5_000));
     if all.push(entry(rt, alloc, 5_001, "50 A")).is_err() {
         panic!(rt; "no memory");
     }

@@ -35,7 +35,7 @@ pub fn integer(rt: &impl Abort, alloc: Global, line: u32, column: u8, digits: &s
     Integer { digits, place }
 }
 
-fn name(rt: &impl Abort, alloc: Global, line: u32, column: u8, text: &str) -> Name {
+pub fn name(rt: &impl Abort, alloc: Global, line: u32, column: u8, text: &str) -> Name {
     let characters = characters(rt, alloc, text);
     let place = Place { line, column };
     Name { characters, place }

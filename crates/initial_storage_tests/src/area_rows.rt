@@ -1,9 +1,15 @@
-//! What areas hold at the start: values of each class, groups, tables and redefinitions.
+//! What areas hold at the start: values of each class, groups, tables and redefinitions; and records of files.
+ghost use Rattle.std.specs.Prelude.{◌≡◌, []};
+ghost use Rattle.source_tree.specs.EntryRules.{entry_rules};
+ghost use Rattle.source_tree.specs.FileRules.{descriptions_rules};
+
 use crate::asserted::{same, same_in};
-use crate::texts::entries;
-use entry_rules::check_entries;
+use crate::texts::program;
+use entry_rules::{check_descriptions, check_entries};
 use initial_storage::InitialStorage;
+use source_tree::Program;
 use std::alloc::Global;
+use std::fmt::Debug;
 use std::process::Abort;
 
 /// Entries, and the bytes of each area.
@@ -133,20 +139,72 @@ const AREAS: &[Row] = &[
     },
 ];
 
+/// Entries of working storage, those of the records of files, and the bytes of each area.
+struct FileRow {
+    storage: &'static [&'static str],
+    files: &'static [&'static [&'static str]],
+    areas: &'static [&'static [u8]],
+}
+
+// A record area is as long as its longest record, and holds spaces, numbers too.
+const FILES: &[FileRow] = &[
+    FileRow {
+        storage: &["01 W PIC=99 VALUE=12"],
+        files: &[
+            &["01 A PIC=99", "01 B", "05 C PIC=X(4)", "05 D PIC=9"],
+            &["01 E PIC=S9(4) COMP"],
+        ],
+        areas: &[b"12", b"     ", b"  "],
+    },
+    FileRow {
+        storage: &[],
+        files: &[&["01 A", "05 B PIC=X OCCURS=3"]],
+        areas: &[b"   "],
+    },
+];
+
+// The entries and descriptions keep the rules.
+fn checked(rt: &impl Abort, alloc: Global, program: &Program)
+    ensures storage { entry_rules program.now.storage ≡ [] }
+    ensures files { descriptions_rules program.now.storage program.now.files ≡ [] }
+{
+    let storage = program.storage.as_slice();
+    let Ok(bytes) = check_entries(alloc, storage) else {
+        panic!(rt; "a rule is broken, or no memory");
+    };
+    if check_descriptions(alloc, storage, bytes, program.files.as_slice()).is_err() {
+        panic!(rt; "a rule is broken, or no memory");
+    }
+}
+
+fn check_program(
+    rt: &impl Abort,
+    alloc: Global,
+    row: &impl Debug,
+    program: &Program,
+    areas: &[&[u8]],
+) {
+    checked(rt, alloc, program);
+    let Ok(storage) = InitialStorage::of(alloc, program) else {
+        panic!(rt; "no memory");
+    };
+    same(rt, storage.areas.as_slice().len(), areas.len());
+    for (area, expected) in storage.areas.as_slice().iter().zip(areas) {
+        same_in(rt, row, area.as_slice(), *expected);
+    }
+}
+
 fn check(rt: &impl Abort, alloc: Global, rows: &[Row]) {
     for row in rows {
-        let all = entries(rt, alloc, row.entries);
-        if check_entries(alloc, &all).is_err() {
-            panic!(rt; "a rule is broken, or no memory: {:?}", row.entries);
-        }
-        let Ok(storage) = InitialStorage::of(alloc, &all) else {
-            panic!(rt; "no memory");
-        };
-        let areas = storage.areas.as_slice();
-        same(rt, areas.len(), row.areas.len());
-        for (area, expected) in areas.iter().zip(row.areas) {
-            same_in(rt, &row.entries, area.as_slice(), *expected);
-        }
+        let program = program(rt, alloc, row.entries, &[]);
+        check_program(rt, alloc, &row.entries, &program, row.areas);
+    }
+}
+
+fn check_files(rt: &impl Abort, alloc: Global, rows: &[FileRow]) {
+    for row in rows {
+        let program = program(rt, alloc, row.storage, row.files);
+        check_program(rt, alloc, &row.files, &program, row.areas);
     }
 }
 
@@ -168,4 +226,9 @@ fn groups(rt: HostRuntime) {
 #[test]
 fn areas(rt: HostRuntime) {
     check(&rt, rt.alloc(), AREAS);
+}
+
+#[test]
+fn files(rt: HostRuntime) {
+    check_files(&rt, rt.alloc(), FILES);
 }

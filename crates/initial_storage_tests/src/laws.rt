@@ -1,6 +1,8 @@
 //! The laws, called.
 
-use initial_storage::{areas_are_small, items_have_their_form, items_lie_within_areas};
+use initial_storage::{
+    areas_are_small, condition_values_suit, items_have_their_form, items_lie_within_areas,
+};
 use literals::senders_have_their_form;
 
 #[test]
@@ -9,4 +11,5 @@ fn laws_are_called(_rt: HostRuntime) {
     items_have_their_form();
     items_lie_within_areas();
     areas_are_small();
+    condition_values_suit();
 }

@@ -1,8 +1,9 @@
 //! Entries from short texts: level, name (or FILLER) and clauses, as `05 A PIC=X(3) REDEFINES=B OCCURS=3 VALUE='AB'`; of level 88 values, as
 //! `88 C 1:5 9`. What stands in an entry has the entry's line, and a column of its own.
 use source_tree::{
-    ConditionEntry, Entry, Figurative, Integer, ItemEntry, Literal, LiteralValue, Name,
-    NumericLiteral, PictureText, Place, Sign, SignClause, SignPosition, UsageClause, ValueRange,
+    ConditionEntry, Entry, Figurative, FileDescription, Integer, ItemEntry, Literal, LiteralValue,
+    Name, NumericLiteral, PictureText, Place, Program, Sign, SignClause, SignPosition, UsageClause,
+    ValueRange,
 };
 use sqlite_items::Items;
 use std::alloc::Global;
@@ -183,7 +184,7 @@ pub fn entry(rt: &impl Abort, alloc: Global, line: u32, text: &str) -> Entry {
 }
 
 /// The entries of texts, one a line.
-pub fn entries(rt: &impl Abort, alloc: Global, texts: &[&str]) -> Vec<Entry> {
+fn entries(rt: &impl Abort, alloc: Global, texts: &[&str]) -> Items<Entry> {
     let mut all = Vec::new(alloc);
     for (index, text) in texts.iter().enumerate() {
         let line = (index % 1_000) as u32 + 1;
@@ -191,5 +192,31 @@ pub fn entries(rt: &impl Abort, alloc: Global, texts: &[&str]) -> Vec<Entry> {
             panic!(rt; "no memory");
         }
     }
-    all
+    Items::from_vec(all)
+}
+
+/// FDs with these records.
+fn descriptions(rt: &impl Abort, alloc: Global, files: &[&[&str]]) -> Items<FileDescription> {
+    let mut all = Vec::new(alloc);
+    for texts in files {
+        let one = FileDescription {
+            name: name(rt, alloc, 1, NAME, "F"),
+            entries: entries(rt, alloc, texts),
+        };
+        if all.push(one).is_err() {
+            panic!(rt; "no memory");
+        }
+    }
+    Items::from_vec(all)
+}
+
+/// A program of these entries, and of files with these records.
+pub fn program(rt: &impl Abort, alloc: Global, storage: &[&str], files: &[&[&str]]) -> Program {
+    Program {
+        name: name(rt, alloc, 1, NAME, "P"),
+        selects: Items::new(alloc),
+        files: descriptions(rt, alloc, files),
+        storage: entries(rt, alloc, storage),
+        sections: Items::new(alloc),
+    }
 }

@@ -1,10 +1,13 @@
--- A table as entries: 01 of 05 PIC 99 OCCURS 4.
+-- A program with a table, 01 of 05 PIC 99 OCCURS 4, in working storage and in a file's record.
 use Rattle.std.specs.Prelude.{ℕ, false, List, [], ◌∷◌, Some, None, codes}
 use Rattle.lexical.specs.declared.place.Place.{Place}
 use Rattle.source_tree.specs.declared.literal.Integer.{Integer}
+use Rattle.source_tree.specs.declared.name.Name.{Name}
 use Rattle.source_tree.specs.declared.entry.ItemEntry.{ItemEntry}
 use Rattle.source_tree.specs.declared.entry.Entry.{Entry}
 use Rattle.source_tree.specs.declared.entry.Entry.TheVariants.{Item}
+use Rattle.source_tree.specs.declared.select.FileDescription.{FileDescription}
+use Rattle.source_tree.specs.declared.program.Program.{Program}
 
 abbrev pub here : Place
 here = record { line = 1; column = 12 }
@@ -31,3 +34,12 @@ table level picture count = record (group level) { picture = Some (record { char
 
 abbrev pub entries : List Entry
 entries = Item (group (codes "01")) ∷ Item (table (codes "05") (codes "99") (codes "4")) ∷ []
+
+abbrev pub name : List ℕ → Name
+name characters = record { characters = characters; place = here }
+
+abbrev pub file : FileDescription
+file = record { name = name (codes "F"); entries = entries }
+
+abbrev pub program : Program
+program = record { name = name (codes "P"); selects = []; files = file ∷ []; storage = entries; sections = [] }

@@ -1,9 +1,9 @@
-//! A table as entries.
+//! A program with a table in working storage and in a file's record.
 
 ghost use Rattle.std.specs.Prelude.{◌≡◌, ◌∷◌, ◌++◌, []};
 ghost use Rattle.layout_tests.specs.Sample as spec;
 
-use source_tree::{Entry, Integer, ItemEntry, PictureText, Place};
+use source_tree::{Entry, FileDescription, Integer, ItemEntry, Name, PictureText, Place, Program};
 use sqlite_items::Items;
 use std::alloc::Global;
 use std::process::Abort;
@@ -69,22 +69,55 @@ fn table(rt: &impl Abort, alloc: Global, level: &[u8], picture: &[u8], count: &[
     }
 }
 
-fn add(rt: &impl Abort, entries: &mut Vec<Entry>, entry: Entry)
-    ensures { entries.new.items ≡ entries.old.items ++ entry ∷ [] }
+fn add<T: Drop>(rt: &impl Abort, all: &mut Vec<T>, one: T)
+    ensures { all.new.items ≡ all.old.items ++ one ∷ [] }
 {
-    if entries.push(entry).is_err() {
+    if all.push(one).is_err() {
         panic!(rt; "no memory");
     }
 }
 
 /// 01 of 05 PIC 99 OCCURS 4.
-pub fn entries(rt: &impl Abort, alloc: Global) -> Vec<Entry>
-    ensures { result.items ≡ spec.entries }
+fn entries(rt: &impl Abort, alloc: Global) -> Items<Entry>
+    ensures { result ≡ spec.entries }
 {
     let mut all = Vec::new(alloc);
     let outer = group(rt, alloc, b"01");
     add(rt, &mut all, Entry::Item(outer));
     let inner = table(rt, alloc, b"05", b"99", b"4");
     add(rt, &mut all, Entry::Item(inner));
-    all
+    Items::from_vec(all)
+}
+
+fn name(rt: &impl Abort, alloc: Global, text: &[u8]) -> Name
+    ensures { result ≡ spec.name text.now }
+{
+    let characters = characters(rt, alloc, text);
+    let place = HERE;
+    Name { characters, place }
+}
+
+/// A file with the table as its record.
+fn file(rt: &impl Abort, alloc: Global) -> FileDescription
+    ensures { result ≡ spec.file }
+{
+    let name = name(rt, alloc, b"F");
+    let entries = entries(rt, alloc);
+    FileDescription { name, entries }
+}
+
+/// A program with the table in working storage and in a file's record.
+pub fn program(rt: &impl Abort, alloc: Global) -> Program
+    ensures { result ≡ spec.program }
+{
+    let mut files = Vec::new(alloc);
+    let one = file(rt, alloc);
+    add(rt, &mut files, one);
+    Program {
+        name: name(rt, alloc, b"P"),
+        selects: Items::new(alloc),
+        files: Items::from_vec(files),
+        storage: entries(rt, alloc),
+        sections: Items::new(alloc),
+    }
 }

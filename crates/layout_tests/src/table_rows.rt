@@ -1,6 +1,6 @@
-//! The places of a table.
+//! The places of a table, in working storage and in a record.
 use crate::asserted::same;
-use crate::samples::entries;
+use crate::samples::program;
 use layout::{Layout, PlacedItem};
 use std::alloc::Global;
 use std::process::Abort;
@@ -15,16 +15,18 @@ fn has_place(rt: &impl Abort, item: &PlacedItem, place: (u32, u32, u32), strides
 }
 
 fn places(rt: &impl Abort, alloc: Global) {
-    let all = entries(rt, alloc);
-    let Ok(layout) = Layout::of(alloc, &all) else {
+    let program = program(rt, alloc);
+    let Ok(layout) = Layout::of(alloc, &program) else {
         panic!(rt; "no memory");
     };
     match layout.items.as_slice() {
-        [outer, inner] => {
+        [outer, inner, record, field] => {
             has_place(rt, outer, (0, 0, 8), &[]);
             has_place(rt, inner, (0, 0, 2), &[(2, 4)]);
+            has_place(rt, record, (1, 0, 8), &[]);
+            has_place(rt, field, (1, 0, 2), &[(2, 4)]);
         }
-        _ => panic!(rt; "two items"),
+        _ => panic!(rt; "four items"),
     }
 }
 

@@ -4,7 +4,7 @@ use crate::asserted::{same, same_in};
 use crate::codes::{ENOUGH, run_on, run_on_day};
 use crate::moves::code_of_text;
 use data_instructions::ProgramFault;
-use machine::Ended;
+use run_unit::Ended;
 use station::MemoryStation;
 use std::alloc::{AllocError, Global};
 use std::test::Fail;

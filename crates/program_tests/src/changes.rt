@@ -4,7 +4,7 @@ use crate::asserted::{same, same_in};
 use crate::codes::{ENOUGH, is_harmless, run, with_byte};
 use crate::moves::code_of_text;
 use code_image::{from_bytes, to_bytes};
-use machine::Ended;
+use run_unit::Ended;
 use std::alloc::Global;
 use std::test::Fail;
 
@@ -20,7 +20,7 @@ fn image_of_control(alloc: Global) -> Result<Vec<u8>, Fail> {
 }
 
 /// What a byte is changed to: each bit turned, one more, one less, none set and all set.
-fn others(byte: u8) -> [u8; 12] {
+pub(crate) fn others(byte: u8) -> [u8; 12] {
     [
         byte ^ 1,
         byte ^ 2,

@@ -8,7 +8,7 @@ use check_rules::check;
 use code_image::{Code, ImageError, Instruction, ParagraphIndex, from_bytes, to_bytes, verify};
 use codegen::generate;
 use data_instructions::{DataInstruction, DataTables, ItemIndex, TextIndex};
-use machine::{Ended, Machine, Refusal};
+use run_unit::{Ended, Refusal, run_image};
 use source_tree::{
     Ending, Figurative, Literal, LiteralValue, Name, NumericLiteral, Operand, Paragraph, Place,
     Program, Section, Sentence, Sign, Statement, Text, Verb,
@@ -18,7 +18,7 @@ use station::MemoryStation;
 use std::alloc::{AllocError, Global};
 use std::test::Fail;
 
-const DAY: [u8; 6] = *b"000000";
+pub(crate) const DAY: [u8; 6] = *b"000000";
 
 /// No run of these rows needs more.
 pub(crate) const ENOUGH: u64 = 1000;
@@ -97,6 +97,8 @@ pub(crate) fn program(alloc: Global, statements: Items<Statement>) -> Result<Pro
             characters: Items::from_slice(alloc, b"HELLO")?,
             place: place(2),
         },
+        selects: Items::new(alloc),
+        files: Items::new(alloc),
         storage: Items::new(alloc),
         sections: list(alloc, section)?,
     })
@@ -148,8 +150,8 @@ pub(crate) fn run_on_day(
 ) -> Result<(Ended, Vec<u8>), Fail>
     requires { All IsDigit day }
 {
-    let machine = Machine::new(alloc, verify(alloc, code)?, day)?;
-    let ended = machine.run(station, budget);
+    let image = to_bytes(alloc, &code)?;
+    let ended = run_image(alloc, image.as_slice(), station, day, budget);
     Ok((ended, station.shown()?))
 }
 
@@ -257,8 +259,8 @@ fn hello_image(alloc: Global) -> Result<Vec<u8>, AllocError> {
     image.extend_from_slice(b"HELLO")?;
     put_counts(&mut image, &[1])?;
     image.extend_from_slice(b"\n")?;
-    // no inspections, one code paragraph that starts at 0, and eight instructions
-    put_counts(&mut image, &[0, 1, 0, 8])?;
+    // no inspections and files, one code paragraph that starts at 0, and eight instructions
+    put_counts(&mut image, &[0, 0, 1, 0, 8])?;
     image.extend_from_slice(&[1, 0, 0, 0, 5])?;
     image.extend_from_slice(&[24, 0, 0, 0, 0])?;
     image.extend_from_slice(&[24, 0, 0, 0, 1, 2])?;
@@ -301,26 +303,16 @@ fn an_image_cut_short(rt: HostRuntime) -> Result<(), Fail> {
     Ok(())
 }
 
-/// Refused with 70 to 74, or a run that stops within its budget; with `otherwise` one that ends in any way but by a refusal.
+/// Refused with 70 to 74, or a run that stops within its budget; with `otherwise` one that ends in any way but by a refusal. An image
+/// that came to have files finds no volume.
 pub(crate) fn is_harmless(alloc: Global, image: &[u8], otherwise: bool) -> Result<bool, Fail> {
-    let code = match from_bytes(alloc, image) {
-        Ok(code) => code,
-        Err(ImageError::Refused(fault)) => return Ok((70..=72).contains(&fault.number())),
-        Err(ImageError::Memory) => return Ok(false),
-    };
-    match verify(alloc, code) {
-        Err(ImageError::Refused(fault)) => Ok((72..=74).contains(&fault.number())),
-        Err(ImageError::Memory) => Ok(false),
-        Ok(verified) => {
-            let mut station = new_station(alloc)?;
-            let ended = Machine::new(alloc, verified, DAY)?.run(&mut station, ENOUGH);
-            Ok(match ended {
-                Ended::Stopped => true,
-                Ended::Budget | Ended::Faulted { .. } => otherwise,
-                Ended::Refused(_) => false,
-            })
-        }
-    }
+    let mut station = new_station(alloc)?;
+    Ok(match run_image(alloc, image, &mut station, DAY, ENOUGH) {
+        Ended::Stopped => true,
+        Ended::Budget | Ended::Faulted { .. } => otherwise,
+        Ended::Refused(Refusal::Image(_) | Refusal::Damaged) => true,
+        Ended::Refused(_) => false,
+    })
 }
 
 pub(crate) fn with_byte(
@@ -336,6 +328,9 @@ pub(crate) fn with_byte(
     Ok(changed)
 }
 
+/// The number of `unheard`, which ends a run as fault 92.
+const UNHEARD: u8 = 47;
+
 #[test]
 fn an_image_with_one_byte_changed(rt: HostRuntime) -> Result<(), Fail> {
     let alloc = rt.alloc();
@@ -346,7 +341,7 @@ fn an_image_with_one_byte_changed(rt: HostRuntime) -> Result<(), Fail> {
             same_in(
                 &rt,
                 &(at, other),
-                is_harmless(alloc, changed.as_slice(), false)?,
+                is_harmless(alloc, changed.as_slice(), other == UNHEARD)?,
                 true,
             );
             if at < 8 && changed != image {
@@ -376,6 +371,7 @@ pub(crate) fn code(
 ) -> Result<Code, AllocError> {
     Ok(Code {
         tables: tables(alloc)?,
+        files: Items::new(alloc),
         starts: Items::from_slice(alloc, starts)?,
         instructions: Items::from_slice(alloc, instructions)?,
     })
@@ -492,7 +488,7 @@ fn bytes_that_are_no_image(rt: HostRuntime) -> Result<(), Fail> {
     same(&rt, fault(alloc, b"COBIMG02"), 70);
     same(&rt, fault(alloc, b"COBIMG01"), 71);
     // an instruction of an unknown kind, and one whose item is missing
-    for (kind, number) in [(0, 72), (47, 72), (255, 72), (16, 71)] {
+    for (kind, number) in [(0, 72), (48, 72), (255, 72), (16, 71)] {
         let mut image = hello_image(alloc)?;
         image.pop();
         image.push(kind)?;

@@ -11,6 +11,8 @@ mod changes;
 #[cfg(test)]
 mod codes;
 #[cfg(test)]
+mod files;
+#[cfg(test)]
 mod moves;
 #[cfg(test)]
 mod trees;

@@ -5,7 +5,7 @@ use crate::codes::{ENOUGH, code_of, run};
 use crate::trees::tree;
 use code_image::{Code, from_bytes, to_bytes};
 use data_instructions::ProgramFault;
-use machine::Ended;
+use run_unit::Ended;
 use std::alloc::Global;
 use std::process::Abort;
 use std::test::Fail;

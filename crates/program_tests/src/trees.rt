@@ -502,6 +502,7 @@ fn push_statement(to: &mut String, alloc: Global, statement: &Statement) -> Resu
         // what stands in their phrases is shown by tests of `statements`
         Verb::Arithmetic(_) => to.push_str("R")?,
         Verb::Stringing(_) => to.push_str("Z")?,
+        Verb::Filing(_) => to.push_str("F")?,
         Verb::Ending(Ending::StopRun) => to.push_str("S")?,
         Verb::Ending(Ending::Continue) => to.push_str("C")?,
         Verb::Ending(Ending::Exit) => to.push_str("E")?,

@@ -3,7 +3,7 @@
 use crate::asserted::{same, same_in};
 use crate::codes::{code, code_of, list, place, program, run, text, unended, verdict};
 use code_image::{CounterIndex, Instruction, from_bytes, to_bytes};
-use machine::Ended;
+use run_unit::Ended;
 use source_tree::{Ending, Integer, Performed, Performing, Program, Statement, Turns, Verb};
 use sqlite_items::Items;
 use std::alloc::{AllocError, Global};

@@ -4,7 +4,7 @@ use crate::operands::{push_expression, push_reference, push_value};
 use source_tree::{Condition, Relation, Side};
 use std::alloc::AllocError;
 
-fn relation(relation: Relation) -> &'static str {
+pub fn relation(relation: Relation) -> &'static str {
     match relation {
         Relation::Less => "<",
         Relation::LessOrEqual => "<=",

@@ -12,6 +12,10 @@ mod control_rows;
 #[cfg(test)]
 mod evaluate_rows;
 #[cfg(test)]
+mod filed;
+#[cfg(test)]
+mod filing_rows;
+#[cfg(test)]
 mod inspected;
 #[cfg(test)]
 mod inspecting_rows;

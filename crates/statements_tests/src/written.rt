@@ -1,13 +1,14 @@
 //! Statements, written out again.
 
 use crate::asked::push_condition;
+use crate::filed::push_filing;
 use crate::moved::{push_moving, push_string};
 use crate::operands::{DEEPEST, push_bytes, push_operand, push_reference};
 use crate::operations::{push_operation, push_text};
 use crate::selected::{push_subjects, push_whens};
 use source_tree::{
-    Branching, Condition, Ending, Evaluate, Name, Performed, Phrases, Selected, Statement,
-    TestTime, Turns, Until, Verb,
+    Branching, Condition, Ending, Evaluate, FilePhrases, Filing, Name, Performed, Phrases,
+    Selected, Statement, TestTime, Turns, Until, Verb,
 };
 use sqlite_items::Items;
 use std::alloc::AllocError;
@@ -126,6 +127,36 @@ fn push_phrases(
     Ok(())
 }
 
+/// AT END and its opposite stand behind `end`, INVALID KEY and its opposite behind `invalid`.
+#[cycle(written)]
+fn push_file_phrases(to: &mut String, phrases: &FilePhrases<Statement>) -> Result<(), AllocError> {
+    match phrases {
+        FilePhrases::Absent => Ok(()),
+        FilePhrases::AtEnd(both) => {
+            to.push_str(" end")?;
+            push_phrases(to, "", both)
+        }
+        FilePhrases::InvalidKey(both) => {
+            to.push_str(" invalid")?;
+            push_phrases(to, "", both)
+        }
+    }
+}
+
+/// A file statement, and its phrases where it may have some.
+#[cycle(written)]
+fn push_file_statement(to: &mut String, one: &Filing<Statement>) -> Result<(), AllocError> {
+    push_filing(to, one)?;
+    match one {
+        Filing::Open { .. } | Filing::Close { .. } => Ok(()),
+        Filing::Read { phrases, .. }
+        | Filing::Write { phrases, .. }
+        | Filing::Rewrite { phrases, .. }
+        | Filing::Delete { phrases, .. }
+        | Filing::Start { phrases, .. } => push_file_phrases(to, phrases),
+    }
+}
+
 /// The statements of SIZE ERROR stand behind `error`, those of OVERFLOW behind `over`, and those of ELSE behind `else`.
 #[cycle(written)]
 fn push_statement(to: &mut String, statement: &Statement) -> Result<(), AllocError> {
@@ -162,6 +193,7 @@ fn push_statement(to: &mut String, statement: &Statement) -> Result<(), AllocErr
             push_string(to, one)?;
             push_phrases(to, " over", &one.phrases)
         }
+        Verb::Filing(one) => push_file_statement(to, one),
         Verb::Text(text) => push_text(to, text),
         Verb::Ending(one) => to.push_str(ending(*one)),
     }

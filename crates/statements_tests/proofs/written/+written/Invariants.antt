@@ -17,5 +17,11 @@ decreases-push_groups l = 8 * goal.size-push_groups l + 3
 abbrev pub decreases-push_phrases : goal.decreases-push_phrases
 decreases-push_phrases l = 8 * goal.size-push_phrases l + 2
 
+abbrev pub decreases-push_file_phrases : goal.decreases-push_file_phrases
+decreases-push_file_phrases l = 8 * goal.size-push_file_phrases l + 3
+
+abbrev pub decreases-push_file_statement : goal.decreases-push_file_statement
+decreases-push_file_statement l = 8 * goal.size-push_file_statement l + 4
+
 abbrev pub decreases-push_evaluate : goal.decreases-push_evaluate
 decreases-push_evaluate l = 8 * goal.size-push_evaluate l + 4

@@ -1,0 +1,147 @@
+//! The programs that the rows run.
+
+/// Makes a sequential file, writes three rows and closes it.
+pub const THREE_WRITES: &[u8] = b"       IDENTIFICATION DIVISION.
+       PROGRAM-ID. WRITES.
+       ENVIRONMENT DIVISION.
+       INPUT-OUTPUT SECTION.
+       FILE-CONTROL.
+           SELECT F ASSIGN TO \"LOG\".
+       DATA DIVISION.
+       FILE SECTION.
+       FD F.
+       01 R PIC X(4).
+       PROCEDURE DIVISION.
+       MAIN.
+           OPEN OUTPUT F.
+           MOVE \"ONE\" TO R. WRITE R.
+           MOVE \"TWO\" TO R. WRITE R.
+           MOVE \"SIX\" TO R. WRITE R.
+           CLOSE F.
+           STOP RUN.
+";
+
+/// Shows the rows of that file.
+pub const THREE_READS: &[u8] = b"       IDENTIFICATION DIVISION.
+       PROGRAM-ID. READS.
+       ENVIRONMENT DIVISION.
+       INPUT-OUTPUT SECTION.
+       FILE-CONTROL.
+           SELECT F ASSIGN TO \"LOG\".
+       DATA DIVISION.
+       FILE SECTION.
+       FD F.
+       01 R PIC X(4).
+       WORKING-STORAGE SECTION.
+       01 DONE PIC 9 VALUE 0.
+       PROCEDURE DIVISION.
+       MAIN.
+           OPEN INPUT F.
+           PERFORM UNTIL DONE = 1
+               READ F AT END MOVE 1 TO DONE
+                   NOT AT END DISPLAY R
+               END-READ
+           END-PERFORM.
+           STOP RUN.
+";
+
+/// Rows with equal values of an alternate key, read from the console; one has another value for a while, and one goes.
+pub const EQUAL_VALUES: &[u8] = b"       IDENTIFICATION DIVISION.
+       PROGRAM-ID. EQUALS.
+       ENVIRONMENT DIVISION.
+       INPUT-OUTPUT SECTION.
+       FILE-CONTROL.
+           SELECT OPTIONAL F ASSIGN TO \"ROWS\" INDEXED
+               ACCESS DYNAMIC RECORD KEY K
+               ALTERNATE RECORD KEY A WITH DUPLICATES STATUS S.
+       DATA DIVISION.
+       FILE SECTION.
+       FD F.
+       01 R.
+          02 K PIC 9.
+          02 A PIC X.
+       WORKING-STORAGE SECTION.
+       01 S PIC XX.
+       PROCEDURE DIVISION.
+       MAIN.
+           OPEN I-O F.
+           PERFORM 3 TIMES ACCEPT R WRITE R END-PERFORM.
+           MOVE \"1Y\" TO R. REWRITE R.
+           MOVE \"1X\" TO R. REWRITE R.
+           START F KEY IS EQUAL TO A.
+           PERFORM 5 TIMES READ F NEXT DISPLAY S K END-PERFORM.
+           MOVE 2 TO K. DELETE F.
+           CLOSE F.
+           STOP RUN.
+";
+
+/// Rows of a relative file that OPEN makes: one is read in sequence, one changed and one taken out; number 0 is none.
+pub const PLACES: &[u8] = b"       IDENTIFICATION DIVISION.
+       PROGRAM-ID. PLACING.
+       ENVIRONMENT DIVISION.
+       INPUT-OUTPUT SECTION.
+       FILE-CONTROL.
+           SELECT OPTIONAL F ASSIGN TO PLACES RELATIVE
+               ACCESS DYNAMIC RELATIVE KEY IS N STATUS S.
+       DATA DIVISION.
+       FILE SECTION.
+       FD F.
+       01 R PIC X(4).
+       WORKING-STORAGE SECTION.
+       01 N PIC 99.
+       01 S PIC XX.
+       PROCEDURE DIVISION.
+       MAIN.
+           OPEN I-O F.
+           MOVE 5 TO N. MOVE \"FIVE\" TO R. WRITE R.
+           MOVE 0 TO N. READ F NEXT. DISPLAY S N.
+           MOVE 0 TO N. WRITE R. READ F.
+           MOVE 3 TO N. MOVE \"TREE\" TO R. WRITE R.
+           MOVE 5 TO N. MOVE \"FIFE\" TO R. REWRITE R.
+           MOVE 3 TO N. DELETE F.
+           CLOSE F.
+           STOP RUN.
+";
+
+/// Makes a file of five rows that fill two sectors.
+pub const FIVE_WIDE_ROWS: &[u8] = b"       IDENTIFICATION DIVISION.
+       PROGRAM-ID. FIVE.
+       ENVIRONMENT DIVISION.
+       INPUT-OUTPUT SECTION.
+       FILE-CONTROL.
+           SELECT F ASSIGN TO \"WIDE\".
+       DATA DIVISION.
+       FILE SECTION.
+       FD F.
+       01 R PIC X(1000).
+       WORKING-STORAGE SECTION.
+       01 N PIC 9 VALUE 0.
+       PROCEDURE DIVISION.
+       MAIN.
+           OPEN OUTPUT F.
+           PERFORM 5 TIMES ADD 1 TO N MOVE N TO R WRITE R END-PERFORM.
+           CLOSE F.
+           STOP RUN.
+";
+
+/// Changes the first row of that file, and adds one.
+pub const WIDE_CHANGES: &[u8] = b"       IDENTIFICATION DIVISION.
+       PROGRAM-ID. CHANGES.
+       ENVIRONMENT DIVISION.
+       INPUT-OUTPUT SECTION.
+       FILE-CONTROL.
+           SELECT F ASSIGN TO \"WIDE\".
+       DATA DIVISION.
+       FILE SECTION.
+       FD F.
+       01 R PIC X(1000).
+       PROCEDURE DIVISION.
+       MAIN.
+           OPEN I-O F.
+           READ F. MOVE \"X\" TO R. REWRITE R.
+           CLOSE F.
+           OPEN EXTEND F.
+           MOVE \"6\" TO R. WRITE R.
+           CLOSE F.
+           STOP RUN.
+";
