@@ -5,6 +5,7 @@ mod decimals;
 mod halves;
 mod moves;
 mod plain_decimals;
+mod programs;
 mod replaced_decimals;
 mod sources;
 mod sparse;
@@ -31,12 +32,13 @@ fn main(rt: HostRuntime) -> io::Result<()> {
             "texts" => texts::measure(&rt)?,
             "trees" => trees::measure(&rt)?,
             "halves" => halves::measure(&rt)?,
+            "programs" => programs::measure(&rt)?,
             other => println!(rt; "there is no measurement {other}")?,
         }
     }
     if !named {
         println!(rt;
-            "measurements: sources, memory, decimals, values, moves, texts, volumes, releases, trees, halves"
+            "measurements: sources, memory, decimals, values, moves, texts, volumes, releases, trees, halves, programs"
         )?;
     }
     Ok(())

@@ -337,6 +337,14 @@ fn measure_texts(rt: &HostRuntime, size: usize) -> io::Result<()> {
     )
 }
 
+/// The picoseconds of a move of nine digits, as a plain call.
+pub fn time_of_move(rt: &HostRuntime) -> io::Result<u128> {
+    let Ok(picture) = Picture::read(rt.alloc(), PICTURE) else {
+        return Ok(0);
+    };
+    Operands::new(rt, picture, 1)?.nanoseconds(rt, Measurement::Move)
+}
+
 /// Moves and editing, in picoseconds a call.
 pub fn measure(rt: &HostRuntime) -> io::Result<()> {
     let Ok(picture) = Picture::read(rt.alloc(), PICTURE) else {
