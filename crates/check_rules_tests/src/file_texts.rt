@@ -81,15 +81,20 @@ fn alternate_keys(rt: &impl Abort, alloc: Global, text: &str) -> Items<Alternate
     Items::from_vec(all)
 }
 
-fn assigned(rt: &impl Abort, alloc: Global, text: &str) -> AssignedName {
-    let mut volume = "FILE";
+// The name on the volume.
+fn volume_name(text: &str) -> &str {
     for word in text.split_whitespace() {
         if let Some(other) = word.strip_prefix("N=") {
-            volume = other;
+            return other;
         }
     }
+    "FILE"
+}
+
+fn assigned(rt: &impl Abort, alloc: Global, text: &str) -> AssignedName {
+    let name = name(rt, alloc, LINE, OPERAND, volume_name(text));
     AssignedName {
-        characters: name(rt, alloc, LINE, OPERAND, volume).characters,
+        characters: name.characters,
         place: place(),
     }
 }
