@@ -31,8 +31,3 @@ pub connectors_grow : (files : List CodeFile) (i : ℕ) (one : CodeFile) (old ne
 connectors_grow files i one old new within is so_far added =
     added ∙ ap (λ (all : List Connector). all ++ closed ∷ []) so_far ∙ sym (map-append (λ (one : CodeFile). closed) (take i files) (one ∷ []))
     ∙ ap (λ (all : List CodeFile). closed_ones all) (sym (one_more files i one within is))
-
--- code without files has none
-pub without_files : (code : Code) → code.files ≡ [] → [] ≡ entries_of code.tables code.files
-unfolding entries_of
-without_files code none = sym (ap (map (entry_of code.tables)) none)

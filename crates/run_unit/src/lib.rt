@@ -8,7 +8,7 @@ mod ended;
 mod fault;
 mod image;
 mod laws;
-mod no_files;
+mod no_volume;
 mod over;
 mod source;
 mod volume;

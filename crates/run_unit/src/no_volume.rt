@@ -1,41 +1,109 @@
-//! File statements of a program without files: there are none.
+//! The store of a program that names no file.
 
-ghost use Rattle.std.specs.Prelude.{false, []};
+ghost use Rattle.std.specs.Prelude.{◌≡◌, true, false, if◌then◌else◌, []};
 
-use records::{FileVerbs, Keeps, Status, StoreFault, Verb};
+use records::{FileSpec, Found, Keeps, KeyOfReference, Outcome, Presence, Side, Store, StoreFault};
 use station::Device;
 
-/// No connectors, over no volume.
+/// A store without a volume: it has no files, and room for none.
 #[derive(Drop)]
-pub(crate) struct NoFiles;
+pub(crate) struct NoVolume {
+    spent: bool,
+}
 
-impl Keeps for NoFiles {
-    ghost stands = { λ _ _ _. Unit {0} };
+impl Keeps for NoVolume {
+    ghost stands = { λ _ _ files. files ≡ [] };
 
-    ghost holds = { λ _ _. Unit {0} };
+    ghost holds = { λ _ files. files ≡ [] };
 
     ghost needs = { λ _. 0 };
 
-    ghost is_spent = { λ _. false };
+    ghost is_spent = { λ store. store.spent };
 
     ghost lacks_room = { λ _ _ _ _ _. Unit {0} };
 }
 
-impl FileVerbs for NoFiles {
-    ghost entries = { λ _. [] };
+impl NoVolume {
+    pub(crate) fn new() -> NoVolume
+        ensures { result.spent ≡ false }
+    {
+        NoVolume { spent: false }
+    }
 
-    ghost connectors = { λ _. [] };
+    /// There is no room for a change.
+    fn refuse(&mut self) -> StoreFault
+        ensures spent { self.new.spent ≡ true }
+        ensures fault { result ≡ (if self.old.spent then StoreFault.Spent else StoreFault.Full) }
+    {
+        if self.spent {
+            return StoreFault::Spent;
+        }
+        self.spent = true;
+        StoreFault::Full
+    }
+}
 
-    ghost held = { λ _ _ _ _ _ _. tt };
+impl Store for NoVolume {
+    ghost held = { λ _ _ _ _ none _. none };
 
-    fn perform<D: Device>(
+    fn find<D: Device>(
         &mut self,
         _device: &mut D,
-        _file: usize,
-        _verb: Verb,
+        _file: &FileSpec,
+    ) -> Result<Presence, StoreFault> {
+        if self.spent {
+            return Err(StoreFault::Spent);
+        }
+        Ok(Presence::Absent)
+    }
+
+    fn seek<D: Device>(
+        &mut self,
+        _device: &mut D,
+        _file: &FileSpec,
+        _key: KeyOfReference,
+        _side: Side,
+        _value: &[u8],
+        _number: u64,
         _bytes: &mut [u8],
-        _number: &mut u64,
-    ) -> Result<Status, StoreFault> {
-        unreachable!()
+    ) -> Result<Option<Found>, StoreFault> {
+        if self.spent {
+            return Err(StoreFault::Spent);
+        }
+        Ok(None)
+    }
+
+    fn create<D: Device>(&mut self, _device: &mut D, _file: &FileSpec) -> Result<(), StoreFault> {
+        Err(self.refuse())
+    }
+
+    fn insert<D: Device>(
+        &mut self,
+        _device: &mut D,
+        _file: &FileSpec,
+        _number: u64,
+        _bytes: &[u8],
+    ) -> Result<Outcome, StoreFault> {
+        Err(self.refuse())
+    }
+
+    fn replace<D: Device>(
+        &mut self,
+        _device: &mut D,
+        _file: &FileSpec,
+        _number: u64,
+        _bytes: &[u8],
+    ) -> Result<Outcome, StoreFault> {
+        Err(self.refuse())
+    }
+
+    fn remove<D: Device>(
+        &mut self,
+        _device: &mut D,
+        _file: &FileSpec,
+        _number: u64,
+        _key: &[u8],
+    ) -> Result<Outcome, StoreFault> {
+        Err(self.refuse())
     }
 }

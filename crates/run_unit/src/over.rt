@@ -25,7 +25,11 @@ use station::Station;
 use std::alloc::Global;
 
 /// Connectors to the files of code, all closed, over a store.
-fn connect<T: Store + Drop>(alloc: Global, code: &Code, store: T) -> Result<Connectors<T>, Refusal>
+pub(crate) fn connect<T: Store + Drop>(
+    alloc: Global,
+    code: &Code,
+    store: T,
+) -> Result<Connectors<T>, Refusal>
     requires { IsVerified code.now }
     ensures entries { IfOk result (λ all. ⟦<Connectors<T> as FileVerbs>⟧.entries all ≡ entries_of code.now.tables code.now.files) }
     ensures connectors { IfOk result (λ all. ⟦<Connectors<T> as FileVerbs>⟧.connectors all ≡ all_closed code.now) }

@@ -12,8 +12,8 @@ ghost use Rattle.run_unit.specs.Ends.{HasCause, IsRun};
 ghost use Rattle.run_unit.specs.Volume.{RunsOnVolume};
 
 use crate::ended::{Ended, Refusal};
-use crate::no_files::NoFiles;
-use crate::over::run_over;
+use crate::no_volume::NoVolume;
+use crate::over::{connect, run_over};
 use code_image::{Verified, run_law};
 use half_store::HalfStore;
 use machine::Machine;
@@ -40,10 +40,13 @@ pub(crate) fn run_alone<S: Station>(
     ensures sound { result ≢ Ended.Refused Refusal.Damaged }
 {
     run_law();
+    let Ok(mut connectors) = connect(alloc, code.code(), NoVolume::new()) else {
+        return Ended::Refused(Refusal::Memory);
+    };
     let Ok(machine) = Machine::new(alloc, code, day) else {
         return Ended::Refused(Refusal::Memory);
     };
-    Ended::of(machine.run(station, &mut NoFiles, budget))
+    Ended::of(machine.run(station, &mut connectors, budget))
 }
 
 /// Opens the volume and runs code over its files.
