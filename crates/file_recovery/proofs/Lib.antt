@@ -1,0 +1,12 @@
+pub mod Checked
+pub mod ReadBack
+pub mod Walks
+pub mod Calling
+pub mod Faults
+pub mod Entered
+pub mod Matching
+pub mod Placed
+pub mod Strays
+pub mod Marking
+pub mod OneKept
+pub mod Indexes

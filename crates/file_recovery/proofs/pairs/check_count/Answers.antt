@@ -1,0 +1,87 @@
+use Rattle.std.proofs.Common.{◌≡◌, ◌+◌, inr, ℕ, suc, List, Err, sym, ap, subst, ◌∙◌, arith}
+use Rattle.std.specs.Prelude.{Option, Some}
+use Rattle.station.specs.Disk.{Sector}
+use Rattle.pages.specs.Pages.{map_now}
+use Rattle.btree.specs.Entries.{Entry, entries_of}
+use Rattle.btree.specs.Tree.{Holds}
+use Rattle.btree.proofs.There.{tree_ascends}
+use Rattle.records.specs.declared.fault.StoreFault.TheVariants.{Device, Damaged}
+use Rattle.file_recovery.proofs.Calling.{looks_blamed, looks_then, pages_kept}
+use Rattle.file_recovery.proofs.Walks.{entry_at, first_at, next_at, none_at, some_at}
+use Rattle.file_recovery.proofs.pairs.check_count.Goals as goal
+
+pub loop-turn-init : goal.loop-turn-init
+loop-turn-init g c = record {
+  looks = looks_blamed g.D.Device (c.first_in.result ≡ Err Device) ⊥ c.args.pages.now c.first_in.new.pages c.args.device.now c.first_in.new.device (λ is. absurd is) c.first_in.ensures.looks;
+  next_is = λ honest agrees levels holds. c.in_ok-next.ensures.entry honest agrees levels holds ∙ first_at (entries_of c.args.tree.now.layout levels);
+  some = λ honest agrees levels holds. omega arith;
+}
+
+pub loop-turn-preserved : goal.loop-turn-preserved
+loop-turn-preserved g c =
+    let loop = c.loop-turn in
+    let looks = loop.invariant.looks in
+    record {
+      looks = looks_then g.D.Device ⊥ (c.next_in.result ≡ Err Device) ⊥ c.args.pages.now loop.pages c.next_in.new.pages c.args.device.now loop.device c.next_in.new.device (λ is. absurd is) looks c.next_in.ensures.looks;
+      next_is = λ honest agrees levels holds.
+          let layout = c.args.tree.now.layout in
+          let root = c.args.tree.now.root in
+          let entries : List Entry = entries_of layout levels in
+          let same = pages_kept g.D.Device ⊥ c.args.pages.now loop.pages c.args.device.now loop.device looks honest in
+          let there_now = subst (λ (p : List (Option Sector)). Holds layout p root levels) (sym same) holds in
+          let is : entry_at loop.turn entries ≡ Some c.in-Some.entry = sym (loop.invariant.next_is honest agrees levels holds) ∙ c.in-Some.is in
+          let ascend = tree_ascends layout (map_now c.args.pages.now (g.D.Device.state c.args.device.now).disk.present).pages root levels holds in
+          c.in_ok-next-in-Some.ensures.entry (looks.only.honest.0 honest) (looks.agrees honest agrees) levels there_now
+          ∙ next_at entries loop.turn c.in-Some.entry ascend is ∙ ap (λ (n : ℕ). entry_at n entries) (let e : suc loop.turn ≡ loop.turn + 1 = omega arith in e);
+      some = λ honest agrees levels holds.
+          let entries : List Entry = entries_of c.args.tree.now.layout levels in
+          let is : entry_at loop.turn entries ≡ Some c.in-Some.entry = sym (loop.invariant.next_is honest agrees levels holds) ∙ c.in-Some.is in
+          some_at entries loop.turn c.in-Some.entry is;
+    }
+
+pub returns-in-None-clause-damaged : goal.returns-in-None-clause-damaged
+returns-in-None-clause-damaged g c = λ honest agrees levels holds told count.
+    let entries : List Entry = entries_of c.args.tree.now.layout levels in
+    let few = none_at entries c.loop-turn.turn (sym (c.loop-turn.invariant.next_is honest agrees levels holds) ∙ c.in-None.is) in
+    let test = c.loop-turn-test.true in
+    omega (arith, few, test, count)
+
+pub returns-in_err-next-clause-damaged : goal.returns-in_err-next-clause-damaged
+returns-in_err-next-clause-damaged g c = λ honest agrees levels holds refused count.
+    let from = rw refused at c.from_residual.ensures.1 in
+    let fault : c.in_err-next.field-0.0 ≡ Damaged = sym from in
+    let told : c.first_in.result ≡ Err Damaged = c.in_err-next.was ∙ ap Err fault in
+    c.first_in.ensures.damaged honest agrees told levels holds
+
+pub returns-in_err-next-in-Some-clause-looks : goal.returns-in_err-next-in-Some-clause-looks
+returns-in_err-next-in-Some-clause-looks g c =
+    let loop = c.loop-turn in
+    looks_then g.D.Device ⊥ (c.next_in.result ≡ Err Device) _ c.args.pages.now loop.pages c.next_in.new.pages c.args.device.now loop.device c.next_in.new.device
+    (λ is. let from = rw is at c.from_residual-in_err-next-in-Some.ensures.1 in let fault : c.in_err-next-in-Some.field-0.0 ≡ Device = sym from in let told : c.next_in.result ≡ Err Device = c.in_err-next-in-Some.was ∙ ap Err fault in inr told)
+    loop.invariant.looks c.next_in.ensures.looks
+
+pub returns-in_err-next-in-Some-clause-damaged : goal.returns-in_err-next-in-Some-clause-damaged
+returns-in_err-next-in-Some-clause-damaged g c = λ honest agrees levels holds refused count.
+    let from = rw refused at c.from_residual-in_err-next-in-Some.ensures.1 in
+    let fault : c.in_err-next-in-Some.field-0.0 ≡ Damaged = sym from in
+    let told : c.next_in.result ≡ Err Damaged = c.in_err-next-in-Some.was ∙ ap Err fault in
+    let looks = c.loop-turn.invariant.looks in
+    let same = pages_kept g.D.Device ⊥ c.args.pages.now c.loop-turn.pages c.args.device.now c.loop-turn.device looks honest in
+    let there_now = subst (λ (p : List (Option Sector)). Holds c.args.tree.now.layout p c.args.tree.now.root levels) (sym same) holds in
+    c.next_in.ensures.damaged (looks.only.honest.0 honest) (looks.agrees honest agrees) told levels there_now
+
+pub returns-in-Some-next-clause-damaged : goal.returns-in-Some-next-clause-damaged
+returns-in-Some-next-clause-damaged g c = λ honest agrees levels holds told count.
+    let entries : List Entry = entries_of c.args.tree.now.layout levels in
+    let more = some_at entries c.loop-turn.turn _ (sym (c.loop-turn.invariant.next_is honest agrees levels holds) ∙ c.in-Some-next.is) in
+    let test = c.loop-turn-test.false in
+    omega (arith, more, test, count)
+
+pub returns-in-None-next-clause-count : goal.returns-in-None-next-clause-count
+returns-in-None-next-clause-count g c = λ honest agrees levels holds.
+    let entries : List Entry = entries_of c.args.tree.now.layout levels in
+    let few = none_at entries c.loop-turn.turn (sym (c.loop-turn.invariant.next_is honest agrees levels holds) ∙ c.in-None-next.is) in
+    let some = c.loop-turn.invariant.some honest agrees levels holds in
+    let test = c.loop-turn-test.false in
+    let end = c.loop-turn.auto.turn-end in
+    omega (arith, few, some, test, end)

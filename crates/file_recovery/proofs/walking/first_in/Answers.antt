@@ -1,0 +1,18 @@
+use Rattle.std.proofs.Common.{◌≡◌, true, false, Err, sym, ap, subst, ◌∙◌}
+use Rattle.pages.specs.declared.error.PagesError.TheVariants as pages
+use Rattle.records.specs.declared.fault.StoreFault.TheVariants.{Damaged}
+use Rattle.file_recovery.specs.Faults.{IsReadFault}
+use Rattle.file_recovery.proofs.Faults.{damaged_back, read_fault}
+use Rattle.file_recovery.proofs.walking.first_in.Goals as goal
+
+pub returns-in-Err-clause-damaged : goal.returns-in-Err-clause-damaged
+returns-in-Err-clause-damaged g c = λ honest agrees is levels holds.
+    let told : c.to_fault.result ≡ Damaged = cc in
+    let fault : c.in-Err.error ≡ pages.Damaged = damaged_back c.in-Err.error (sym c.to_fault.ensures ∙ told) in
+    c.in-Err.ensures.damaged honest agrees (ap Err fault) levels holds
+
+pub returns-in-Err-clause-cause : goal.returns-in-Err-clause-cause
+returns-in-Err-clause-cause g c =
+    subst IsReadFault (sym c.to_fault.ensures)
+    (read_fault c.args.tree.now.layout c.in-Err.error c.in-Err.ensures.cause
+    (λ is. let spent = (c.in-Err.ensures.spent.0 (ap Err is)).0 in let clash : true ≡ false = sym spent ∙ c.requires.unspent in cc))
