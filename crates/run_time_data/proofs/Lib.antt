@@ -4,6 +4,9 @@ pub mod Staying
 pub mod KeptNumbers
 pub mod Cutting
 pub mod Together
+pub mod OccursTogether
+pub mod OccursReady
+pub mod FusedIs
 pub mod ReadyTogether
 pub mod ReadyBehind
 pub mod KnownIntegers

@@ -12,5 +12,6 @@ pub mod Lines
 pub mod KeptNumbers
 pub mod Fused
 pub mod FindsFirst
+pub mod Occurrences
 pub mod Overlays
 pub mod Stringing

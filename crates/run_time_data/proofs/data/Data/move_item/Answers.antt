@@ -10,7 +10,7 @@ use Rattle.run_time_data.specs.Data.{scratch_of}
 use Rattle.run_time_data.specs.Comes.{Keeps}
 use Rattle.run_time_data.specs.Fused.{at_item}
 use Rattle.run_time_data.specs.Ready.{IsReadyAlong}
-use Rattle.run_time_data.proofs.Together.{fused_is}
+use Rattle.run_time_data.proofs.FusedIs.{fused_is}
 use Rattle.run_time_data.proofs.ReadyTogether.{item_stands, move_found}
 use Rattle.run_time_data.proofs.ReadyBehind.{ready_behind}
 use Rattle.run_time_data.proofs.data.Data.move_item.Goals as goal
