@@ -33,7 +33,7 @@ pub use areas::Areas;
 pub use buffer::Buffer;
 pub use data::{Data, Room, longest_item};
 pub use fused::Fused;
-pub use occurrence::{ItemSubscript, Occurrence};
 pub use laws::{cutting_law, finding_law, staying_law};
+pub use occurrence::{ItemSubscript, Occurrence};
 pub use sender::Sender;
 pub use stack::Stack;

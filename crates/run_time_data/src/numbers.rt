@@ -27,7 +27,11 @@ pub fn number_in(kind: Kind, bytes: &[u8]) -> Option<Dec>
 }
 
 /// The bytes before the occurrence that a subscript names (COBOL-85, Nucleus, "Subscripting"). Occurrences count from 1.
-pub(crate) fn bytes_before(subscript: Option<Dec>, stride: u32, count: u32) -> Result<usize, ProgramFault>
+pub(crate) fn bytes_before(
+    subscript: Option<Dec>,
+    stride: u32,
+    count: u32,
+) -> Result<usize, ProgramFault>
     ensures { Told result (spec.bytes_before (record { stride = stride; count = count }) subscript) }
 {
     let integer = subscript
