@@ -5,11 +5,31 @@
 #[cfg(test)]
 mod asserted;
 #[cfg(test)]
+mod call_tests;
+#[cfg(test)]
 mod cases;
 #[cfg(test)]
 mod damage_tests;
 #[cfg(test)]
+mod drawing;
+#[cfg(test)]
+mod drawn_program;
+#[cfg(test)]
+mod drawn_tests;
+#[cfg(test)]
 mod later_run_tests;
+#[cfg(test)]
+mod met;
+#[cfg(test)]
+mod model;
+#[cfg(test)]
+mod model_connectors;
+#[cfg(test)]
+mod model_files;
+#[cfg(test)]
+mod model_told;
+#[cfg(test)]
+mod program_text;
 #[cfg(test)]
 mod programs;
 #[cfg(test)]
@@ -18,3 +38,5 @@ mod stop_tests;
 mod told;
 #[cfg(test)]
 mod volume;
+#[cfg(test)]
+mod words;

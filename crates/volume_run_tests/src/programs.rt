@@ -145,3 +145,27 @@ pub const WIDE_CHANGES: &[u8] = b"       IDENTIFICATION DIVISION.
            CLOSE F.
            STOP RUN.
 ";
+
+/// Says something, adds a console line to the file of THREE_WRITES, and shows the status and the first row.
+pub const TALKS: &[u8] = b"       IDENTIFICATION DIVISION.
+       PROGRAM-ID. TALKS.
+       ENVIRONMENT DIVISION.
+       INPUT-OUTPUT SECTION.
+       FILE-CONTROL.
+           SELECT F ASSIGN TO \"LOG\" STATUS S.
+       DATA DIVISION.
+       FILE SECTION.
+       FD F.
+       01 R PIC X(4).
+       WORKING-STORAGE SECTION.
+       01 S PIC XX.
+       PROCEDURE DIVISION.
+       MAIN.
+           DISPLAY \"READY\".
+           OPEN EXTEND F.
+           ACCEPT R. WRITE R. DISPLAY S.
+           CLOSE F.
+           OPEN INPUT F.
+           READ F. DISPLAY R.
+           STOP RUN.
+";

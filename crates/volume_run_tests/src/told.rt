@@ -5,11 +5,12 @@ use station::MemoryStation;
 use std::alloc::{AllocError, Global};
 use std::process::Abort;
 
-fn push_bytes(to: &mut String, bytes: &[u8]) -> Result<(), AllocError> {
+/// The bytes without the spaces at their end.
+pub fn push_bytes(to: &mut String, bytes: &[u8]) -> Result<(), AllocError> {
     to.push_str(str::from_utf8(bytes).unwrap_or("?").trim_end())
 }
 
-fn push_number(to: &mut String, alloc: Global, number: u64) -> Result<(), AllocError> {
+pub fn push_number(to: &mut String, alloc: Global, number: u64) -> Result<(), AllocError> {
     to.push_str(format!(in alloc; "{number}")?.as_str())
 }
 
@@ -21,20 +22,33 @@ fn kind(organization: Organization) -> &'static str {
     }
 }
 
-fn is_before(row: &StoredRow, arrival: u64) -> bool {
-    match row.arrivals.first() {
+fn is_before(row: &StoredRow, key: usize, arrival: u64) -> bool {
+    match row.arrivals.get(key) {
         Some(other) => *other < arrival,
         None => false,
     }
 }
 
-/// How many rows came to have their value of the alternate key before that arrival.
-fn rank(rows: &[StoredRow], arrival: u64) -> u64 {
+/// How many rows came to have their value of an alternate key before that arrival.
+fn rank(rows: &[StoredRow], key: usize, arrival: u64) -> u64 {
     let mut count = 0u64;
     for row in rows {
-        count = count.saturating_add(u64::from(is_before(row, arrival)));
+        count = count.saturating_add(u64::from(is_before(row, key, arrival)));
     }
     count
+}
+
+fn push_ranks(
+    to: &mut String,
+    alloc: Global,
+    file: &StoredFile,
+    row: &StoredRow,
+) -> Result<(), AllocError> {
+    for (key, arrival) in row.arrivals.as_slice().iter().enumerate() {
+        to.push_str(" ")?;
+        push_number(to, alloc, rank(file.rows.as_slice(), key, *arrival))?;
+    }
+    Ok(())
 }
 
 fn push_row(
@@ -49,10 +63,7 @@ fn push_row(
         to.push_str(" ")?;
     }
     push_bytes(to, row.bytes.as_slice())?;
-    if let Some(arrival) = row.arrivals.first() {
-        to.push_str(" ")?;
-        push_number(to, alloc, rank(file.rows.as_slice(), *arrival))?;
-    }
+    push_ranks(to, alloc, file, row)?;
     to.push_str("]")
 }
 
@@ -64,7 +75,7 @@ fn push_rows(to: &mut String, alloc: Global, file: &StoredFile) -> Result<(), Al
 }
 
 /// Its name, its organization, the bytes of a record, and its rows in order, each in brackets and without spaces at its end: before a row of
-/// a relative file its number, and behind a row with an alternate key how many rows came to have their value of it before.
+/// a relative file its number, and behind a row for each alternate key how many rows came to have their value of it before.
 fn push_file(to: &mut String, alloc: Global, file: &StoredFile) -> Result<(), AllocError> {
     push_bytes(to, file.spec.name.as_slice())?;
     to.push_str(kind(file.spec.organization))?;
@@ -78,6 +89,9 @@ fn push_file(to: &mut String, alloc: Global, file: &StoredFile) -> Result<(), Al
 fn told(alloc: Global, files: &[StoredFile]) -> Result<String, AllocError> {
     let mut text = String::new(alloc);
     for file in files {
+        if !text.is_empty() {
+            text.push_str("; ")?;
+        }
         push_file(&mut text, alloc, file)?;
     }
     Ok(text)
