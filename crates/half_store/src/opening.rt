@@ -241,6 +241,7 @@ pub fn recover<D: Device>(alloc: Global, device: &mut D) -> Result<Vec<StoredFil
     ensures only { OnlyWrites D.Device (result ≡ Err StoreFault.Device) device.old device.new }
     ensures moments { D.is_honest device.old → Through (D.history device.old) (D.history device.new) (D.state device.new) (Opening (D.state device.old)) }
     ensures state { D.is_honest device.old → OnOk result (D.state device.new ≡ synced (D.state device.old)) }
+    ensures unwritten { D.is_honest device.old → OnErr result ((D.state device.new ≡ D.state device.old) ⊎ (D.state device.new ≡ synced (D.state device.old))) }
     ensures holds { D.is_honest device.old → IfOk result (λ files. Holds (D.state device.old).disk.present (files_of files.items)) }
     ensures refused { D.is_honest device.old → IfErr result (λ fault. Refused (D.state device.old).disk.present fault) }
     ensures opens { D.is_honest device.old → (files : Files) → Holds (D.state device.old).disk.present files → IfErr result IsReadCause }
