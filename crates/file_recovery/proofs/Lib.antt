@@ -10,3 +10,15 @@ pub mod Strays
 pub mod Marking
 pub mod OneKept
 pub mod Indexes
+pub mod Ascents
+pub mod Headings
+pub mod Kepts
+pub mod NoFiles
+pub mod OneFound
+pub mod Listed
+pub mod Covering
+pub mod Foreign
+pub mod ReadTrees
+pub mod Reopened
+pub mod TwoStores
+pub mod OneFiles

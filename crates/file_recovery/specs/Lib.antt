@@ -5,3 +5,7 @@ pub mod Faults
 pub mod Rows
 pub mod Covered
 pub mod Found
+pub mod Kept
+pub mod Recovered
+pub mod Listed
+pub mod Laws

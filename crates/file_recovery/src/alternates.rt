@@ -15,9 +15,9 @@ ghost use Rattle.file_recovery.specs.Stored.{rows_of};
 
 use crate::fault::to_fault;
 use crate::pairs::check_index;
-use crate::stored::StoredRow;
 use btree::Tree;
 use file_trees::{alternate_root, tree_layout};
+use half_store::StoredRow;
 use pages::PageMap;
 use records::{FileSpec, KeyOfReference, StoreFault};
 use station::Device;
@@ -79,7 +79,7 @@ fn check_alternate<D: Device>(
 }
 
 /// Whether the trees of all alternate keys are exactly the pairs of the rows. Their pages are marked.
-pub fn check_alternates<D: Device>(
+pub(crate) fn check_alternates<D: Device>(
     alloc: Global,
     file: &FileSpec,
     value: &[u8],

@@ -28,7 +28,7 @@ fn is_stray(pages: &PageMap, seen: &[bool], page: u32) -> bool
 }
 
 /// Whether each page that is used is marked.
-pub fn are_covered(pages: &PageMap, seen: &[bool]) -> bool
+pub(crate) fn are_covered(pages: &PageMap, seen: &[bool]) -> bool
     requires open { IsOpen pages.now }
     requires unspent { is_spent pages.now ≡ false }
     requires count { length seen.now ≡ page_count pages.now }

@@ -1,23 +1,23 @@
-//! Reads the files of a volume of trees, whatever the volume holds.
+//! Reads the files of a volume, whatever the volume holds.
 //!
-//! Promise: what is answered is exactly what the trees hold, and `Damaged` tells that they hold nothing of the kind.
+//! Promise: what is answered is exactly what the volume holds, and `Damaged` tells that it holds nothing of the kind.
 #![tactic(auto)]
 
 mod alternates;
+mod catalog;
+mod checked_file;
 mod coverage;
 mod fault;
 mod heads;
+mod laws;
 mod listing;
 mod pairs;
 mod reading;
+mod recovering;
 mod row_bytes;
 mod rows;
-mod stored;
 mod walking;
 
-pub use alternates::check_alternates;
-pub use coverage::are_covered;
-pub use listing::read_listing;
-pub use pairs::check_index;
-pub use reading::read_rows;
-pub use stored::{StoredFile, StoredRow};
+pub use half_store::{StoredFile, StoredRow};
+pub use laws::one_list_of_files;
+pub use recovering::recover;

@@ -58,7 +58,11 @@ fn is_entry_of(alloc: Global, file: &FileSpec, key: &[u8], value: &[u8]) -> Resu
 }
 
 /// The file of an entry, exactly where it is the one spelling of a file's name and listing.
-pub fn read_listing(alloc: Global, key: &[u8], value: &[u8]) -> Result<Option<FileSpec>, StoreFault>
+pub(crate) fn read_listing(
+    alloc: Global,
+    key: &[u8],
+    value: &[u8],
+) -> Result<Option<FileSpec>, StoreFault>
     requires { length value.now ≡ 83 }
     ensures some { IfOk result (λ found. IfSome found (λ file. (key.now ≡ padded file.name.items) × (value.now ≡ spelled (listing_in (spec_of file) value.now)))) }
     ensures none { result ≡ Ok None → (name : List ℕ) (l : Listing) → is_name name ≡ true → IsListing l → key.now ≡ padded name → value.now ≡ spelled l → ⊥ }

@@ -15,9 +15,9 @@ ghost use Rattle.file_recovery.specs.Stored.{row_of, rows_of};
 
 use crate::listing::is_same;
 use crate::row_bytes::{pair_key, prime_value};
-use crate::stored::StoredRow;
 use crate::walking::{first_in, get_in, next_in};
 use btree::Tree;
+use half_store::StoredRow;
 use pages::PageMap;
 use records::{FileSpec, StoreFault};
 use station::Device;
@@ -113,7 +113,7 @@ fn check_count<D: Device>(
 }
 
 /// Whether the entries of the tree of an alternate key are exactly the pairs of the rows, which ascend under the prime key.
-pub fn check_index<D: Device>(
+pub(crate) fn check_index<D: Device>(
     alloc: Global,
     file: &FileSpec,
     key: u8,

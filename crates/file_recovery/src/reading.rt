@@ -14,9 +14,9 @@ ghost use Rattle.file_recovery.specs.Rows.{IsOwnFault, NoRow, NoRows, AddsRow};
 ghost use Rattle.file_recovery.specs.Stored.{rows_of};
 
 use crate::rows::read_row;
-use crate::stored::StoredRow;
 use crate::walking::{first_in, next_in};
 use btree::{Entry, Tree};
+use half_store::StoredRow;
 use pages::PageMap;
 use records::{FileSpec, StoreFault};
 use station::Device;
@@ -44,7 +44,7 @@ fn add_row(
 
 /// The rows of a file, from its tree of rows, whose entries are exactly theirs. `Damaged` tells that they are those of no rows of such
 /// a file. The rows are kept in memory.
-pub fn read_rows<D: Device>(
+pub(crate) fn read_rows<D: Device>(
     alloc: Global,
     file: &FileSpec,
     next_arrival: u64,

@@ -8,7 +8,7 @@ ghost use Rattle.records.specs.Stores.{spec_of, IsKey};
 ghost use Rattle.file_trees.specs.Trees.{key_under};
 ghost use Rattle.file_recovery.specs.Stored.{row_of};
 
-use crate::stored::StoredRow;
+use half_store::StoredRow;
 use records::{FileSpec, KeyOfReference, KeyPlace, Organization, StoreFault};
 use std::alloc::Global;
 

@@ -12,8 +12,8 @@ ghost use Rattle.file_recovery.specs.Read.{number_in, numbers_in, row_in};
 
 use crate::listing::is_same;
 use crate::row_bytes::{copy_of, row_key, row_value};
-use crate::stored::StoredRow;
 use byteorder::{BigEndian, ByteOrder};
+use half_store::StoredRow;
 use records::{FileSpec, Organization, StoreFault};
 use std::alloc::Global;
 

@@ -8,7 +8,7 @@ use Rattle.records.specs.declared.fault.StoreFault.TheVariants.{Device, Damaged}
 use Rattle.records.specs.Stores.{spec_of}
 use Rattle.file_recovery.specs.Rows.{HasPairs}
 use Rattle.file_recovery.specs.Stored.{row_of, rows_of}
-use Rattle.file_recovery.specs.declared.stored.StoredRow.{StoredRow}
+use Rattle.half_store.specs.declared.stored.StoredRow.{StoredRow}
 use Rattle.file_recovery.proofs.Calling.{looks_nowhere, looks_then, pages_kept}
 use Rattle.file_recovery.proofs.Placed.{no_pairs, one_more_pair, row_there, sized_at}
 use Rattle.file_recovery.proofs.pairs.check_pairs.Goals as goal

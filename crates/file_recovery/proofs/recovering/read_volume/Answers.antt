@@ -1,0 +1,56 @@
+use Rattle.std.proofs.Common.{◌≡◌, ◌≤◌, ◌^◌, false, Bool, List, Err, length, refl, sym, ap, subst, ◌∙◌, arith}
+use Rattle.std.proofs.lemmas.List.{length-replicate, with_items_is}
+use Rattle.std.specs.Vec.{with_items}
+use Rattle.pages.specs.Image.{Map}
+use Rattle.pages.specs.Pages.{map_now}
+use Rattle.records.specs.declared.fault.StoreFault.TheVariants.{Damaged}
+use Rattle.file_recovery.specs.Covered.{IsCovered}
+use Rattle.file_recovery.specs.Stored.{files_of}
+use Rattle.file_recovery.proofs.Covering.{NoneMarked}
+use Rattle.file_recovery.proofs.ReadTrees.{none_marked, catalog_is_held, none_is_held, stray_is_held}
+use Rattle.file_recovery.proofs.recovering.read_volume.Goals as goal
+
+pub returns-in_err-files-clause-damaged : goal.returns-in_err-files-clause-damaged
+returns-in_err-files-clause-damaged g c = λ honest agrees told files holds.
+    let image = (g.D.Device.state c.args.device.now).disk.present in
+    let m : Map = map_now c.args.pages.now image in
+    let from = rw told at c.from_residual-in_err-files.ensures.1 in
+    let fault : c.in_err-files.field-0.0 ≡ Damaged = sym from in
+    let refused : c.read_catalog.result ≡ Err Damaged = c.in_err-files.was ∙ ap Err fault in
+    let filled = c.in_ok-seen.ensures.items_if_clones_equal (λ y is. is) in
+    let old : List Bool = c.deref_mut.result.now in
+    let none : NoneMarked old = subst NoneMarked (sym (c.deref_mut.ensures.value ∙ filled)) (none_marked c.page_count.result) in
+    let many : length old ≡ length m.pages = ap (λ (l : List Bool). length l) (c.deref_mut.ensures.value ∙ filled) ∙ length-replicate c.page_count.result false ∙ c.page_count.ensures.count ∙ sym (c.page_count.ensures.pages image) in
+    none_is_held m m refl c.generation.result (c.generation.ensures.is image) old none many (c.read_catalog.ensures.damaged honest agrees refused) files holds
+
+pub returns-then-not-are_covered-clause-damaged : goal.returns-then-not-are_covered-clause-damaged
+returns-then-not-are_covered-clause-damaged g c = λ honest agrees told files holds.
+    let image = (g.D.Device.state c.args.device.now).disk.present in
+    let m : Map = map_now c.args.pages.now image in
+    let after : Map = map_now c.read_catalog.new.pages image in
+    let filled = c.in_ok-seen.ensures.items_if_clones_equal (λ y is. is) in
+    let old : List Bool = c.deref_mut.result.now in
+    let new : List Bool = c.read_catalog.new.seen in
+    let none : NoneMarked old = subst NoneMarked (sym (c.deref_mut.ensures.value ∙ filled)) (none_marked c.page_count.result) in
+    let few = c.page_count.ensures.few c.requires.open c.requires.unspent in
+    let counted = c.page_count.ensures.count in
+    let many = c.page_count.ensures.pages image in
+    let small : length m.pages ≤ 2 ^ 20 = omega (arith, few, counted, many) in
+    let kept : (with_items c.in_ok-seen.seen new).items ≡ new = with_items_is c.in_ok-seen.seen new (c.read_catalog.auto.seen ∙ c.deref_mut.ensures.len) in
+    let marked : c.deref.result.now ≡ new = c.deref.ensures.value ∙ kept in
+    stray_is_held m after (c.read_catalog.ensures.looks.unchanged.map image) c.generation.result (c.generation.ensures.is image) old none (files_of c.in_ok-files.files.items) new small (c.in_ok-files.ensures.files honest agrees)
+    (λ covered. c.are_covered.ensures.no c.if-not-are_covered.true image (subst (λ (l : List Bool). IsCovered after.pages l) (sym marked) covered)) files holds
+
+pub returns-clause-holds : goal.returns-clause-holds
+returns-clause-holds g c = λ honest agrees.
+    let image = (g.D.Device.state c.args.device.now).disk.present in
+    let m : Map = map_now c.args.pages.now image in
+    let after : Map = map_now c.read_catalog.new.pages image in
+    let filled = c.in_ok-seen.ensures.items_if_clones_equal (λ y is. is) in
+    let old : List Bool = c.deref_mut.result.now in
+    let new : List Bool = c.read_catalog.new.seen in
+    let none : NoneMarked old = subst NoneMarked (sym (c.deref_mut.ensures.value ∙ filled)) (none_marked c.page_count.result) in
+    let kept : (with_items c.in_ok-seen.seen new).items ≡ new = with_items_is c.in_ok-seen.seen new (c.read_catalog.auto.seen ∙ c.deref_mut.ensures.len) in
+    let marked : c.deref.result.now ≡ new = c.deref.ensures.value ∙ kept in
+    catalog_is_held m after (c.read_catalog.ensures.looks.unchanged.map image) c.generation.result (c.generation.ensures.is image) old none (files_of c.in_ok-files.files.items) new (c.in_ok-files.ensures.files honest agrees)
+    (subst (λ (l : List Bool). IsCovered after.pages l) marked (c.are_covered.ensures.yes c.if-not-are_covered.false image))

@@ -1,0 +1,71 @@
+//! A file with its trees, by its entry in the catalog.
+ghost use Rattle.std.specs.Prelude.{◌≡◌, ◌≤◌, ◌<◌, ◌^◌, true, false, Err, IfOk, IfErr};
+ghost use Rattle.pages.specs.Pages.{is_spent, sectors_of, IsOpen};
+ghost use Rattle.btree.specs.Calls.{OnPages};
+ghost use Rattle.btree.specs.Entries.{HasLengths};
+ghost use Rattle.file_trees.specs.Catalog.{catalog_layout};
+ghost use Rattle.file_recovery.specs.Calls.{LooksAt};
+ghost use Rattle.file_recovery.specs.Faults.{IsReadFault};
+ghost use Rattle.file_recovery.specs.Kept.{FindsFile, NoFile};
+ghost use Rattle.file_recovery.specs.Stored.{named_of};
+
+use crate::alternates::{check_alternates, check_pages};
+use crate::listing::read_listing;
+use crate::reading::read_rows;
+use btree::{Entry, Tree};
+use file_trees::{next_arrival, prime_root, tree_layout};
+use half_store::StoredFile;
+use pages::PageMap;
+use records::{KeyOfReference, StoreFault};
+use station::Device;
+use std::alloc::Global;
+
+/// Whether the next arrival of a file is one of a volume of this generation.
+fn is_next(next: u64, generation: u64) -> bool
+    ensures yes { result ≡ true → (1 ≤ next) × (next ≤ generation) }
+    ensures no { result ≡ false → 1 ≤ next → next ≤ generation → ⊥ }
+{
+    1 <= next && next <= generation
+}
+
+/// The file of an entry of the catalog, with its rows. The pages of its trees are marked. `Damaged` tells that there is no file with
+/// trees that can be marked of which the entry tells.
+pub(crate) fn check_file<D: Device>(
+    alloc: Global,
+    entry: &Entry,
+    generation: u64,
+    pages: &mut PageMap,
+    device: &mut D,
+    seen: &mut [bool],
+) -> Result<StoredFile, StoreFault>
+    requires open { IsOpen pages.old }
+    requires unspent { is_spent pages.old ≡ false }
+    requires sectors { sectors_of pages.old ≤ D.sectors device.old }
+    requires generation { generation < 2 ^ 63 }
+    requires lengths { HasLengths catalog_layout entry.now }
+    ensures looks { LooksAt D.Device (result ≡ Err StoreFault.Device) pages.old device.old pages.new device.new }
+    ensures file { OnPages D.Device pages.old device.old (λ before. IfOk result (λ file. FindsFile before generation entry.now (named_of file) seen.old seen.new)) }
+    ensures damaged { OnPages D.Device pages.old device.old (λ before. result ≡ Err StoreFault.Damaged → NoFile before generation entry.now seen.old) }
+    ensures cause { IfErr result IsReadFault }
+{
+    // How many page numbers there are is needed below.
+    let _page_count = pages.page_count();
+    let value = entry.value();
+    let Some(file) = read_listing(alloc, entry.key(), value)? else {
+        return Err(StoreFault::Damaged);
+    };
+    let next = next_arrival(value);
+    if !is_next(next, generation) {
+        return Err(StoreFault::Damaged);
+    }
+    let layout = tree_layout(&file, KeyOfReference::Prime);
+    let tree = Tree::new(alloc, layout, prime_root(value));
+    check_pages(alloc, &tree, pages, device, seen)?;
+    let rows = read_rows(alloc, &file, next, &tree, pages, device)?;
+    check_alternates(alloc, &file, value, &rows, pages, device, seen)?;
+    Ok(StoredFile {
+        spec: file,
+        rows,
+        next_arrival: next,
+    })
+}
