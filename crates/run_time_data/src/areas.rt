@@ -60,6 +60,7 @@ impl Areas {
     }
 
     /// The bytes of an item that stands at an offset.
+    #[inline]
     pub fn bytes(&self, one: &DataItem, offset: usize) -> &[u8]
         requires { StandsAt one.now self.now offset }
         ensures value { result.now ≡ part_of self.now (item_place one.now offset) }
@@ -70,6 +71,7 @@ impl Areas {
     }
 
     /// Moves a sender to an item that stands at an offset. Where a number is wanted of bytes that hold none, nothing changes.
+    #[inline]
     pub fn receive(
         &mut self,
         one: &DataItem,

@@ -44,6 +44,7 @@ impl Buffer {
     }
 
     /// The bytes in it.
+    #[inline]
     pub fn bytes(&self) -> &[u8]
         ensures { result.now ≡ self.now.bytes }
     {
@@ -51,6 +52,7 @@ impl Buffer {
     }
 
     /// With nothing in it.
+    #[inline]
     pub fn clear(&mut self)
         ensures { self.new ≡ record { room = self.old.room; bytes = [] } }
     {
@@ -58,6 +60,7 @@ impl Buffer {
     }
 
     /// Adds bytes at the end.
+    #[inline]
     pub fn append(&mut self, bytes: &[u8])
         requires { length self.old.bytes + length bytes.now ≤ self.old.room }
         ensures { self.new ≡ record { room = self.old.room; bytes = self.old.bytes ++ bytes.now } }

@@ -16,7 +16,7 @@ use decimal18::Dec;
 use source_tree::Operator;
 
 /// What an operator makes of two numbers, if both are numbers and there is no size error.
-#[inline]
+#[inline(always)]
 pub fn operate(operator: Operator, left: Option<Dec>, right: Option<Dec>) -> Option<Dec>
     ensures { result ≡ computed.operate operator left right }
 {

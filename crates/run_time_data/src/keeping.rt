@@ -38,7 +38,7 @@ fn rounding(rounded: bool) -> Rounding
 
 /// What a receiver of so many digits, scale of them decimals, keeps of a number. After a size error it is left alone where
 /// it is kept or there is no number, and else takes the low digits.
-#[inline]
+#[inline(always)]
 fn kept_of(number: Option<Dec>, digits: u8, scale: u8, rounded: bool, keep: bool) -> Kept
     requires digits { digits ≤ 18 }
     requires decimals { scale ≤ digits }

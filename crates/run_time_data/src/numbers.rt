@@ -15,7 +15,7 @@ use decimal18::Dec;
 use items::{Kind, number};
 
 /// The number in an item's bytes, if they hold one.
-#[inline]
+#[inline(always)]
 pub fn number_in(kind: Kind, bytes: &[u8]) -> Option<Dec>
     requires { IsOfLength kind (length bytes.now) }
     ensures { result ≡ number_in kind bytes.now }

@@ -26,6 +26,7 @@ impl Sender {
     }
 
     /// Keeps an operand with its bytes in place of the one before.
+    #[inline]
     pub fn keep(&mut self, taken: Taken, bytes: &[u8])
         requires room { length bytes.now ≤ self.old.bytes.room }
         ensures { self.new ≡ record { taken = Some taken; bytes = record { room = self.old.bytes.room; bytes = bytes.now } } }
@@ -36,6 +37,7 @@ impl Sender {
     }
 
     /// What was taken, where something was.
+    #[inline]
     pub fn operand(&self) -> Taken
         requires { HasTaken (sender_of self.now) }
         ensures value { sender_of self.now ≡ Some (record { taken = result; bytes = self.now.bytes.bytes }) }

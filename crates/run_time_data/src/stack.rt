@@ -35,6 +35,7 @@ impl<T: Copy> Stack<T> {
         Ok(Stack { room, used: 0 })
     }
 
+    #[inline]
     pub fn push(&mut self, item: T)
         requires { length self.old.newest_first < self.old.room }
         ensures { self.new ≡ record { room = self.old.room; newest_first = item ∷ self.old.newest_first } }
@@ -43,6 +44,7 @@ impl<T: Copy> Stack<T> {
         self.used += 1;
     }
 
+    #[inline]
     pub fn pop(&mut self) -> T
         requires { 0 < length self.old.newest_first }
         ensures newest { self.old.newest_first ≡ result ∷ self.new.newest_first }
