@@ -1,6 +1,7 @@
 //! The volume of a row: made new, and told in words.
 
-use half_store::{StoredFile, StoredRow, format, recover};
+use alternate_keys::format;
+use file_recovery::{StoredFile, StoredRow, recover};
 use records::Organization;
 use station::{Device, MemoryStation, Note};
 use std::alloc::{AllocError, Global};

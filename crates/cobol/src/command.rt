@@ -4,7 +4,7 @@ use crate::host_station::HostStation;
 use crate::source_file::read_source;
 use crate::verdict::Verdict;
 use crate::words::{Request, read_words};
-use half_store::format;
+use alternate_keys::format;
 use run_unit::{compile, run_image};
 use std::alloc::Global;
 use std::convert::AsStr;

@@ -63,7 +63,7 @@ module _ (here below : List Sector → Files → Type 0) (under : (image : List 
   so_far_below seen rest image (inl held) = inl (under image (files_at run (note_count seen)) held)
   so_far_below seen rest image (inr held) = inr (under image (files_at run (note_count seen + 1)) held.0, held.1)
 
-  moment_below : (now : State) → Moment here run old now → Moment below run old now
+  pub moment_below : (now : State) → Moment here run old now → Moment below run old now
   moment_below now moment = record {
     told = moment.told;
     files = λ image crash. so_far_below moment.told.seen moment.told.rest image (moment.files image crash);
@@ -71,7 +71,7 @@ module _ (here below : List Sector → Files → Type 0) (under : (image : List 
     disk = moment.disk;
   }
 
-  finished_below : (how : End) (now : State) → Finished here run how old now → Finished below run how old now
+  pub finished_below : (how : End) (now : State) → Finished here run how old now → Finished below run how old now
   finished_below how now is = record {
     end = is.end;
     told = is.told;

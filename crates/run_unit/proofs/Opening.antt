@@ -1,9 +1,10 @@
 -- A volume that is opened, and a run over its files.
-use Rattle.std.proofs.Common.{◌≡◌, ℕ, List, sym, subst, ap, inl, inr}
+use Rattle.std.proofs.Common.{◌≡◌, ◌∙◌, ◌⊎◌, ℕ, List, sym, subst, ap, inl, inr}
 use Rattle.station.specs.Disk.{Sector}
 use Rattle.station.specs.State.{State, synced}
 use Rattle.station.specs.History.{Through}
 use Rattle.station.specs.Opening.{Opening}
+use Rattle.station.proofs.Spans.{goes, weakens, then, weaker}
 use Rattle.records.specs.Files.{Files}
 use Rattle.records.specs.declared.fault.StoreFault.{StoreFault}
 use Rattle.records.specs.declared.fault.StoreFault.TheVariants as store
@@ -11,10 +12,14 @@ use Rattle.source_tree.specs.Given.{given_over}
 use Rattle.source_tree.specs.Meaning.{Run}
 use Rattle.half_store.specs.Opened.{IsReadCause}
 use Rattle.run_unit.specs.Ends.{of_opening}
-use Rattle.run_unit.specs.Volume.{RunsOver, RunsOnVolume, Opened}
-use Rattle.run_unit.specs.declared.ended.Refusal.TheVariants.{Damaged}
+use Rattle.source_tree.specs.State as end
+use Rattle.data_instructions.specs.Faults.{fault_of}
+use Rattle.machine.specs.Prefix.{Moment}
+use Rattle.run_unit.specs.Volume.{EndsOver, RunsOver, RunsOnVolume, Unopened, Opened}
+use Rattle.run_unit.specs.declared.ended.Refusal.TheVariants.{Image, Device, Full, Damaged, Memory}
 use Rattle.run_unit.specs.declared.ended.Ended.{Ended}
-use Rattle.run_unit.specs.declared.ended.Ended.TheVariants.{Refused}
+use Rattle.run_unit.specs.declared.ended.Ended.TheVariants.{Stopped, Budget, Faulted, Refused}
+use Rattle.run_unit.proofs.Moments.{moment_below, finished_below}
 
 -- where only the device and memory refuse a read, no damage is told
 pub read_cause : (fault : StoreFault) → IsReadCause fault → Refused (of_opening fault) ≡ Refused Damaged → ⊥
@@ -35,8 +40,65 @@ unfolding given_over
 given_after files old mid day budget is = sym (ap (λ (s : State). given_over files s day budget) is)
 
 -- the run over what was opened
-pub ran_on : (holds : List Sector → Files → Type 0) (run : Files → Run) (past opened later : List State) (old mid new : State) (ended : Ended) (files : Files)
-    → holds old.disk.present files → Through past opened mid (Opening old) → mid ≡ synced old → RunsOver holds (run files) opened mid ended later new
+pub ran_on : (holds : List Sector → Files → Type 0) (run : Run) (past opened later : List State) (old mid new : State) (ended : Ended)
+    → Through past opened mid (Opening old) → mid ≡ synced old → RunsOver holds run opened mid ended later new
     → RunsOnVolume holds run past old ended later new
-ran_on holds run past opened later old mid new ended files held opening is runs =
-    Opened files opened held opening.spans (subst (λ (s : State). RunsOver holds (run files) opened s ended later new) is runs)
+ran_on holds run past opened later old mid new ended opening is runs =
+    Opened opened opening.spans (subst (λ (s : State). RunsOver holds run opened s ended later new) is runs)
+
+-- ---- a volume that another store has looked at
+
+synced_after : (old mid : State) → (mid ≡ old) ⊎ (mid ≡ synced old) → synced mid ≡ synced old
+synced_after old mid (inl is) = ap synced is
+synced_after old mid (inr is) = ap synced is
+
+-- it holds what it held, and a run is given the same
+pub present_after : (old mid : State) → (mid ≡ old) ⊎ (mid ≡ synced old) → mid.disk.present ≡ old.disk.present
+present_after old mid (inl is) = ap (λ (s : State). s.disk.present) is
+present_after old mid (inr is) = ap (λ (s : State). s.disk.present) is
+
+pub given_later : (files : Files) (old mid : State) (day : List ℕ) (budget : ℕ) → (mid ≡ old) ⊎ (mid ≡ synced old) → given_over files old day budget ≡ given_over files mid day budget
+given_later files old mid day budget (inl is) = sym (ap (λ (s : State). given_over files s day budget) is)
+given_later files old mid day budget (inr is) = given_after files old mid day budget is
+
+opening_then : (old mid : State) → Opening old mid → (s : State) → Opening mid s → Opening old s
+opening_then old mid first s second = record { events = second.events ∙ first.events; images = λ image crash. first.images image (second.images image crash) }
+
+pub on_volume_then : (holds : List Sector → Files → Type 0) (run : Run) (past looked later : List State) (old mid new : State) (ended : Ended)
+    → Through past looked mid (Opening old) → (mid ≡ old) ⊎ (mid ≡ synced old) → RunsOnVolume holds run looked mid ended later new
+    → RunsOnVolume holds run past old ended later new
+on_volume_then holds run past looked later old mid new ended first is (Unopened why through) =
+    Unopened why (goes past looked later mid new (Opening old) first (weakens looked later new (Opening mid) (Opening old) (opening_then old mid first.now) through))
+on_volume_then holds run past looked later old mid new ended first is (Opened opened spans runs) =
+    Opened opened (then past looked opened (Opening old) first.spans (weaker looked opened (Opening mid) (Opening old) (opening_then old mid first.now) spans))
+    (subst (λ (s : State). RunsOver holds run opened s ended later new) (synced_after old mid is) runs)
+
+-- ---- where what an image holds by one store, it holds by either
+
+module _ (here either : List Sector → Files → Type 0) (also : (image : List Sector) (files : Files) → here image files → either image files)
+    (run : Run) where
+  ends_either : (old : State) (ended : Ended) (now : State) → EndsOver here run old ended now → EndsOver either run old ended now
+  ends_either old Stopped now ends = finished_below here either also run old end.Stopped now ends
+  ends_either old Budget now ends = finished_below here either also run old end.Budget now ends
+  ends_either old (Faulted fault line) now ends = finished_below here either also run old (end.Faulted (fault_of fault) line) now ends
+  ends_either old (Refused (Image fault)) now ends = ends
+  ends_either old (Refused Device) now ends = ends
+  ends_either old (Refused Full) now ends = ends
+  ends_either old (Refused Damaged) now ends = ends
+  ends_either old (Refused Memory) now ends = ends
+
+  over_either : (past : List State) (old : State) (ended : Ended) (later : List State) (new : State) → RunsOver here run past old ended later new → RunsOver either run past old ended later new
+  over_either past old ended later new runs = record {
+    first = moment_below here either also run old old runs.first;
+    moments = weakens past later new (Moment here run old) (Moment either run old) (moment_below here either also run old) runs.moments;
+    ends = ends_either old ended new runs.ends;
+  }
+
+  pub on_either : (past : List State) (old : State) (ended : Ended) (later : List State) (new : State) → RunsOnVolume here run past old ended later new → RunsOnVolume either run past old ended later new
+  on_either past old ended later new (Unopened why through) = Unopened why through
+  on_either past old ended later new (Opened opened spans runs) = Opened opened spans (over_either opened (synced old) ended later new runs)
+
+-- where only the device and memory refuse, the other store's layout isn't told
+pub no_layout : IsReadCause store.Layout → ⊥
+no_layout (inl is) = cc
+no_layout (inr is) = cc

@@ -40,7 +40,7 @@ refusal_of refused.Full = Full
 refusal_of refused.Damaged = Damaged
 refusal_of refused.Memory = Memory
 
--- Why a volume isn't opened. One with the other layout counts as damaged, for there is no store for it yet.
+-- Why a volume isn't opened. One that each store takes for the other's counts as damaged.
 abbrev pub of_opening : StoreFault → Refusal
 of_opening store.Device = Device
 of_opening store.Memory = Memory

@@ -39,10 +39,8 @@ pub record RunsOver (holds : List Sector → Files → Type 0) (run : Run) (past
   pub moments : Through past later new (Moment holds run old)
   pub ends : EndsOver holds run old ended new
 
--- A call that opens a volume and runs. Until the volume is opened nothing is told, and whatever a crash leaves was possible before the
--- call; and so it is where it isn't opened. Else the volume held files, and from its opening on each moment is one of the run that the
--- program has with these files.
-pub data RunsOnVolume (holds : List Sector → Files → Type 0) (run : Files → Run) (past : List State) (old : State) (ended : Ended) (later : List State) (new : State) : Type 0 where
+-- A call that opens a volume which holds files, and does a run over them. Until the volume is opened nothing is told, and whatever a crash
+-- leaves was possible before the call; and so it is where it isn't opened. Else each moment from its opening on is one of the run.
+pub data RunsOnVolume (holds : List Sector → Files → Type 0) (run : Run) (past : List State) (old : State) (ended : Ended) (later : List State) (new : State) : Type 0 where
   Unopened : IsUnopened ended → Through past later new (Opening old) → RunsOnVolume holds run past old ended later new
-  Opened : (files : Files) (opened : List State) → holds old.disk.present files → Spans past opened (Opening old)
-      → RunsOver holds (run files) opened (synced old) ended later new → RunsOnVolume holds run past old ended later new
+  Opened : (opened : List State) → Spans past opened (Opening old) → RunsOver holds run opened (synced old) ended later new → RunsOnVolume holds run past old ended later new

@@ -57,7 +57,7 @@ impl Refusal {
         }
     }
 
-    /// Why a volume isn't opened. One with the other layout counts as damaged, for there is no store for it yet.
+    /// Why a volume isn't opened. One that each store takes for the other's counts as damaged.
     pub(crate) fn of_opening(fault: StoreFault) -> Refusal
         ensures { result ≡ of_opening fault }
     {

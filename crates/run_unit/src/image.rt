@@ -1,7 +1,7 @@
 //! Running an image.
 
 ghost use Rattle.std.specs.Prelude.{◌≡◌, ◌≢◌, ◌↔◌, [], All, IfOk, IfErr};
-ghost use Rattle.half_store.specs.Half.{Holds};
+ghost use Rattle.file_recovery.specs.Recovered.{HoldsFiles};
 ghost use Rattle.records.specs.Files.{Files};
 ghost use Rattle.source_tree.specs.Given.{given_on, given_over};
 ghost use Rattle.source_tree.specs.Meaning.{Run};
@@ -55,14 +55,15 @@ pub fn run_image<S: Station>(
     ensures alone { S.is_honest station.old → (code : Code) → IsImageOf image.now code → code.files ≡ [] →
         (run : Run) → Runs code (given_on (S.state station.old) day budget) run →
         RunsAlone run (S.history station.old) (S.state station.old) result (S.history station.new) (S.state station.new) }
-    // An image with files: from the opening of the volume on, at each moment a beginning of its run was told, and whatever a crash leaves
-    // holds the files after the statuses that were received, or after one more, which is in progress. At the end all of it was told, and
-    // the files are the last.
+    // An image with files, over a volume that holds files: from its opening on, at each moment a beginning of the run with these files was
+    // told, and whatever a crash leaves holds the files after the statuses that were received, or after one more, which is in progress. At
+    // the end all of it was told, and the files are the last.
     ensures volume { S.is_honest station.old → (code : Code) → IsImageOf image.now code → code.files ≢ [] →
-        (run : Files → Run) → ((files : Files) → Runs code (given_over files (S.state station.old) day budget) (run files)) →
-        RunsOnVolume Holds run (S.history station.old) (S.state station.old) result (S.history station.new) (S.state station.new) }
+        (files : Files) → HoldsFiles (S.state station.old).disk.present files →
+        (run : Run) → Runs code (given_over files (S.state station.old) day budget) run →
+        RunsOnVolume HoldsFiles run (S.history station.old) (S.state station.old) result (S.history station.new) (S.state station.new) }
     // A volume that holds files isn't told to be damaged.
-    ensures sound { S.is_honest station.old → (files : Files) → Holds (S.state station.old).disk.present files → result ≢ Ended.Refused Refusal.Damaged }
+    ensures sound { S.is_honest station.old → (files : Files) → HoldsFiles (S.state station.old).disk.present files → result ≢ Ended.Refused Refusal.Damaged }
 {
     match load(alloc, image) {
         Ok(code) => {

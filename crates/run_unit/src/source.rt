@@ -1,7 +1,7 @@
 //! Compiling and running in one call.
 
 ghost use Rattle.std.specs.Prelude.{◌≡◌, ◌≢◌, ◌↔◌, [], All, Ok, OnErr, IfOk, IfErr};
-ghost use Rattle.half_store.specs.Half.{Holds};
+ghost use Rattle.file_recovery.specs.Recovered.{HoldsFiles};
 ghost use Rattle.records.specs.Files.{Files};
 ghost use Rattle.source_tree.specs.declared.program.Program.{Program};
 ghost use Rattle.source_tree.specs.Given.{given_on, given_over};
@@ -48,13 +48,14 @@ pub fn run_source<S: Station>(
     // were taken, and nothing else was done. At the end all of it was, and the end is the meaning's.
     ensures alone { S.is_honest station.old → (tree : Program) → IsTreeOf source.now tree → tree.selects ≡ [] →
         IfOk result (λ ended. RunsAlone (meaning tree (given_on (S.state station.old) day budget)) (S.history station.old) (S.state station.old) ended (S.history station.new) (S.state station.new)) }
-    // A program with files: from the opening of the volume on, at each moment a beginning of what the tree means was told, and whatever a
-    // crash leaves holds the files that it means after the statuses that were received, or after one more, which is in progress. At the
-    // end all of it was told, and the files are the last.
+    // A program with files, over a volume that holds files: from its opening on, at each moment a beginning of what the tree means with
+    // these files was told, and whatever a crash leaves holds the files that it means after the statuses that were received, or after one
+    // more, which is in progress. At the end all of it was told, and the files are the last.
     ensures volume { S.is_honest station.old → (tree : Program) → IsTreeOf source.now tree → tree.selects ≢ [] →
-        IfOk result (λ ended. RunsOnVolume Holds (λ files. meaning tree (given_over files (S.state station.old) day budget)) (S.history station.old) (S.state station.old) ended (S.history station.new) (S.state station.new)) }
+        (files : Files) → HoldsFiles (S.state station.old).disk.present files →
+        IfOk result (λ ended. RunsOnVolume HoldsFiles (meaning tree (given_over files (S.state station.old) day budget)) (S.history station.old) (S.state station.old) ended (S.history station.new) (S.state station.new)) }
     // A volume that holds files isn't told to be damaged.
-    ensures sound { S.is_honest station.old → (files : Files) → Holds (S.state station.old).disk.present files → IfOk result (λ ended. ended ≢ Ended.Refused Refusal.Damaged) }
+    ensures sound { S.is_honest station.old → (files : Files) → HoldsFiles (S.state station.old).disk.present files → IfOk result (λ ended. ended ≢ Ended.Refused Refusal.Damaged) }
 {
     spelling_law();
     let image = compile(alloc, source)?;

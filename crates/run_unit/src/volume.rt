@@ -1,7 +1,8 @@
 //! Runs over a volume, and runs that leave it alone.
 
 ghost use Rattle.std.specs.Prelude.{◌≡◌, ◌≢◌, ◌↔◌, [], All};
-ghost use Rattle.half_store.specs.Half.{Holds};
+ghost use Rattle.half_store.specs.Half.{Holds as HoldsHalf};
+ghost use Rattle.file_recovery.specs.Recovered.{HoldsFiles};
 ghost use Rattle.records.specs.Files.{Files};
 ghost use Rattle.source_tree.specs.Given.{given_on, given_over};
 ghost use Rattle.source_tree.specs.Meaning.{Run};
@@ -14,11 +15,16 @@ ghost use Rattle.run_unit.specs.Volume.{RunsOnVolume};
 use crate::ended::{Ended, Refusal};
 use crate::no_volume::NoVolume;
 use crate::over::{connect, run_over};
+use alternate_keys::PagedStore;
 use code_image::{Verified, run_law};
-use half_store::HalfStore;
+use half_store::{HalfStore, one_list_of_files};
 use machine::Machine;
+use records::StoreFault;
 use station::Station;
 use std::alloc::Global;
+
+/// How many pages of a volume are kept in memory, besides those that a change takes.
+const CACHED_PAGES: usize = 1024;
 
 /// Runs code without files. No sector is written.
 pub(crate) fn run_alone<S: Station>(
@@ -49,7 +55,32 @@ pub(crate) fn run_alone<S: Station>(
     Ended::of(machine.run(station, &mut connectors, budget))
 }
 
-/// Opens the volume and runs code over its files.
+/// Opens a volume of halves and runs code over its files.
+fn run_on_halves<S: Station>(
+    alloc: Global,
+    code: Verified,
+    station: &mut S,
+    day: [u8; 6],
+    budget: u64,
+) -> Ended
+    requires day { All IsDigit day }
+    ensures sectors { S.sectors station.new ≡ S.sectors station.old }
+    ensures honest { S.is_honest station.old ↔ S.is_honest station.new }
+    ensures cause { HasCause result (S.failures station.old) (S.failures station.new) }
+    ensures run { IsRun result }
+    ensures volume { S.is_honest station.old → (files : Files) → HoldsHalf (S.state station.old).disk.present files →
+        (run : Run) → Runs code (given_over files (S.state station.old) day budget) run →
+        RunsOnVolume HoldsHalf run (S.history station.old) (S.state station.old) result (S.history station.new) (S.state station.new) }
+    ensures sound { S.is_honest station.old → (files : Files) → HoldsHalf (S.state station.old).disk.present files → result ≢ Ended.Refused Refusal.Damaged }
+{
+    one_list_of_files();
+    match HalfStore::open(alloc, station) {
+        Ok(store) => run_over(alloc, code, station, store, day, budget),
+        Err(fault) => Ended::Refused(Refusal::of_opening(fault)),
+    }
+}
+
+/// Opens the volume, of whichever store its newest root is, and runs code over its files.
 pub(crate) fn run_on_volume<S: Station>(
     alloc: Global,
     code: Verified,
@@ -62,12 +93,16 @@ pub(crate) fn run_on_volume<S: Station>(
     ensures honest { S.is_honest station.old ↔ S.is_honest station.new }
     ensures cause { HasCause result (S.failures station.old) (S.failures station.new) }
     ensures run { IsRun result }
-    ensures volume { S.is_honest station.old → (run : Files → Run) → ((files : Files) → Runs code (given_over files (S.state station.old) day budget) (run files)) →
-        RunsOnVolume Holds run (S.history station.old) (S.state station.old) result (S.history station.new) (S.state station.new) }
-    ensures sound { S.is_honest station.old → (files : Files) → Holds (S.state station.old).disk.present files → result ≢ Ended.Refused Refusal.Damaged }
+    ensures volume { S.is_honest station.old → (files : Files) → HoldsFiles (S.state station.old).disk.present files →
+        (run : Run) → Runs code (given_over files (S.state station.old) day budget) run →
+        RunsOnVolume HoldsFiles run (S.history station.old) (S.state station.old) result (S.history station.new) (S.state station.new) }
+    ensures sound { S.is_honest station.old → (files : Files) → HoldsFiles (S.state station.old).disk.present files → result ≢ Ended.Refused Refusal.Damaged }
 {
-    match HalfStore::open(alloc, station) {
+    match PagedStore::open(alloc, station, CACHED_PAGES) {
         Ok(store) => run_over(alloc, code, station, store, day, budget),
-        Err(fault) => Ended::Refused(Refusal::of_opening(fault)),
+        Err(fault) => match fault {
+            StoreFault::Layout => run_on_halves(alloc, code, station, day, budget),
+            other => Ended::Refused(Refusal::of_opening(other)),
+        },
     }
 }

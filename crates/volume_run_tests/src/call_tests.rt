@@ -20,9 +20,13 @@ enum Call {
     Note,
 }
 
-/// The calls of TALKS in turn, where the volume holds the file of THREE_WRITES: it is opened by a sync, a read of each root and of the
-/// sector in use; WRITE writes a sector and a root, each before a sync; each file statement ends by a note.
-const CALLS: [Call; 17] = [
+/// The calls of TALKS in turn, where the volume holds the file of THREE_WRITES: the store over trees looks at it by a sync and a read of each
+/// root, and it is opened by a sync, a read of each root and of the sector in use; WRITE writes a sector and a root, each before a sync;
+/// each file statement ends by a note.
+const CALLS: [Call; 20] = [
+    Call::Sync,
+    Call::Read,
+    Call::Read,
     Call::Sync,
     Call::Read,
     Call::Read,
@@ -43,9 +47,9 @@ const CALLS: [Call; 17] = [
 ];
 
 /// The calls that write and sync the root of the WRITE.
-const ROOT_WRITTEN: usize = 10;
+const ROOT_WRITTEN: usize = 13;
 
-const ROOT_SYNCED: usize = 11;
+const ROOT_SYNCED: usize = 14;
 
 /// What has been shown after so many calls of `show`.
 const SHOWN: [&str; 4] = ["", "READY\n", "READY\n00\n", "READY\n00\nONE \n"];

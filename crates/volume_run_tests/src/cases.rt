@@ -14,8 +14,8 @@ pub struct Case {
     pub shown: &'static [u8],
     /// Which of the values of the sectors that a change writes at once a crash leaves.
     pub choices: &'static [[u32; 2]],
-    /// How many calls on the station it makes: to open the volume a sync, a read of each root and of each sector of the half in use; a
-    /// status is a note; before it a change is a write of each sector of the other half, a sync, a write of a root and a sync.
+    /// How many calls on the station it makes: to open the volume a sync and a read of each root by the store over trees, which finds the
+    /// other store's mark, and then a sync, a read of each root and of each sector of the half in use; a status is a note; before it a change is a write of each sector of the other half, a sync, a write of a root and a sync.
     pub calls: u64,
 }
 
@@ -51,7 +51,7 @@ pub const WRITING: Case = Case {
     shown: b"",
     choices: &ONE_SECTOR,
     // an empty volume is opened; four changes of one sector; CLOSE
-    calls: 3 + 4 * 5 + 1,
+    calls: 6 + 4 * 5 + 1,
 };
 
 /// OPEN, three lines and WRITEs, two REWRITEs, START, five READs and what they show, DELETE and CLOSE.
@@ -80,7 +80,7 @@ pub const EQUALS: Case = Case {
     shown: b"022\n023\n001\n101\n461\n",
     choices: &ONE_SECTOR,
     // seven changes of one sector, three lines, five texts, and seven statuses without a change
-    calls: 3 + 7 * 5 + 3 + 5 + 7,
+    calls: 6 + 7 * 5 + 3 + 5 + 7,
 };
 
 /// OPEN, WRITE, READ and what it shows, a WRITE and a READ without a number, WRITE, REWRITE, DELETE and CLOSE.
@@ -103,7 +103,7 @@ pub const PLACING: Case = Case {
     shown: b"0005\n",
     choices: &ONE_SECTOR,
     // five changes of one sector, a text, and four statuses without a change
-    calls: 3 + 5 * 5 + 1 + 4,
+    calls: 6 + 5 * 5 + 1 + 4,
 };
 
 /// OPEN, READ, REWRITE, CLOSE, OPEN, WRITE and CLOSE, where the files fill two sectors.
@@ -124,5 +124,5 @@ pub const CHANGING: Case = Case {
     shown: b"",
     choices: &TWO_SECTORS,
     // a volume of two sectors is opened, two changes of two, and five statuses without a change
-    calls: 5 + 2 * 6 + 5,
+    calls: 8 + 2 * 6 + 5,
 };

@@ -1,11 +1,12 @@
 //! Drawn programs, each of them run to its end, and once more on a new volume, stopped at a drawn call: what recovery finds then is what
-//! the model has after as many file statements as statuses were received, or after one more.
+//! the model has after as many file statements as statuses were received, or after one more. Programs of even seeds run over volumes of
+//! halves, those of odd ones over volumes of trees.
 use crate::asserted::same_in;
 use crate::drawing::{Choice, Draw, SECTORS};
 use crate::drawn_program::Drawn;
 use crate::met::{Left, Met};
 use crate::told::files_left;
-use crate::volume::{new_volume, notes, run};
+use crate::volume::{Layout, new_volume_of, notes, run};
 use run_unit::{Ended, Refusal};
 use station::{MemoryStation, Note};
 use std::alloc::Global;
@@ -90,7 +91,7 @@ fn calls(rt: &impl Abort, station: &MemoryStation) -> u64 {
 // The run to its end receives all statuses, and leaves the last files. The answer is how many calls it makes.
 fn undisturbed(rt: &impl Abort, alloc: Global, drawn: &Drawn) -> u32 {
     let stop = Stop::none(drawn.seed);
-    let mut station = new_volume(rt, alloc, &[]);
+    let mut station = new_volume_of(rt, alloc, Layout::of_seed(drawn.seed), &[]);
     let before = calls(rt, &station);
     same_in(
         rt,
@@ -108,7 +109,7 @@ fn undisturbed(rt: &impl Abort, alloc: Global, drawn: &Drawn) -> u32 {
 
 // The run that is stopped.
 fn stopped(rt: &impl Abort, alloc: Global, stop: &Stop, drawn: &Drawn) -> Left {
-    let mut station = new_volume(rt, alloc, &[]);
+    let mut station = new_volume_of(rt, alloc, Layout::of_seed(drawn.seed), &[]);
     station.stop_at(u64::from(stop.call));
     let refused = Ended::Refused(Refusal::Device);
     same_in(rt, stop, run(alloc, &drawn.image, &mut station), refused);

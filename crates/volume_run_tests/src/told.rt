@@ -1,5 +1,5 @@
 //! What a volume holds, in words.
-use half_store::{StoredFile, StoredRow, recover};
+use file_recovery::{StoredFile, StoredRow, recover};
 use records::Organization;
 use station::MemoryStation;
 use std::alloc::{AllocError, Global};

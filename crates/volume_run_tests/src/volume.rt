@@ -1,6 +1,5 @@
-//! Volumes of halves on a station in memory, and runs over them.
+//! Volumes of either store on a station in memory, and runs over them.
 use crate::asserted::holds;
-use half_store::format;
 use run_unit::{Ended, compile, run_image};
 use station::{Device, MemoryStation, Note};
 use std::alloc::{AllocError, Global};
@@ -26,17 +25,47 @@ fn station_of_zeros(alloc: Global, lines: &[&[u8]]) -> Result<MemoryStation, All
     MemoryStation::new(alloc, sectors, console)
 }
 
-/// A new volume of 1,024 sectors, and a console with these lines.
-pub fn new_volume(rt: &impl Abort, alloc: Global, lines: &[&[u8]]) -> MemoryStation {
-    match station_of_zeros(alloc, lines) {
-        Ok(mut station) => {
-            assert!(rt; 1024 <= station.count());
-            assert!(rt; station.count() <= 921_600);
-            holds(rt, format(&mut station).is_ok());
-            station
+/// Which store a volume is made for.
+#[derive(Clone, Copy, Debug, PartialEq, Eq)]
+pub enum Layout {
+    Halves,
+    Trees,
+}
+
+impl Layout {
+    /// Each store for one half of the seeds.
+    pub fn of_seed(seed: u64) -> Layout {
+        if seed % 2 == 0 {
+            Layout::Halves
+        } else {
+            Layout::Trees
         }
-        Err(_) => panic!(rt; "no memory"),
     }
+}
+
+/// A new volume of 1,024 sectors, and a console with these lines.
+pub fn new_volume_of(
+    rt: &impl Abort,
+    alloc: Global,
+    layout: Layout,
+    lines: &[&[u8]],
+) -> MemoryStation {
+    let Ok(mut station) = station_of_zeros(alloc, lines) else {
+        panic!(rt; "no memory");
+    };
+    assert!(rt; 1024 <= station.count());
+    assert!(rt; station.count() <= 921_600);
+    let made = match layout {
+        Layout::Halves => half_store::format(&mut station),
+        Layout::Trees => alternate_keys::format(&mut station),
+    };
+    holds(rt, made.is_ok());
+    station
+}
+
+/// A new volume of halves: `cases` counts the calls of its store.
+pub fn new_volume(rt: &impl Abort, alloc: Global, lines: &[&[u8]]) -> MemoryStation {
+    new_volume_of(rt, alloc, Layout::Halves, lines)
 }
 
 /// The image of a source text.

@@ -10,7 +10,6 @@ returns-then-is_empty-clause-alone g c = λ honest code is none run runs.
     c.run_alone.ensures.alone honest run (subst (λ (code : Code). Runs code given run) (sym (c.in-Ok.ensures.only code is)) runs)
 
 pub returns-else-is_empty-clause-volume : goal.returns-else-is_empty-clause-volume
-returns-else-is_empty-clause-volume g c = λ honest code is some run runs.
-    c.run_on_volume.ensures.volume honest run (λ files.
+returns-else-is_empty-clause-volume g c = λ honest code is some files held run runs.
     let given = given_over files (g.S.Device.state c.args.station.now) c.args.day c.args.budget in
-    subst (λ (code : Code). Runs code given (run files)) (sym (c.in-Ok.ensures.only code is)) (runs files))
+    c.run_on_volume.ensures.volume honest files held run (subst (λ (code : Code). Runs code given run) (sym (c.in-Ok.ensures.only code is)) runs)

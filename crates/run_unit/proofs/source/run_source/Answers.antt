@@ -33,9 +33,8 @@ returns-clause-alone g c = λ honest tree is none.
     (none_too has.code.files tree.selects has.files none) (meaning tree given) (has.runs given)
 
 pub returns-clause-volume : goal.returns-clause-volume
-returns-clause-volume g c = λ honest tree is some.
+returns-clause-volume g c = λ honest tree is some files held.
     let has = c.in_ok-image.ensures.only tree is in
+    let given = given_over files (g.S.Device.state c.args.station.now) c.args.day c.args.budget in
     c.run_image.ensures.volume honest has.code (subst (λ bytes. IsImageOf bytes has.code) (sym c.as_slice.ensures.value) has.is)
-    (λ none. some (none_too tree.selects has.code.files (sym has.files) none))
-    (λ files. meaning tree (given_over files (g.S.Device.state c.args.station.now) c.args.day c.args.budget))
-    (λ files. has.runs (given_over files (g.S.Device.state c.args.station.now) c.args.day c.args.budget))
+    (λ none. some (none_too tree.selects has.code.files (sym has.files) none)) files held (meaning tree given) (has.runs given)

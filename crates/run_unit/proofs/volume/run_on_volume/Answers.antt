@@ -1,28 +1,75 @@
-use Rattle.std.proofs.Common.{◌∙◌, sym, subst, ap}
-use Rattle.half_store.specs.Half.{Holds}
-use Rattle.half_store.specs.Stored.{files_of}
+use Rattle.std.proofs.Common.{◌∙◌, ⊎_elim, List, sym, subst, ap, inl, inr}
+use Rattle.station.specs.Disk.{Sector}
+use Rattle.half_store.specs.Half.{Holds as HoldsHalf}
+use Rattle.file_trees.specs.Volume.{Holds as HoldsTrees}
+use Rattle.file_recovery.specs.Recovered.{HoldsFiles}
+use Rattle.file_recovery.proofs.Foreign.{half_is_foreign}
+use Rattle.file_recovery.proofs.TwoStores.{either_cause}
+use Rattle.half_store.specs.Opened.{IsReadCause}
 use Rattle.source_tree.specs.Given.{Given}
 use Rattle.code_image.specs.Table.{Runs}
 use Rattle.run_unit.specs.declared.ended.Ended.TheVariants.{Refused}
-use Rattle.run_unit.proofs.Opening.{read_cause, given_after, ran_on}
+use Rattle.run_unit.proofs.Opening.{read_cause, no_layout, given_after, given_later, present_after, ran_on, on_volume_then, on_either}
 use Rattle.run_unit.proofs.volume.run_on_volume.Goals as goal
 
 pub returns-in-Ok-clause-volume : goal.returns-in-Ok-clause-volume
-returns-in-Ok-clause-volume g c = λ honest run runs.
+returns-in-Ok-clause-volume g c = λ honest files held run runs.
     let s = g.S.Device.state c.args.station.now in
     let mid = g.S.Device.state c.open.new.device in
-    let files = files_of c.in-Ok.store.files.items in
     let same = given_after files s mid c.args.day c.args.budget (c.in-Ok.ensures.state honest) in
-    ran_on Holds run (g.S.Device.history c.args.station.now) (g.S.Device.history c.open.new.device) (g.S.Device.history c.run_over.new.station)
-    s mid (g.S.Device.state c.run_over.new.station) c.run_over.result files
-    (c.in-Ok.ensures.holds honest) (c.open.ensures.moments honest) (c.in-Ok.ensures.state honest)
-    (c.run_over.ensures.runs files (record { honest = c.open.ensures.only.honest.0 honest; there = c.in-Ok.ensures.stands honest }) (run files)
-    (subst (λ (given : Given). Runs c.args.code given (run files)) same (runs files)))
+    ⊎_elim
+    (λ trees.
+    on_either HoldsTrees HoldsFiles (λ image files is. inl is) run (g.S.Device.history c.args.station.now) s c.run_over.result
+    (g.S.Device.history c.run_over.new.station) (g.S.Device.state c.run_over.new.station)
+    (ran_on HoldsTrees run (g.S.Device.history c.args.station.now) (g.S.Device.history c.open.new.device) (g.S.Device.history c.run_over.new.station)
+    s mid (g.S.Device.state c.run_over.new.station) c.run_over.result (c.open.ensures.moments honest) (c.in-Ok.ensures.state honest)
+    (c.run_over.ensures.runs files (record { honest = c.open.ensures.honest.0 honest; there = c.in-Ok.ensures.stands honest files trees }) run
+    (subst (λ (given : Given). Runs c.args.code given run) same runs))))
+    (λ half. absurd (c.in-Ok.ensures.foreign honest (half_is_foreign s.disk.present files half)))
+    held
 
 pub returns-in-Ok-clause-sound : goal.returns-in-Ok-clause-sound
 returns-in-Ok-clause-sound g c = λ honest files held.
-    c.run_over.ensures.sound (files_of c.in-Ok.store.files.items) (record { honest = c.open.ensures.only.honest.0 honest; there = c.in-Ok.ensures.stands honest })
+    let s = g.S.Device.state c.args.station.now in
+    ⊎_elim
+    (λ trees. c.run_over.ensures.sound files (record { honest = c.open.ensures.honest.0 honest; there = c.in-Ok.ensures.stands honest files trees }))
+    (λ half. absurd (c.in-Ok.ensures.foreign honest (half_is_foreign s.disk.present files half)))
+    held
 
-pub returns-in-Err-clause-sound : goal.returns-in-Err-clause-sound
-returns-in-Err-clause-sound g c = λ honest files held is.
-    read_cause c.in-Err.fault (c.in-Err.ensures.opens honest files held) (ap Refused (sym c.of_opening.ensures) ∙ is)
+-- ---- a volume of halves
+
+pub returns-in-Layout-clause-volume : goal.returns-in-Layout-clause-volume
+returns-in-Layout-clause-volume g c = λ honest files held run runs.
+    let s = g.S.Device.state c.args.station.now in
+    let mid = g.S.Device.state c.open.new.device in
+    let as_was = c.in-Err.ensures.unwritten honest in
+    ⊎_elim
+    (λ trees. absurd (no_layout (subst IsReadCause c.in-Layout.is (c.in-Err.ensures.opens honest files trees))))
+    (λ half.
+    on_either HoldsHalf HoldsFiles (λ image files is. inr is) run (g.S.Device.history c.args.station.now) s c.run_on_halves.result
+    (g.S.Device.history c.run_on_halves.new.station) (g.S.Device.state c.run_on_halves.new.station)
+    (on_volume_then HoldsHalf run (g.S.Device.history c.args.station.now) (g.S.Device.history c.open.new.device) (g.S.Device.history c.run_on_halves.new.station)
+    s mid (g.S.Device.state c.run_on_halves.new.station) c.run_on_halves.result (c.open.ensures.moments honest) as_was
+    (c.run_on_halves.ensures.volume (c.open.ensures.honest.0 honest) files (subst (λ (image : List Sector). HoldsHalf image files) (sym (present_after s mid as_was)) half) run
+    (subst (λ (given : Given). Runs c.args.code given run) (given_later files s mid c.args.day c.args.budget as_was) runs))))
+    held
+
+pub returns-in-Layout-clause-sound : goal.returns-in-Layout-clause-sound
+returns-in-Layout-clause-sound g c = λ honest files held.
+    let s = g.S.Device.state c.args.station.now in
+    let mid = g.S.Device.state c.open.new.device in
+    ⊎_elim
+    (λ trees. absurd (no_layout (subst IsReadCause c.in-Layout.is (c.in-Err.ensures.opens honest files trees))))
+    (λ half.
+    c.run_on_halves.ensures.sound (c.open.ensures.honest.0 honest) files
+    (subst (λ (image : List Sector). HoldsHalf image files) (sym (present_after s mid (c.in-Err.ensures.unwritten honest))) half))
+    held
+
+-- ---- a volume that isn't opened
+
+pub returns-in_default-clause-sound : goal.returns-in_default-clause-sound
+returns-in_default-clause-sound g c = λ honest files held is.
+    let image = (g.S.Device.state c.args.station.now).disk.present in
+    read_cause c.in-Err.fault
+    (either_cause image c.in-Err.fault files c.in_default.not-Layout (c.in-Err.ensures.opens honest files) (c.in-Err.ensures.foreign honest) held)
+    (ap Refused (sym c.of_opening.ensures) ∙ is)
