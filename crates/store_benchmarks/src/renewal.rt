@@ -1,0 +1,35 @@
+//! A file that is made anew in place of one with many rows, as OPEN OUTPUT does.
+
+use crate::host_device::HostDevice;
+use crate::resident::{MOST, NOW, forget_most, kibibytes};
+use crate::row::Order;
+use crate::sales::Sales;
+use crate::times::{processor_time, since};
+use anyhow::Result;
+use std::time::Instant;
+
+/// Its time, the processor's part of it, what was read and written, and how much memory was resident before, with the volume opened,
+/// and at most.
+pub fn measure(rt: &HostRuntime, path: &str) -> Result<()> {
+    let before = kibibytes(rt, NOW)?;
+    let device = HostDevice::open(rt, path, true)?;
+    let mut sales = Sales::open(rt.alloc(), device, Order::Scattered)?;
+    let free = sales.free_sectors();
+    let opened = kibibytes(rt, NOW)?;
+    let reads = sales.device.reads;
+    sales.device.steps.clear();
+    forget_most(rt)?;
+    let worked = processor_time(rt)?;
+    let start = Instant::now(rt)?;
+    sales.create()?;
+    let time = since(rt, start)?;
+    let worked = processor_time(rt)?.saturating_sub(worked);
+    let most = kibibytes(rt, MOST)?;
+    let given_up = sales.free_sectors().saturating_sub(free);
+    let reads = sales.device.reads.saturating_sub(reads);
+    let steps = sales.device.steps.len();
+    println!(rt; "renewal {time} {worked}")?;
+    println!(rt; "kibibytes {before} {opened} {most}")?;
+    println!(rt; "sectors {given_up} reads {reads} steps {steps}")?;
+    Ok(())
+}
