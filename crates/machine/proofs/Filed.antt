@@ -42,7 +42,8 @@ use Rattle.machine.specs.Ends.{is_barring, BeforeNote, EndsAs}
 use Rattle.machine.specs.Filing.{store_fault}
 use Rattle.machine.specs.Progress.{Running}
 use Rattle.machine.proofs.Moments.{as_many_taken}
-use Rattle.machine.proofs.Steps.{RunsTo, here_goes, tells_more, files_here, files_now}
+use Rattle.machine.proofs.Beginnings.{RunsTo, tells_more, files_here}
+use Rattle.machine.proofs.Steps.{here_goes, files_now}
 
 no_zero : (n m k : ℕ) → n ≡ m + suc k → n ≡ 0 → (let never : Type 0 = ⊥ in never)
 no_zero n m k sum none = omega arith

@@ -5,6 +5,7 @@ pub mod Prefix
 pub mod Ends
 pub mod Counting
 pub mod Progress
+pub mod Ahead
 pub mod Filing
 pub mod Over
 pub mod Plans

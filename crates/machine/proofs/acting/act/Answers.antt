@@ -2,7 +2,8 @@ use Rattle.std.proofs.Common.{length, refl, ap, ◌∙◌, arith, Some}
 use Rattle.machine.proofs.Counters.{set_now}
 use Rattle.station.proofs.Spans.{stays}
 use Rattle.machine.specs.Progress.{Between}
-use Rattle.machine.proofs.Steps.{counted_from, after_count, between_now}
+use Rattle.machine.proofs.Leads.{counted_from}
+use Rattle.machine.proofs.Steps.{after_count, between_now}
 use Rattle.machine.proofs.Standing.{stands_after_count}
 use Rattle.machine.proofs.acting.act.Goals as goal
 

@@ -4,7 +4,8 @@ use Rattle.run_time_data.specs.Comes.{Keeps}
 use Rattle.run_time_data.specs.declared.data.Data.{Data}
 use Rattle.machine.proofs.Counters.{begun_now, as_many_begun}
 use Rattle.machine.proofs.Standing.{number_to_count, stands_after_number}
-use Rattle.machine.proofs.Steps.{number_counted_from, at_no_turns, after_number}
+use Rattle.machine.proofs.Leads.{number_counted_from}
+use Rattle.machine.proofs.Steps.{at_no_turns, after_number}
 use Rattle.machine.proofs.counting.count_number.Goals as goal
 
 pub pop-newest-requires : goal.pop-newest-requires

@@ -5,7 +5,8 @@ use Rattle.machine.specs.declared.ended.Ended.TheVariants.{Refused}
 use Rattle.machine.specs.Ends.{IsOwnEnd}
 use Rattle.machine.specs.Progress.{Between, IsOver}
 use Rattle.machine.proofs.Counters.{as_many_now}
-use Rattle.machine.proofs.Steps.{outside_from, between_now, showing_through, at_failed_show, at_failed_line, through_line, through_failed_line, at_no_day, after_show, after_accept, after_date}
+use Rattle.machine.proofs.Leads.{outside_from}
+use Rattle.machine.proofs.Steps.{between_now, showing_through, at_failed_show, at_failed_line, through_line, through_failed_line, at_no_day, after_show, after_accept, after_date}
 use Rattle.machine.proofs.Standing.{finds_for_accept, finds_for_date, stands_after_show, stands_after_accept, stands_after_date}
 use Rattle.machine.proofs.outside.converse.Goals as goal
 
