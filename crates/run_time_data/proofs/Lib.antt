@@ -16,3 +16,4 @@ pub mod Stacks
 pub mod Strings
 pub mod Inspects
 pub mod HeldIntegers
+pub mod ShortNumbers

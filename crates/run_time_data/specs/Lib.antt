@@ -10,6 +10,7 @@ pub mod Ready
 pub mod Subscripts
 pub mod Lines
 pub mod KeptNumbers
+pub mod KeptAtScale
 pub mod Fused
 pub mod FindsFirst
 pub mod Occurrences

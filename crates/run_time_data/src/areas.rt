@@ -16,11 +16,13 @@ ghost use Rattle.data_instructions.specs.Tables.{item_place};
 ghost use Rattle.run_time_data.specs.Finds.{StandsAt, Receives};
 ghost use Rattle.run_time_data.specs.Writing.{Stores};
 ghost use Rattle.run_time_data.specs.KeptNumbers.{StoresNumber};
+ghost use Rattle.run_time_data.specs.KeptAtScale.{HasDigits, bytes_at_scale};
 
 use crate::keeping::store_part;
 use crate::overlaying::overlay_part;
 use crate::receiving::{move_part, pad_part};
 use crate::relative_keys::{number_held, put_number_part};
+use crate::short_keeping::put_short_part;
 use crate::stringing::string_part;
 use data_instructions::DataItem;
 use decimal18::Dec;
@@ -60,7 +62,7 @@ impl Areas {
     }
 
     /// The bytes of an item that stands at an offset.
-    #[inline]
+    #[inline(always)]
     pub fn bytes(&self, one: &DataItem, offset: usize) -> &[u8]
         requires { StandsAt one.now self.now offset }
         ensures value { result.now ≡ part_of self.now (item_place one.now offset) }
@@ -84,6 +86,23 @@ impl Areas {
         ensures stores { Stores result self.old self.new (move_to (record { taken = taken; bytes = from.now }) (item_place one.now offset) self.old) }
         ensures lengths { map length self.new ≡ map length self.old }
     {
+        self.receive_from(one, offset, &taken, from)
+    }
+
+    /// The same of a sender that is seen where it stands.
+    #[inline(always)]
+    pub(crate) fn receive_from(
+        &mut self,
+        one: &DataItem,
+        offset: usize,
+        taken: &Taken,
+        from: &[u8],
+    ) -> Result<(), DataFault>
+        requires stands { StandsAt one.now self.old offset }
+        requires sender { Receives one.now (record { taken = taken.now; bytes = from.now }) }
+        ensures stores { Stores result self.old self.new (move_to (record { taken = taken.now; bytes = from.now }) (item_place one.now offset) self.old) }
+        ensures lengths { map length self.new ≡ map length self.old }
+    {
         let area = &mut self.areas[one.area as usize];
         move_part(one, area.as_mut_slice(), offset, taken, from)
     }
@@ -105,6 +124,18 @@ impl Areas {
     {
         let area = &mut self.areas[one.area as usize];
         store_part(one, area.as_mut_slice(), offset, number, rounded, keep)
+    }
+
+    /// Stores a coefficient in a numeric item that stands at an offset, at its scale; without S the absolute value.
+    #[inline(never)]
+    pub(crate) fn store_short(&mut self, one: &DataItem, offset: usize, coefficient: i64)
+        requires stands { StandsAt one.now self.old offset }
+        requires digits { HasDigits one.now.item.kind coefficient }
+        ensures stores { self.new ≡ storing (item_place one.now offset) (bytes_at_scale one.now.item.kind coefficient) self.old }
+        ensures lengths { map length self.new ≡ map length self.old }
+    {
+        let area = &mut self.areas[one.area as usize];
+        put_short_part(one, area.as_mut_slice(), offset, coefficient);
     }
 
     /// Stores characters in an item that stands at an offset, cut or padded with spaces.

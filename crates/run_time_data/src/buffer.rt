@@ -52,7 +52,7 @@ impl Buffer {
     }
 
     /// With nothing in it.
-    #[inline]
+    #[inline(always)]
     pub fn clear(&mut self)
         ensures { self.new ≡ record { room = self.old.room; bytes = [] } }
     {
@@ -60,7 +60,7 @@ impl Buffer {
     }
 
     /// Adds bytes at the end.
-    #[inline]
+    #[inline(always)]
     pub fn append(&mut self, bytes: &[u8])
         requires { length self.old.bytes + length bytes.now ≤ self.old.room }
         ensures { self.new ≡ record { room = self.old.room; bytes = self.old.bytes ++ bytes.now } }

@@ -1,6 +1,6 @@
 //! Calculations on the stack of numbers.
 
-ghost use Rattle.std.specs.Prelude.{◌≡◌, ◌+◌, ◌<◌, ◌≤◌, [], ◌∷◌, length, Some};
+ghost use Rattle.std.specs.Prelude.{◌≡◌, ◌+◌, ◌<◌, ◌≤◌, [], ◌∷◌, length, Some, IfSome};
 ghost use Rattle.source_tree.specs.Computed as computed;
 ghost use Rattle.source_tree.specs.Arithmetic as arithmetic;
 ghost use Rattle.data_instructions.specs.Scratch.{step_at};
@@ -10,10 +10,38 @@ ghost use Rattle.run_time_data.specs.Data.{scratch_of};
 ghost use Rattle.run_time_data.specs.Comes.{Comes, Keeps};
 
 use crate::data::Data;
+use crate::short::Short;
+use crate::short_arithmetic::short_result;
 use crate::stack::Stack;
 use data_instructions::{Calculation, ProgramFault};
 use decimal18::Dec;
 use source_tree::Operator;
+
+/// What an operator makes of two numbers, where 64 bits are enough.
+#[inline(always)]
+fn short_operated(operator: Operator, left: Dec, right: Dec) -> Option<Dec>
+    ensures { IfSome result (λ x. computed.operate operator (Some left) (Some right) ≡ Some x) }
+{
+    let one = Short::of(left)?;
+    let other = Short::of(right)?;
+    let result = short_result(operator, one, other)?;
+    Some(result.decimal())
+}
+
+/// What an operator makes of two numbers, if there is no size error.
+#[cold]
+#[inline(never)]
+fn long_operated(operator: Operator, left: Dec, right: Dec) -> Option<Dec>
+    ensures { result ≡ computed.operate operator (Some left) (Some right) }
+{
+    let result = match operator {
+        Operator::Add => left.add(right),
+        Operator::Subtract => left.sub(right),
+        Operator::Multiply => left.mul(right),
+        Operator::Divide => left.div(right),
+    };
+    result.ok()
+}
 
 /// What an operator makes of two numbers, if both are numbers and there is no size error.
 #[inline(always)]
@@ -22,13 +50,10 @@ pub fn operate(operator: Operator, left: Option<Dec>, right: Option<Dec>) -> Opt
 {
     let left = left?;
     let right = right?;
-    let result = match operator {
-        Operator::Add => left.add(right),
-        Operator::Subtract => left.sub(right),
-        Operator::Multiply => left.mul(right),
-        Operator::Divide => left.div(right),
-    };
-    result.ok()
+    match short_operated(operator, left, right) {
+        Some(result) => Some(result),
+        None => long_operated(operator, left, right),
+    }
 }
 
 /// A number with the other sign.

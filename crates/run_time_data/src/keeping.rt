@@ -26,7 +26,7 @@ struct Kept {
 }
 
 /// Which rounding a receiver has, by its ROUNDED phrase.
-fn rounding(rounded: bool) -> Rounding
+pub(crate) fn rounding(rounded: bool) -> Rounding
     ensures { result ≡ rounding_of rounded }
 {
     if rounded {
@@ -70,8 +70,8 @@ fn kept_of(number: Option<Dec>, digits: u8, scale: u8, rounded: bool, keep: bool
 }
 
 /// Writes a number with the item's digits and scale; without S the absolute value.
-#[inline]
-fn put_number(number: Dec, item: Numeric, bytes: &mut [u8])
+#[inline(always)]
+pub(crate) fn put_number(number: Dec, item: Numeric, bytes: &mut [u8])
     requires item { IsNumeric item }
     requires length { length bytes.old ≡ length_of item }
     requires digits { unsigned_abs number.coefficient < 10 ^ item.digits }

@@ -1,45 +1,22 @@
 //! Receivers in their areas.
 
 ghost use Rattle.std.specs.Prelude.{◌≡◌, ◌+◌, ◌≤◌, true, length};
-ghost use Rattle.std.specs.Option.{option_map};
-ghost use Rattle.items.specs.Numbers.{IsNumeric, length_of};
-ghost use Rattle.items.specs.Values.{value_of, bytes_of};
 ghost use Rattle.items.specs.Items.{IsItem, IsTaken};
 ghost use Rattle.items.specs.Faults.{Writes};
 ghost use Rattle.items.specs.Texts.{padded};
-ghost use Rattle.edited_move.specs.Moves.{moved, received, is_short, IsPlainKind};
+ghost use Rattle.edited_move.specs.Moves.{moved, is_short, IsPlainKind};
 ghost use Rattle.source_tree.specs.Moving.{moved_by};
 ghost use Rattle.data_instructions.specs.Tables.{IsEditing};
 ghost use Rattle.run_time_data.specs.Finds.{Receives};
 ghost use Rattle.run_time_data.specs.Writing.{WritesPart, with_part};
 
+use crate::move_items::{is_copy, move_constant, move_digits, move_numbers, put_text};
 use data_instructions::DataItem;
-use edited_move::{edit_into, move_between, move_number};
-use items::{DataFault, Item, Kind, Numeric, Taken, number, put_padded};
-
-/// Moves the number of a numeric item to another one: without a copy of what is told of either.
-#[inline]
-fn move_numbers(
-    sender: Numeric,
-    from: &[u8],
-    receiver: Numeric,
-    bytes: &mut [u8],
-) -> Result<(), DataFault>
-    requires sender { IsNumeric sender }
-    requires receiver { IsNumeric receiver }
-    requires from { length from.now ≡ length_of sender }
-    requires length { length bytes.old ≡ length_of receiver }
-    ensures { Writes result bytes.old bytes.new (option_map (λ x. bytes_of receiver (received receiver x)) (value_of sender from.now)) }
-{
-    let Some(x) = number(sender, from) else {
-        return Err(DataFault);
-    };
-    move_number(x, receiver, bytes);
-    Ok(())
-}
+use edited_move::{edit_into, move_between};
+use items::{DataFault, Item, Kind, Taken, put_padded};
 
 /// Moves a sender to an item that isn't edited.
-#[inline]
+#[inline(always)]
 #[tactic(auto, unfolding(edited_move::specs::Moves::moved))]
 fn move_plain(
     taken: &Taken,
@@ -54,50 +31,57 @@ fn move_plain(
     requires length { length bytes.old ≡ receiver.now.length }
     ensures { Writes result bytes.old bytes.new (moved receiver.now taken.now from.now) }
 {
-    if let (
-        Kind::Numeric(other),
-        Taken::Item(
-            Item {
-                kind: Kind::Numeric(sender),
-                ..
-            },
-        ),
-    ) = (receiver.kind, *taken)
-    {
-        return move_numbers(sender, from, other, bytes);
+    if let Taken::Item(sender) = taken {
+        if let (Kind::Numeric(number), Kind::Numeric(other)) = (&sender.kind, &receiver.kind) {
+            return move_numbers(number, from, other, bytes);
+        }
+        if is_copy(sender, receiver) {
+            put_text(from, bytes);
+            return Ok(());
+        }
+        if let (Kind::Numeric(number), Kind::Alphanumeric { justified: false }) = (
+            &sender.kind,
+            &receiver.kind,
+        ) {
+            return move_digits(number, from, bytes);
+        }
+    }
+    if let Taken::Figurative(constant) = taken {
+        move_constant(*constant, from, receiver, bytes);
+        return Ok(());
     }
     move_between(taken, from, receiver, bytes)
 }
 
 /// Moves a sender to an item with these bytes; an edited one is edited by its picture.
-#[inline]
-fn move_item(one: &DataItem, taken: Taken, from: &[u8], bytes: &mut [u8]) -> Result<(), DataFault>
+#[inline(always)]
+fn move_item(one: &DataItem, taken: &Taken, from: &[u8], bytes: &mut [u8]) -> Result<(), DataFault>
     requires form { IsItem one.now.item }
     requires editing { IsEditing one.now.item one.now.editing }
-    requires sender { Receives one.now (record { taken = taken; bytes = from.now }) }
+    requires sender { Receives one.now (record { taken = taken.now; bytes = from.now }) }
     requires length { length bytes.old ≡ one.now.item.length }
-    ensures { Writes result bytes.old bytes.new (moved_by one.now.editing one.now.item (record { taken = taken; bytes = from.now })) }
+    ensures { Writes result bytes.old bytes.new (moved_by one.now.editing one.now.item (record { taken = taken.now; bytes = from.now })) }
 {
     match &one.editing {
-        None => move_plain(&taken, from, &one.item, bytes),
-        Some(picture) => edit_into(taken, from, one.item, picture, bytes),
+        None => move_plain(taken, from, &one.item, bytes),
+        Some(picture) => edit_into(*taken, from, one.item, picture, bytes),
     }
 }
 
 /// The same to an item at an offset in its area: the other bytes stay.
-#[inline]
+#[inline(always)]
 pub fn move_part(
     one: &DataItem,
     area: &mut [u8],
     offset: usize,
-    taken: Taken,
+    taken: &Taken,
     from: &[u8],
 ) -> Result<(), DataFault>
     requires form { IsItem one.now.item }
     requires editing { IsEditing one.now.item one.now.editing }
-    requires sender { Receives one.now (record { taken = taken; bytes = from.now }) }
+    requires sender { Receives one.now (record { taken = taken.now; bytes = from.now }) }
     requires within { offset + one.now.item.length ≤ length area.old }
-    ensures { WritesPart result area.old area.new offset one.now.item.length (moved_by one.now.editing one.now.item (record { taken = taken; bytes = from.now })) }
+    ensures { WritesPart result area.old area.new offset one.now.item.length (moved_by one.now.editing one.now.item (record { taken = taken.now; bytes = from.now })) }
 {
     let end = offset + one.item.length as usize;
     move_item(one, taken, from, &mut area[offset..end])

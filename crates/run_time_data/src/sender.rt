@@ -26,14 +26,14 @@ impl Sender {
     }
 
     /// Keeps an operand with its bytes in place of the one before.
-    #[inline]
+    #[inline(always)]
     pub fn keep(&mut self, taken: Taken, bytes: &[u8])
         requires room { length bytes.now ≤ self.old.bytes.room }
         ensures { self.new ≡ record { taken = Some taken; bytes = record { room = self.old.bytes.room; bytes = bytes.now } } }
     {
-        self.taken = Some(taken);
         self.bytes.clear();
         self.bytes.append(bytes);
+        self.taken = Some(taken);
     }
 
     /// What was taken, where something was.

@@ -24,12 +24,12 @@ behind_take tables old new from to r is keeps =
 pub take_item-requires-clause-item : goal.take_item-requires-clause-item
 take_item-requires-clause-item c = item_stands c.args.tables.now c.args.self.now c.args.from (i.Take ∷ i.Place c.args.to ∷ i.Move ∷ []) c.requires
 
-pub receive_item-requires-clause-item : goal.receive_item-requires-clause-item
-receive_item-requires-clause-item c =
+pub receive_first-requires-clause-item : goal.receive_first-requires-clause-item
+receive_first-requires-clause-item c =
     item_stands c.args.tables.now c.take_item.new.self c.args.to (i.Move ∷ [])
     (behind_take c.args.tables.now c.args.self.now c.take_item.new.self c.args.from c.args.to c.requires c.in_ok-take_item.ensures.does c.in_ok-take_item.ensures.keeps)
 
-pub receive_item-requires-clause-sender : goal.receive_item-requires-clause-sender
-receive_item-requires-clause-sender c =
+pub receive_first-requires-clause-sender : goal.receive_first-requires-clause-sender
+receive_first-requires-clause-sender c =
     move_found c.args.tables.now c.take_item.new.self c.args.to
     (behind_take c.args.tables.now c.args.self.now c.take_item.new.self c.args.from c.args.to c.requires c.in_ok-take_item.ensures.does c.in_ok-take_item.ensures.keeps)
