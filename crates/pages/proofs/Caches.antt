@@ -1,21 +1,23 @@
 -- What the cache holds stays right.
-use Rattle.std.proofs.Common.{◌≡◌, ◌<◌, zero, suc, ◌⊎◌, ⊎_elim, inl, inr, ℕ, Bool, List, [], ◌∷◌, get_or, cond, true, false, refl, sym, ◌∙◌, ap, subst, arith, Bor}
+use Rattle.std.proofs.Common.{◌≡◌, ◌<◌, zero, suc, ◌⊎◌, ⊎_elim, inl, inr, ℕ, Bool, List, [], ◌∷◌, ◌++◌, length, get_or, cond, true, false, refl, sym, ◌∙◌, ap, subst, arith, Bor}
 use Rattle.std.specs.Prelude.{option_copied, Option, Some, None, Contains, IsSome, IfNone, IfSome, nat_eq}
-use Rattle.std.specs.List.{IsDistinct}
+use Rattle.std.specs.List.{All, IsDistinct}
 use Rattle.std.specs.Map.{lookup, lookup_entry, remove_entry, keys_of}
 use Rattle.std.specs.Cmp.{nat_eq_equiv}
 use Rattle.std.proofs.lemmas.Bool.{eqb-true, false≢true}
-use Rattle.std.proofs.lemmas.List.{get_or-map, length-map}
-use Rattle.std.proofs.lemmas.List.Elements.{Contains-append_cases}
+use Rattle.std.proofs.lemmas.List.{get_or-map, get_or_default, length-map}
+use Rattle.std.proofs.lemmas.List.Elements.{Contains-append_cases, Contains-append_left, Contains-append_right}
 use Rattle.std.proofs.lemmas.Map.{lookup-remove_entry}
 use Rattle.std.proofs.lemmas.Map.Views.{IsSome-lookup_from_Contains}
 use Rattle.station.specs.Disk.{Sector}
 use Rattle.lru.specs.LruCache.{LruCache, lru_cache, promoted, put_entries}
+use Rattle.lru.proofs.Splits.{Contains-head}
 use Rattle.lru.proofs.CallerLemmas.{Contains-lookup, Contains-promoted, Contains-remove_entry, Contains-put_entries}
-use Rattle.pages.specs.Cache.{IsCacheOf, Recalls, StaysOut, ComesIn}
+use Rattle.pages.specs.Cache.{IsCacheOf, Recalls, StaysOut, ComesIn, Keeps, KeepsChanges, Gathers}
 use Rattle.pages.specs.Changes.{changed, changed_pages, ChangesPage}
 use Rattle.pages.specs.declared.change.Change.{Change}
-use Rattle.pages.proofs.Edits.{changed_at, away_same}
+use Rattle.pages.proofs.Edits.{changed_at, away_same, is_only, only_same}
+use Rattle.pages.specs.Image.{NamesOnce}
 
 -- a page of the cache is the page
 pub hit_page : (pages : List (Option Sector)) (changed : List ℕ) (entries : List (ℕ × Sector)) (page : ℕ) (bytes : Sector) → IsCacheOf pages changed entries → lookup (nat_eq page) entries ≡ Some bytes → Some bytes ≡ get_or pages page None
@@ -60,17 +62,13 @@ after_put pages changed cache page bytes here away is = record {
       (Contains-put_entries nat_eq cache page bytes e has);
 }
 
--- a page was kept, or not
-abbrev pub Kept : LruCache ℕ Sector → LruCache ℕ Sector → ℕ → Sector → Type 0
-Kept old new page bytes = (new ≡ old) ⊎ (new ≡ lru_cache (put_entries nat_eq old page bytes) old.cap)
-
-pub after_kept : (pages : List (Option Sector)) (changed : List ℕ) (old new : LruCache ℕ Sector) (page : ℕ) (bytes : Sector) → get_or pages page None ≡ Some bytes → (Contains changed page → ⊥) → IsCacheOf pages changed old.entries → Kept old new page bytes → IsCacheOf pages changed new.entries
+pub after_kept : (pages : List (Option Sector)) (changed : List ℕ) (old new : LruCache ℕ Sector) (page : ℕ) (bytes : Sector) → get_or pages page None ≡ Some bytes → (Contains changed page → ⊥) → IsCacheOf pages changed old.entries → Keeps page bytes old new → IsCacheOf pages changed new.entries
 after_kept pages changed old new page bytes here away is kept = ⊎_elim
     (λ same. subst (λ (l : LruCache ℕ Sector). IsCacheOf pages changed l.entries) (sym same) is)
     (λ put. subst (λ (l : LruCache ℕ Sector). IsCacheOf pages changed l.entries) (sym put) (after_put pages changed old page bytes here away is))
     kept
 
-pub recalls_kept : (old new : LruCache ℕ Sector) (page : ℕ) (bytes : Sector) → lookup (nat_eq page) old.entries ≡ None → Kept old new page bytes → Recalls page (Some bytes) old new
+pub recalls_kept : (old new : LruCache ℕ Sector) (page : ℕ) (bytes : Sector) → lookup (nat_eq page) old.entries ≡ None → Keeps page bytes old new → Recalls page (Some bytes) old new
 recalls_kept old new page bytes none kept = ⊎_elim (λ same. StaysOut none same) (λ put. ComesIn bytes none refl put) kept
 
 -- the key of an entry
@@ -106,12 +104,65 @@ after_removed pages old new entries page distinct changes_page is = record {
       changes_page;
 }
 
+-- an entry that was put has its key and its value
+put_entry : (entries : List (ℕ × Sector)) (page : ℕ) (bytes : Sector) (e : ℕ × Sector) → (e.1 ≡ bytes) × ((e.0 ≡ page) ⊎ ((w : Sector) × Contains entries (e.0, w) × (nat_eq page e.0 ≡ true))) → (page ≡ e.0) × (bytes ≡ e.1)
+put_entry entries page bytes e put = (sym (put_key entries page e put.1), sym put.0)
+
+-- a change among them changes its page
+change_there : (changes : List Change) (c : Change) (page : ℕ) → Contains changes c → c.page ≡ page → Contains (changed_pages changes) page
+change_there changes c page has is = changed_at changes has.0 page c has.1 (ap (λ (x : Change). x.page) has.2 ∙ is)
+
+-- and its bytes are the page
+change_now : (pages : List (Option Sector)) (changes : List Change) (c : Change) (e : ℕ × Sector) → NamesOnce (changed_pages changes) → All (λ (c : Change). (0 < c.page) × (c.page < length pages)) changes → Contains changes c → c.page ≡ e.0 → c.bytes ≡ Some e.1 → get_or (changed pages changes) e.0 None ≡ Some e.1
+change_now pages changes c e once bounds has page bytes =
+    let i = has.0 in
+    let same : get_or changes i c ≡ c = has.2 in
+    let low = bounds i c has.1 in
+    let number : (get_or changes i c).page ≡ e.0 = ap (λ (x : Change). x.page) same ∙ page in
+    let only = is_only changes e.0 i once (λ none. omega (arith, none, number, low.0)) has.1 (λ d. ap (λ (x : Change). x.page) (get_or_default changes i d c has.1) ∙ number) in
+    only_same (λ (o : Option Sector). o) pages changes e.0 i None c only (omega (arith, number, low.1)) ∙ ap (λ (x : Change). x.bytes) same ∙ bytes
+
+-- a change without bytes, or one whose page was kept or not
+pub keeps_none : (c : Change) (cache : LruCache ℕ Sector) → KeepsChanges (c ∷ []) cache cache
+keeps_none c cache = record { capacity = refl; entries = λ e has. inl has }
+
+pub keeps_one : (c : Change) (bytes : Sector) (old new : LruCache ℕ Sector) → c.bytes ≡ Some bytes → Keeps c.page bytes old new → KeepsChanges (c ∷ []) old new
+keeps_one c bytes old new is kept = ⊎_elim
+    (λ same. subst (KeepsChanges (c ∷ []) old) (sym same) (keeps_none c old))
+    (λ put. subst (KeepsChanges (c ∷ []) old) (sym put) (record {
+      capacity = refl;
+      entries = λ e has. ⊎_elim (λ was. inl was)
+          (λ new_one. let here = put_entry old.entries c.page bytes e new_one in inr (c, Contains-head c [], here.0, is ∙ ap (λ (b : Sector). Some b) here.1))
+          (Contains-put_entries nat_eq old c.page bytes e has);
+    }))
+    kept
+
+-- one change more
+pub keeps_more : (changes : List Change) (c : Change) (old between new : LruCache ℕ Sector) → KeepsChanges changes old between → KeepsChanges (c ∷ []) between new → KeepsChanges (changes ++ c ∷ []) old new
+keeps_more changes c old between new first then = record {
+  capacity = then.capacity ∙ first.capacity;
+  entries = λ e there. ⊎_elim
+      (λ was. ⊎_elim (λ before. inl before) (λ one. inr (one.0, Contains-append_left changes (c ∷ []) one.0 one.1, one.2, one.3)) (first.entries e was))
+      (λ one. inr (one.0, Contains-append_right changes (c ∷ []) one.0 one.1, one.2, one.3))
+      (then.entries e there);
+}
+
+-- the changes as pages of the map
+pub gathers : (pages : List (Option Sector)) (changes : List Change) (old new : LruCache ℕ Sector) → NamesOnce (changed_pages changes) → All (λ (c : Change). (0 < c.page) × (c.page < length pages)) changes → KeepsChanges changes old new → Gathers (changed_pages changes) (changed pages changes) old new
+gathers pages changes old new once bounds keeps = record {
+  capacity = keeps.capacity;
+  entries = λ e has. ⊎_elim (λ was. inl was)
+      (λ one. inr (change_there changes one.0 e.0 one.1 one.2, change_now pages changes one.0 e once bounds one.1 one.2 one.3))
+      (keeps.entries e has);
+}
+
 -- After a commit of what was changed the cache is that of the new pages.
-pub after_commit : (pages after : List (Option Sector)) (changes left : List Change) (entries : List (ℕ × Sector)) → after ≡ changed pages changes → left ≡ [] → IsCacheOf pages (changed_pages changes) entries → IsCacheOf after (changed_pages left) entries
-after_commit pages after changes left entries next none is = record {
-  right = λ e has. ap (λ (l : List (Option Sector)). get_or l e.0 None) next
-      ∙ away_same (λ (o : Option Sector). o) pages changes e.0 None (λ k d lt same. is.unchanged e has (changed_at changes k e.0 d lt same))
-      ∙ is.right e has;
+pub after_commit : (pages after : List (Option Sector)) (changes left : List Change) (old new : LruCache ℕ Sector) → after ≡ changed pages changes → left ≡ [] → Gathers (changed_pages changes) (changed pages changes) old new → IsCacheOf pages (changed_pages changes) old.entries → IsCacheOf after (changed_pages left) new.entries
+after_commit pages after changes left old new next none gathered is = record {
+  right = λ e has. ap (λ (l : List (Option Sector)). get_or l e.0 None) next ∙ ⊎_elim
+      (λ was. away_same (λ (o : Option Sector). o) pages changes e.0 None (λ k d lt same. is.unchanged e was (changed_at changes k e.0 d lt same)) ∙ is.right e was)
+      (λ one. one.1)
+      (gathered.entries e has);
   unchanged = λ e has. subst (λ (l : List Change). Contains (changed_pages l) e.0 → ⊥) (sym none) (λ there. omega (arith, there.1));
 }
 

@@ -1,8 +1,9 @@
 -- The cache of pages as committed.
-use Rattle.std.specs.Prelude.{◌≡◌, ℕ, List, nat_eq, Option, Some, None, IsSome, slice_index_or, Contains}
+use Rattle.std.specs.Prelude.{◌≡◌, ◌⊎◌, ℕ, List, nat_eq, Option, Some, None, IsSome, slice_index_or, Contains}
 use Rattle.std.specs.Map.{lookup, remove_entry}
 use Rattle.station.specs.Disk.{Sector}
 use Rattle.lru.specs.LruCache.{LruCache, lru_cache, promoted, put_entries}
+use Rattle.pages.specs.declared.change.Change.{Change}
 
 -- each entry is the page of its number among these, and none is of a page that was changed
 pub record IsCacheOf (pages : List (Option Sector)) (changed : List ℕ) (entries : List (ℕ × Sector)) : Type 0 where
@@ -19,3 +20,17 @@ pub data Recalls (page : ℕ) (answer : Option Sector) (old new : LruCache ℕ S
   Hit : IsSome (lookup (nat_eq page) old.entries) → new ≡ lru_cache (promoted (nat_eq page) old.entries) old.cap → Recalls page answer old new
   StaysOut : lookup (nat_eq page) old.entries ≡ None → new ≡ old → Recalls page answer old new
   ComesIn : (bytes : Sector) → lookup (nat_eq page) old.entries ≡ None → answer ≡ Some bytes → new ≡ lru_cache (put_entries nat_eq old page bytes) old.cap → Recalls page answer old new
+
+-- a page comes in as the most recently used one, or stays out
+abbrev pub Keeps : ℕ → Sector → LruCache ℕ Sector → LruCache ℕ Sector → Type 0
+Keeps page bytes old new = (new ≡ old) ⊎ (new ≡ lru_cache (put_entries nat_eq old page bytes) old.cap)
+
+-- Pages with these new bytes come in or stay out: what is there then was there, or is one of them.
+pub record KeepsChanges (changes : List Change) (old new : LruCache ℕ Sector) : Type 0 where
+  pub capacity : new.cap ≡ old.cap
+  pub entries : (e : ℕ × Sector) → Contains new.entries e → Contains old.entries e ⊎ ((c : Change) × Contains changes c × (c.page ≡ e.0) × (c.bytes ≡ Some e.1))
+
+-- The pages that were changed come in or stay out: what is there then was there, or is a page of the map that was changed.
+pub record Gathers (changed : List ℕ) (pages : List (Option Sector)) (old new : LruCache ℕ Sector) : Type 0 where
+  pub capacity : new.cap ≡ old.cap
+  pub entries : (e : ℕ × Sector) → Contains new.entries e → Contains old.entries e ⊎ (Contains changed e.0 × (slice_index_or pages e.0 None ≡ Some e.1))

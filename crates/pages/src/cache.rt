@@ -1,12 +1,13 @@
 //! Pages as committed, so many as the cache may hold, the most recently used first.
-ghost use Rattle.std.specs.Prelude.{◌≡◌, ◌⊎◌, ◌<◌, ◌↔◌, ℕ, List, [], Ok, Err, None, slice_index_or, nat_eq, option_copied, Contains, IfOk, IfNone, OnErr, IsSome};
+ghost use Rattle.std.specs.Prelude.{◌≡◌, ◌<◌, ◌↔◌, ℕ, List, [], ◌∷◌, Ok, Err, None, slice_index_or, nat_eq, option_copied, Contains, IfOk, IfNone, OnErr, IsSome};
 ghost use Rattle.std.specs.List.{All};
 ghost use Rattle.std.specs.Map.{lookup};
 ghost use Rattle.station.specs.Calls.{OnlyReads};
-ghost use Rattle.lru.specs.LruCache.{lru_cache, promoted, put_entries, IsValid};
+ghost use Rattle.lru.specs.LruCache.{lru_cache, promoted, IsValid};
 ghost use Rattle.pages.specs.Image.{pages_in};
-ghost use Rattle.pages.specs.Cache.{IsCacheOf, Recalls, forgotten};
+ghost use Rattle.pages.specs.Cache.{IsCacheOf, Recalls, Keeps, KeepsChanges, forgotten};
 
+use crate::change::Change;
 use crate::error::PagesError;
 use crate::page_bytes::PageBytes;
 use crate::reading::read_page;
@@ -96,15 +97,42 @@ pub(crate) fn recall_page<D: Device>(
 #[cold]
 #[inline(never)]
 fn keep_page(alloc: Global, cache: &mut LruCache<u32, PageBytes>, page: u32, bytes: [u8; 4096])
-    ensures { (cache.new ≡ cache.old) ⊎ (cache.new ≡ lru_cache (put_entries nat_eq cache.old page bytes) cache.old.cap) }
+    ensures { Keeps page bytes cache.old cache.new }
 {
-    let kept = match PageBytes::new(alloc, bytes) {
-        Ok(kept) => kept,
-        Err(_) => return,
-    };
-    match cache.put(page, kept) {
+    match PageBytes::new(alloc, bytes) {
+        Ok(kept) => put_page(cache, page, kept),
+        Err(_) => {}
+    }
+}
+
+/// The same of a page that stands on the heap.
+fn put_page(cache: &mut LruCache<u32, PageBytes>, page: u32, bytes: PageBytes)
+    ensures { Keeps page bytes cache.old cache.new }
+{
+    match cache.put(page, bytes) {
         Ok(_) => {}
         Err(_) => {}
+    }
+}
+
+/// A page that was changed comes into the cache, if it has bytes, so far as memory allows.
+fn keep_change(cache: &mut LruCache<u32, PageBytes>, change: Change)
+    ensures { KeepsChanges (change ∷ []) cache.old cache.new }
+{
+    let Change { page, bytes } = change;
+    match bytes {
+        Some(bytes) => put_page(cache, page, bytes),
+        None => {}
+    }
+}
+
+/// The pages that a commit wrote come into the cache, one after the other, so far as memory and its capacity allow. Their bytes stay
+/// where they stand on the heap.
+pub(crate) fn keep_changes(cache: &mut LruCache<u32, PageBytes>, changes: Vec<Change>)
+    ensures { KeepsChanges changes.items cache.old cache.new }
+{
+    for change in changes {
+        keep_change(cache, change);
     }
 }
 

@@ -14,7 +14,7 @@ ghost use Rattle.pages.specs.Changes.{BeforeOrAfter, ChangesPage};
 ghost use Rattle.pages.specs.Errors.{IsEditRefusal, IsAllocateRefusal, IsCommitRefusal};
 ghost use Rattle.pages.specs.Use.{free_count};
 
-use crate::cache::{forget_page, new_cache, promote_page, recall_page, seen_page};
+use crate::cache::{forget_page, keep_changes, new_cache, promote_page, recall_page, seen_page};
 use crate::change::{
     Change, find_change, forget_run, is_kept, keep_bytes, pass_runs, set_change, unused_page,
 };
@@ -27,6 +27,7 @@ use lru::LruCache;
 use station::Device;
 use std::alloc::Global;
 use std::collections::HashMap;
+use std::mem;
 
 /// An opened volume. What is edited and not committed is part of the map and of no image.
 #[derive(Drop)]
@@ -52,7 +53,7 @@ impl PageMap {
     ghost use Rattle.std.specs.Map.{lookup};
     ghost use Rattle.std.specs.Prelude.{Ok, nat_eq, option_copied, Contains, IsSome};
     ghost use Rattle.lru.specs.LruCache.{lru_cache, promoted};
-    ghost use Rattle.pages.specs.Cache.{Recalls, forgotten};
+    ghost use Rattle.pages.specs.Cache.{Recalls, Gathers, forgotten};
     ghost use Rattle.station.specs.Disk.{Disk};
 
     /// Opens the volume of a device. It syncs first, and writes nothing. The cache holds at most `capacity` pages, from 1 to 4,096.
@@ -414,10 +415,14 @@ impl PageMap {
         ensures unchanged { result ≡ Err PagesError.Full → D.is_honest device.old → (D.state device.new ≡ D.state device.old) × (D.history device.new ≡ D.history device.old) }
         ensures open { IsOpen self.new }
         ensures same_sectors { sectors_of self.new ≡ sectors_of self.old }
-        ensures cache { cache_of self.new ≡ cache_of self.old }
         ensures refused { OnErr result (is_spent self.new ≡ true) }
         ensures cause { IsCommitRefusal result }
         ensures spent { (result ≡ Err PagesError.Spent) ↔ (is_spent self.old ≡ true) }
+
+        // The pages that were changed come into the cache, so far as memory and its capacity allow.
+        ensures gathers { OnOk result ((image : List Sector) → Gathers (changed_pages_of self.old) (map_now self.old image).pages (cache_of self.old) (cache_of self.new)) }
+        ensures cache { OnErr result (cache_of self.new ≡ cache_of self.old) }
+        ensures capacity { (cache_of self.new).cap ≡ (cache_of self.old).cap }
     {
         if self.spent {
             return Err(PagesError::Spent);
@@ -433,9 +438,10 @@ impl PageMap {
             &self.changes,
             self.catalog,
         )?;
-        // What a large commit took of memory is given back.
-        self.changes = Vec::new(self.alloc);
+        // What a large commit took of memory is given back, but for the pages that come into the cache.
+        let changes = mem::replace(&mut self.changes, Vec::new(self.alloc));
         self.places = HashMap::new(self.alloc);
+        keep_changes(&mut self.cache, changes);
         self.spent = false;
         Ok(())
     }

@@ -1,4 +1,4 @@
-use Rattle.std.proofs.Common.{◌≡◌, ◌<◌, ◌≤◌, ◌*◌, ℕ, length, get_or}
+use Rattle.std.proofs.Common.{◌≡◌, ◌<◌, ◌*◌, ℕ, length, get_or}
 use Rattle.station.specs.Calls.{OnlyReads}
 use Rattle.pages.specs.Image.{map_at, map_part}
 use Rattle.pages.proofs.reading.read_table.Given as goal
