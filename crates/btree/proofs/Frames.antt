@@ -26,6 +26,10 @@ pub same_pages : (old new : PageMap) (before after : State) → Unchanged old ne
 same_pages old new before after unchanged same =
     ap (λ (state : State). (map_now new state.disk.present).pages) same ∙ ap (λ (map : Map). map.pages) (unchanged.map before.disk.present)
 
+-- the pages where nothing was done yet
+pub pages_yet : (one two three : PageMap) (before after : State) → Unchanged one two → three ≡ two → after ≡ before → (map_now three after.disk.present).pages ≡ (map_now one before.disk.present).pages
+pages_yet one two three before after unchanged same state = ap (λ (p : PageMap). (map_now p after.disk.present).pages) same ∙ same_pages one two before after unchanged state
+
 pub false_unless : (b : Bool) → (b ≡ true → ⊥) → b ≡ false
 false_unless true never = absurd (never refl)
 false_unless false never = refl

@@ -26,9 +26,11 @@ pub mod ParentUpdates
 pub mod Upward
 pub mod Settling
 pub mod Inserting
+pub mod InPlace
 pub mod Entering
 pub mod Valued
 pub mod Revalued
+pub mod ValuedInPlace
 pub mod Refused
 pub mod Lessening
 pub mod Sharing

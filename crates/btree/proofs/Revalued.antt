@@ -14,7 +14,7 @@ use Rattle.btree.specs.Moves.{Replaced}
 use Rattle.btree.specs.Propagates.{node_with, rights_of, run_of}
 use Rattle.btree.specs.Changes.{CanStand}
 
-rest_stands : (pages : List (Option Sector)) (page : ℕ) (node : Node) (place : ℕ) (rest : List ℕ) → place < length node.rows → length rest ≡ rest_length node.layout node.kind → CanStand pages page node → CanStand pages page (with_rest node place rest)
+pub rest_stands : (pages : List (Option Sector)) (page : ℕ) (node : Node) (place : ℕ) (rest : List ℕ) → place < length node.rows → length rest ≡ rest_length node.layout node.kind → CanStand pages page node → CanStand pages page (with_rest node place rest)
 rest_stands pages page node place rest low rest_is can =
     let row = slice_index_or node.rows place [] in
     let key_is : length (key_of node.layout row) ≡ node.layout.key_length = length-take-le node.layout.key_length row (omega (arith, can.lengths place [] low)) in

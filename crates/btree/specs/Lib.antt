@@ -11,6 +11,7 @@ pub mod Moves
 pub mod Nodes
 pub mod Propagates
 pub mod Changes
+pub mod Entering
 pub mod Outcomes
 pub mod Shrinks
 pub mod Told

@@ -10,7 +10,8 @@ ghost use Rattle.btree.specs.Refusals.{IsInsertRefusal};
 ghost use Rattle.btree.specs.Calls.{Agreed, OnNoTree, OnTree, OnTreeChange};
 ghost use Rattle.btree.specs.Told.{TellsDamaged, ExactlyIfSpent, FullIfUsed, FewChanged, FewFilled};
 
-use crate::descend::descend;
+use crate::descend::{descend, follow};
+use crate::enter_leaf::enter_leaf;
 use crate::insert_into_leaf::insert_into_leaf;
 use crate::put_new::first_leaf;
 use crate::tree::Tree;
@@ -19,9 +20,10 @@ use station::Device;
 use std::alloc::Global;
 use tree_pages::RowLayout;
 
-/// Puts a new entry into the tree under a root. The answer is the root's page then, or `None` where the key is there, and then
-/// nothing was changed.
-fn insert_entry<D: Device>(
+/// Puts a new entry into the tree under a root, whatever it takes. Answers and refusals are those of `insert_entry`.
+#[cold]
+#[inline(never)]
+fn insert_slowly<D: Device>(
     alloc: Global,
     pages: &mut PageMap,
     device: &mut D,
@@ -63,6 +65,47 @@ fn insert_entry<D: Device>(
     };
     let entered = insert_into_leaf(pages, device, layout, root, descent, place, key, value)?;
     Ok(Some(entered))
+}
+
+/// Puts a new entry into the tree under a root. The answer is the root's page then, or `None` where the key is there, and then
+/// nothing was changed.
+fn insert_entry<D: Device>(
+    alloc: Global,
+    pages: &mut PageMap,
+    device: &mut D,
+    layout: RowLayout,
+    root: u32,
+    key: &[u8],
+    value: &[u8],
+) -> Result<Option<u32>, PagesError>
+    requires open { IsOpen pages.old }
+    requires sectors { sectors_of pages.old ≤ D.sectors device.old }
+    requires layout { IsRowLayout layout }
+    requires key { length key.now ≡ layout.key_length }
+    requires value { length value.now ≡ layout.value_length }
+    ensures only { OnlyReads D.Device (result ≡ Err PagesError.Device) device.old device.new }
+    ensures inserted { OnTreeChange D.Device layout root pages.old pages.new device.old
+        (λ before levels after. IfOk result (Inserts layout before levels after key.now value.now)) }
+    ensures damaged { OnNoTree D.Device layout root pages.old device.old (TellsDamaged result) }
+    ensures there { result ≡ Ok None → Unchanged pages.old pages.new }
+    ensures changed_pages { OnTree D.Device layout root pages.old device.old (λ levels. FewChanged 42 pages.old pages.new) }
+    ensures filled { OnTree D.Device layout root pages.old device.old (λ levels. FewFilled 42 pages.old pages.new) }
+    ensures committed { SameCommitted pages.old pages.new }
+    ensures catalog { catalog_of pages.new ≡ catalog_of pages.old }
+    ensures agrees { Agreed D.Device pages.old device.old (Agrees pages.new (D.state device.new).disk) }
+    ensures open { IsOpen pages.new }
+    ensures full { FullIfUsed pages.new result }
+    ensures spent { ExactlyIfSpent pages.old result }
+    ensures cause { IfErr result IsInsertRefusal }
+{
+    if root == 0 {
+        return insert_slowly(alloc, pages, device, layout, root, key, value);
+    }
+    let way = follow(alloc, pages, device, layout, root, key)?;
+    if enter_leaf(pages, layout, way.page, key, value)? {
+        return Ok(Some(root));
+    }
+    insert_slowly(alloc, pages, device, layout, root, key, value)
 }
 
 impl Tree {

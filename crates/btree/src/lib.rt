@@ -6,6 +6,7 @@
 mod child;
 mod clear;
 mod descend;
+mod enter_leaf;
 mod entry;
 mod insert;
 mod insert_into_leaf;
@@ -20,6 +21,7 @@ mod rebalance;
 mod removal_outcome;
 mod remove;
 mod replace;
+mod set_value;
 mod shrink;
 mod shrink_page;
 mod sought;

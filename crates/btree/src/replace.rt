@@ -10,7 +10,8 @@ ghost use Rattle.btree.specs.Calls.{Agreed, OnNoTree, OnTree, OnTreeChange};
 ghost use Rattle.btree.specs.Told.{TellsDamaged, OnlyIfSpent, ExactlyIfSpentAt, FewChanged, FewFilled};
 ghost use Rattle.btree.specs.Puts.{PutsRest, NeverIn};
 
-use crate::descend::descend;
+use crate::descend::{descend, follow};
+use crate::set_value::set_value_in;
 use crate::tree::Tree;
 use crate::update_parent::put_back;
 use pages::{PageMap, PagesError};
@@ -51,6 +52,51 @@ impl Tree {
     /// Gives the entry of a key another value. `false` tells that there is none, and then nothing was changed. Refusals are as those of
     /// `insert`, but `Full` doesn't come.
     pub fn replace<D: Device>(
+        &mut self,
+        pages: &mut PageMap,
+        device: &mut D,
+        key: &[u8],
+        value: &[u8],
+    ) -> Result<bool, PagesError>
+        requires open { IsOpen pages.old }
+        requires sectors { sectors_of pages.old ≤ D.sectors device.old }
+        requires value { length value.now ≡ self.old.layout.value_length }
+        ensures only { OnlyReads D.Device (result ≡ Err PagesError.Device) device.old device.new }
+
+        // The entry of the key has the new value, and the pages around the tree stay.
+        ensures replaced { OnTreeChange D.Device self.old.layout self.old.root pages.old pages.new device.old
+            (λ before levels after. result ≡ Ok true → IsSome (entry_with (entries_of self.old.layout levels) key.now) × Becomes self.old.layout before levels after self.old.root (with_value (entries_of self.old.layout levels) (record { key = key.now; value = value.now }))) }
+        ensures missing { OnTree D.Device self.old.layout self.old.root pages.old device.old
+            (λ levels. result ≡ Ok false → entry_with (entries_of self.old.layout levels) key.now ≡ None) }
+        ensures same { result ≡ Ok false → Unchanged pages.old pages.new }
+        ensures damaged { OnNoTree D.Device self.old.layout self.old.root pages.old device.old (TellsDamaged result) }
+        ensures tree { self.new ≡ self.old }
+        ensures changed_pages { FewChanged 1 pages.old pages.new }
+        ensures filled { FewFilled 1 pages.old pages.new }
+        ensures committed { SameCommitted pages.old pages.new }
+        ensures catalog { catalog_of pages.new ≡ catalog_of pages.old }
+        ensures agrees { Agreed D.Device pages.old device.old (Agrees pages.new (D.state device.new).disk) }
+        ensures open { IsOpen pages.new }
+        ensures spent { ExactlyIfSpentAt self.old.root pages.old result }
+        ensures cause { IfErr result IsChangeRefusal }
+    {
+        let alloc = self.alloc;
+        let layout = self.layout();
+        let top = self.root();
+        if top == 0 {
+            return Ok(false);
+        }
+        let way = follow(alloc, pages, device, layout, top, key)?;
+        if set_value_in(pages, layout, way.page, key, value)? {
+            return Ok(true);
+        }
+        self.replace_slowly(pages, device, key, value)
+    }
+
+    /// The same, whatever it takes.
+    #[cold]
+    #[inline(never)]
+    fn replace_slowly<D: Device>(
         &mut self,
         pages: &mut PageMap,
         device: &mut D,

@@ -39,6 +39,36 @@ fn step_in(
     Ok(Some(Child { place, page }))
 }
 
+/// The same on the page of that number, read from the device. Refusals are those of `step_at`.
+#[cold]
+#[inline(never)]
+fn step_read<D: Device>(
+    alloc: Global,
+    pages: &mut PageMap,
+    device: &mut D,
+    layout: RowLayout,
+    page: u32,
+    key: &[u8],
+    right: &mut Option<Key>,
+) -> Result<Option<Child>, PagesError>
+    requires open { IsOpen pages.old }
+    requires sectors { sectors_of pages.old ≤ D.sectors device.old }
+    requires layout { IsRowLayout layout }
+    ensures only { OnlyReads D.Device (result ≡ Err PagesError.Device) device.old device.new }
+    ensures unchanged { Unchanged pages.old pages.new }
+    ensures agrees { Agreed D.Device pages.old device.old (Agrees pages.new (D.state device.new).disk) }
+    ensures open { IsOpen pages.new }
+    ensures step { OnPages D.Device pages.old device.old (λ before. IfOk result (λ child. StepsAt layout before page key.now right.old right.new child)) }
+    ensures damaged { OnPages D.Device pages.old device.old (NoneStands layout page (TellsDamaged result)) }
+    ensures spent { ExactlyIfSpent pages.old result }
+    ensures cause { IfErr result (IsRefusal layout) }
+{
+    match pages.read(device, page)? {
+        Some(bytes) => step_in(alloc, &bytes, layout, key, right),
+        None => Err(PagesError::Damaged),
+    }
+}
+
 /// The child that a key leads to on the page of that number, or none where it is a leaf. The next key to the right is noted.
 /// `Damaged` tells that the page is none of a tree. `Memory` comes only where keys are longer than 128 bytes.
 pub(crate) fn step_at<D: Device>(
@@ -66,8 +96,5 @@ pub(crate) fn step_at<D: Device>(
     if let Some(bytes) = pages.view(page) {
         return step_in(alloc, bytes, layout, key, right);
     }
-    match pages.read(device, page)? {
-        Some(bytes) => step_in(alloc, &bytes, layout, key, right),
-        None => Err(PagesError::Damaged),
-    }
+    step_read(alloc, pages, device, layout, page, key, right)
 }
