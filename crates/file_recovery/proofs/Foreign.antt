@@ -188,10 +188,10 @@ module _ (image : List Sector) where
       let second = in_turns (length image) 1 (sector_at image 1) (codes "COBHALF1") (codes "COBVOL01") (apart (sector_at image 1)) in
       ap (λ x. newest_root 1 x (root_in page_marks (length image) 1 (sector_at image 1))) first ∙ ap (newest_root 1 (turned_sector (root_in half_marks (length image) 0 (sector_at image 0)))) second
 
-  half_foreign : (roots : Roots) → roots_in half_marks 1 image ≡ Ok roots → IsForeign image
+  -- where one store's root is the newest, it is foreign to the other store alone
+  pub half_foreign : (roots : Roots) → roots_in half_marks 1 image ≡ Ok roots → IsForeign image
   half_foreign roots is = both_turn ∙ newest_turns (root_in half_marks (length image) 0 (sector_at image 0)) (root_in half_marks (length image) 1 (sector_at image 1)) roots is
 
-  -- where one store's root is the newest, it is foreign to the other store alone
   pub half_is_foreign : (files : Files) → HoldsHalf image files → IsForeign image
   half_is_foreign files holds = half_foreign holds.2.roots holds.2.reads
 

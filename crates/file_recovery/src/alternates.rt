@@ -18,7 +18,7 @@ use crate::pairs::check_index;
 use btree::Tree;
 use file_trees::{alternate_root, tree_layout};
 use half_store::StoredRow;
-use pages::PageMap;
+use pages::{PageMap, map_bounds};
 use records::{FileSpec, KeyOfReference, StoreFault};
 use station::Device;
 use std::alloc::Global;
@@ -70,8 +70,6 @@ fn check_alternate<D: Device>(
         (λ before. result ≡ Err StoreFault.Damaged → NoIndex before (spec_of file.now) (rows_of rows.now) value.now key seen.old) }
     ensures cause { IfErr result IsReadFault }
 {
-    // How many keys there are is needed below.
-    let _count = file.alternates.len();
     let layout = tree_layout(file, KeyOfReference::Alternate(key));
     let tree = Tree::new(alloc, layout, alternate_root(value, key));
     check_pages(alloc, &tree, pages, device, seen)?;
@@ -100,8 +98,7 @@ pub(crate) fn check_alternates<D: Device>(
         (λ before. result ≡ Err StoreFault.Damaged → NoIndexes before (spec_of file.now) (rows_of rows.now) value.now (length file.now.alternates.items) seen.old) }
     ensures cause { IfErr result IsReadFault }
 {
-    // How many page numbers there are is needed below.
-    let _page_count = pages.page_count();
+    map_bounds();
     let count = file.alternates.len() as u8;
     for key in 0..count {
         check_alternate(alloc, file, value, rows, key, pages, device, seen)?;

@@ -16,7 +16,7 @@ use crate::walking::{first_in, next_in};
 use btree::{Entry, Tree};
 use file_trees::{LISTING_BYTES, NAME_BYTES};
 use half_store::StoredFile;
-use pages::PageMap;
+use pages::{PageMap, map_bounds};
 use records::StoreFault;
 use station::Device;
 use std::alloc::Global;
@@ -87,8 +87,7 @@ fn read_files<D: Device>(
         (λ levels. result ≡ Err StoreFault.Damaged → NoFiles (pages_on D.Device pages.old device.old) generation (entries_of catalog.now.layout levels) seen.old) }
     ensures cause { IfErr result IsReadFault }
 {
-    // How many page numbers there are is needed below.
-    let _page_count = pages.page_count();
+    map_bounds();
     let mut files = Vec::new(alloc);
     let mut next = first_in(catalog, pages, device)?;
     for _turn in 0..MOST_FILES {
@@ -124,8 +123,7 @@ pub(crate) fn read_catalog<D: Device>(
     ensures damaged { Agreed D.Device pages.old device.old (result ≡ Err StoreFault.Damaged → NoCatalog (map_now pages.old (D.state device.old).disk.present) generation seen.old) }
     ensures cause { IfErr result IsReadFault }
 {
-    // How many page numbers there are is needed below.
-    let _page_count = pages.page_count();
+    map_bounds();
     let catalog = catalog_tree(alloc, pages.catalog());
     check_pages(alloc, &catalog, pages, device, seen)?;
     read_files(alloc, &catalog, generation, pages, device, seen)

@@ -15,7 +15,7 @@ use crate::reading::read_rows;
 use btree::{Entry, Tree};
 use file_trees::{next_arrival, prime_root, tree_layout};
 use half_store::StoredFile;
-use pages::PageMap;
+use pages::{PageMap, map_bounds};
 use records::{KeyOfReference, StoreFault};
 use station::Device;
 use std::alloc::Global;
@@ -48,8 +48,7 @@ pub(crate) fn check_file<D: Device>(
     ensures damaged { OnPages D.Device pages.old device.old (λ before. result ≡ Err StoreFault.Damaged → NoFile before generation entry.now seen.old) }
     ensures cause { IfErr result IsReadFault }
 {
-    // How many page numbers there are is needed below.
-    let _page_count = pages.page_count();
+    map_bounds();
     let value = entry.value();
     let Some(file) = read_listing(alloc, entry.key(), value)? else {
         return Err(StoreFault::Damaged);

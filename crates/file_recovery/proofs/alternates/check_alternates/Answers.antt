@@ -36,13 +36,11 @@ loop-key-preserved g c =
       rest = λ up honest agrees.
           let same = pages_kept g.D.Device ⊥ c.args.pages.now loop.pages c.args.device.now loop.device looks honest in
           let index = c.in_ok-check_alternate.ensures.index up (looks.only.honest.0 honest) (looks.agrees honest agrees) in
-          let few = c.page_count-page_count.ensures.few c.requires.open c.requires.unspent in
-          let many = c.page_count-page_count.ensures.pages (g.D.Device.state c.args.device.now).disk.present in
-          let counted = c.page_count-page_count.ensures.count in
+          let few = (c.map_bounds.ensures.open c.args.pages.now (g.D.Device.state c.args.device.now).disk.present c.requires.open c.requires.unspent).1 in
           let test = c.loop-key-test.true in
           let short = few_alternates spec c.args.file.now.sound in
           let len = c.len-count.ensures in
-          goes_on before spec rows value (length c.args.file.now.alternates.items) loop.key c.args.seen.now loop.seen c.check_alternate.new.seen (omega (arith, few, many, counted)) (omega (arith, test, short, len)) (loop.invariant.rest up honest agrees)
+          goes_on before spec rows value (length c.args.file.now.alternates.items) loop.key c.args.seen.now loop.seen c.check_alternate.new.seen (omega (arith, few)) (omega (arith, test, short, len)) (loop.invariant.rest up honest agrees)
           (subst (λ (p : List (Option Sector)). FindsIndex p spec rows value loop.key loop.seen c.check_alternate.new.seen) same index);
     }
 

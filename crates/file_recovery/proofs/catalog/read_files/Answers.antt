@@ -69,10 +69,8 @@ loop-turn-preserved g c =
           let is : entry_at loop._turn entries ≡ Some c.in-Some.entry = sym (loop.invariant.next_is honest agrees levels holds) ∙ c.in-Some.is in
           let adds = c.in_ok-add_file-in-Some.ensures.file (looks.only.honest.0 honest) (looks.agrees honest agrees) in
           let finds = subst (λ (p : List (Option Sector)). FindsFile p c.args.generation c.in-Some.entry adds.one loop.seen c.add_file.new.seen) same adds.finds in
-          let few = c.page_count-page_count.ensures.few c.requires.open c.requires.unspent in
-          let counted = c.page_count-page_count.ensures.count in
-          let many = c.page_count-page_count.ensures.pages (g.D.Device.state c.args.device.now).disk.present in
-          goes_on before c.args.generation entries loop._turn c.in-Some.entry is adds.one c.args.seen.now loop.seen c.add_file.new.seen (omega (arith, few, many, counted)) (loop.invariant.rest honest agrees levels holds) finds;
+          let few = (c.map_bounds.ensures.open c.args.pages.now (g.D.Device.state c.args.device.now).disk.present c.requires.open c.requires.unspent).1 in
+          goes_on before c.args.generation entries loop._turn c.in-Some.entry is adds.one c.args.seen.now loop.seen c.add_file.new.seen (omega (arith, few)) (loop.invariant.rest honest agrees levels holds) finds;
     }
 
 pub returns-in-None-clause-files : goal.returns-in-None-clause-files

@@ -32,10 +32,8 @@ use Rattle.file_recovery.proofs.checked_file.check_file.Goals as goal
 pub returns-in_default-clause-damaged : goal.returns-in_default-clause-damaged
 returns-in_default-clause-damaged g c = λ honest agrees told kept found can.
     let before : List (Option Sector) = (map_now c.args.pages.now (g.D.Device.state c.args.device.now).disk.present).pages in
-    let few = c.page_count-page_count.ensures.few c.requires.open c.requires.unspent in
-    let many = c.page_count-page_count.ensures.pages (g.D.Device.state c.args.device.now).disk.present in
-    let counted = c.page_count-page_count.ensures.count in
-    let small : length before ≤ 2 ^ 20 = omega (arith, few, many, counted) in
+    let few = (c.map_bounds.ensures.open c.args.pages.now (g.D.Device.state c.args.device.now).disk.present c.requires.open c.requires.unspent).1 in
+    let small : length before ≤ 2 ^ 20 = omega (arith, few) in
     c.in_ok-file.ensures.none (ap (λ (o : Option FileSpec). Ok o) (is_none c.in_ok-file.field-0 c.in_default.not-Some)) kept.named.name _ found.named.name
     (own_listing before c.args.generation c.args.entry.now kept small c.requires.generation found)
     (c.key.ensures ∙ own_key before c.args.generation c.args.entry.now kept small c.requires.generation found)
@@ -44,10 +42,8 @@ returns-in_default-clause-damaged g c = λ honest agrees told kept found can.
 pub returns-then-not-is_next-clause-damaged : goal.returns-then-not-is_next-clause-damaged
 returns-then-not-is_next-clause-damaged g c = λ honest agrees told kept found can.
     let before : List (Option Sector) = (map_now c.args.pages.now (g.D.Device.state c.args.device.now).disk.present).pages in
-    let few = c.page_count-page_count.ensures.few c.requires.open c.requires.unspent in
-    let many = c.page_count-page_count.ensures.pages (g.D.Device.state c.args.device.now).disk.present in
-    let counted = c.page_count-page_count.ensures.count in
-    let small : length before ≤ 2 ^ 20 = omega (arith, few, many, counted) in
+    let few = (c.map_bounds.ensures.open c.args.pages.now (g.D.Device.state c.args.device.now).disk.present c.requires.open c.requires.unspent).1 in
+    let small : length before ≤ 2 ^ 20 = omega (arith, few) in
     let next : c.next_arrival-next.result ≡ kept.named.file.next_arrival =
     c.next_arrival-next.ensures ∙ ap (λ (v : List ℕ). big_number 8 (drop 75 v)) c.value-value.ensures ∙ sym (own_next before c.args.generation c.args.entry.now kept small c.requires.generation found) in
     let some = found.named.file.next in
@@ -88,10 +84,8 @@ returns-in_err-check_pages-clause-damaged g c = λ honest agrees refused.
     let file = c.in-Some.file in
     let spec = spec_of file in
     let before : List (Option Sector) = (map_now c.args.pages.now (g.D.Device.state c.args.device.now).disk.present).pages in
-    let few = c.page_count-page_count.ensures.few c.requires.open c.requires.unspent in
-    let many = c.page_count-page_count.ensures.pages (g.D.Device.state c.args.device.now).disk.present in
-    let counted = c.page_count-page_count.ensures.count in
-    let small : length before ≤ 2 ^ 20 = omega (arith, few, many, counted) in
+    let few = (c.map_bounds.ensures.open c.args.pages.now (g.D.Device.state c.args.device.now).disk.present c.requires.open c.requires.unspent).1 in
+    let small : length before ≤ 2 ^ 20 = omega (arith, few) in
     let heading = heading_read entry c.key.result.now c.value-value.result.now c.key.ensures c.value-value.ensures c.args.generation c.in_ok-file.field-0 file c.next_arrival-next.result c.in-Some.is c.in_ok-file.ensures.some c.next_arrival-next.ensures (c.is_next.ensures.yes c.if-not-is_next.false) in
     let tree : Rooted = c.new-tree.result in
     let layout : tree.layout ≡ layout_under spec Prime = c.new-tree.ensures.layout ∙ c.tree_layout-layout.ensures.layout in
@@ -108,10 +102,8 @@ returns-in_err-rows-clause-damaged g c = λ honest agrees refused.
     let file = c.in-Some.file in
     let spec = spec_of file in
     let before : List (Option Sector) = (map_now c.args.pages.now (g.D.Device.state c.args.device.now).disk.present).pages in
-    let few = c.page_count-page_count.ensures.few c.requires.open c.requires.unspent in
-    let many = c.page_count-page_count.ensures.pages (g.D.Device.state c.args.device.now).disk.present in
-    let counted = c.page_count-page_count.ensures.count in
-    let small : length before ≤ 2 ^ 20 = omega (arith, few, many, counted) in
+    let few = (c.map_bounds.ensures.open c.args.pages.now (g.D.Device.state c.args.device.now).disk.present c.requires.open c.requires.unspent).1 in
+    let small : length before ≤ 2 ^ 20 = omega (arith, few) in
     let heading = heading_read entry c.key.result.now c.value-value.result.now c.key.ensures c.value-value.ensures c.args.generation c.in_ok-file.field-0 file c.next_arrival-next.result c.in-Some.is c.in_ok-file.ensures.some c.next_arrival-next.ensures (c.is_next.ensures.yes c.if-not-is_next.false) in
     let tree : Rooted = c.new-tree.result in
     let layout : tree.layout ≡ layout_under spec Prime = c.new-tree.ensures.layout ∙ c.tree_layout-layout.ensures.layout in
@@ -132,10 +124,8 @@ returns-in_err-check_alternates-clause-damaged g c = λ honest agrees refused.
     let file = c.in-Some.file in
     let spec = spec_of file in
     let before : List (Option Sector) = (map_now c.args.pages.now (g.D.Device.state c.args.device.now).disk.present).pages in
-    let few = c.page_count-page_count.ensures.few c.requires.open c.requires.unspent in
-    let many = c.page_count-page_count.ensures.pages (g.D.Device.state c.args.device.now).disk.present in
-    let counted = c.page_count-page_count.ensures.count in
-    let small : length before ≤ 2 ^ 20 = omega (arith, few, many, counted) in
+    let few = (c.map_bounds.ensures.open c.args.pages.now (g.D.Device.state c.args.device.now).disk.present c.requires.open c.requires.unspent).1 in
+    let small : length before ≤ 2 ^ 20 = omega (arith, few) in
     let heading = heading_read entry c.key.result.now c.value-value.result.now c.key.ensures c.value-value.ensures c.args.generation c.in_ok-file.field-0 file c.next_arrival-next.result c.in-Some.is c.in_ok-file.ensures.some c.next_arrival-next.ensures (c.is_next.ensures.yes c.if-not-is_next.false) in
     let tree : Rooted = c.new-tree.result in
     let layout : tree.layout ≡ layout_under spec Prime = c.new-tree.ensures.layout ∙ c.tree_layout-layout.ensures.layout in
