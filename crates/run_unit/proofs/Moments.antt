@@ -23,7 +23,7 @@ use Rattle.machine.specs.declared.ended.Refusal.TheVariants as refused
 use Rattle.machine.specs.Prefix.{files_at, last_files, NoteComes, HoldsSoFar, TakesLines, Moment}
 use Rattle.machine.specs.Ends.{code_of, day_of, Finished, EndsAs, IsOwnEnd}
 use Rattle.machine.proofs.Moments.{nothing_taken}
-use Rattle.machine.proofs.Steps.{tells_more, files_here}
+use Rattle.machine.proofs.Beginnings.{tells_more, files_here}
 use Rattle.run_unit.specs.Alone.{Alone, FinishedAlone, EndsAlone, RunsAlone}
 use Rattle.run_unit.specs.Ends.{ended_of}
 use Rattle.run_unit.specs.Volume.{EndsOver, RunsOver}

@@ -15,7 +15,8 @@ use Rattle.run_unit.specs.Ends.{of_opening}
 use Rattle.source_tree.specs.State as end
 use Rattle.data_instructions.specs.Faults.{fault_of}
 use Rattle.machine.specs.Prefix.{Moment}
-use Rattle.run_unit.specs.Volume.{EndsOver, RunsOver, RunsOnVolume, Unopened, Opened}
+use Rattle.half_store.specs.Half.{Holds as HoldsHalf}
+use Rattle.run_unit.specs.Volume.{EndsOver, IsUnopened, RunsOver, RunsOnVolume, Unopened, Opened, RunsOnHalves, NotOpened, HeldFiles}
 use Rattle.run_unit.specs.declared.ended.Refusal.TheVariants.{Image, Device, Full, Damaged, Memory}
 use Rattle.run_unit.specs.declared.ended.Ended.{Ended}
 use Rattle.run_unit.specs.declared.ended.Ended.TheVariants.{Stopped, Budget, Faulted, Refused}
@@ -33,6 +34,15 @@ read_cause store.Spent (inl is) told = cc
 read_cause store.Spent (inr is) told = cc
 read_cause store.Layout (inl is) told = cc
 read_cause store.Layout (inr is) told = cc
+
+-- whatever refuses an opening, the run ends as one over a volume that isn't opened
+pub unopened : (fault : StoreFault) → IsUnopened (Refused (of_opening fault))
+unopened store.Device = tt
+unopened store.Memory = tt
+unopened store.Full = tt
+unopened store.Damaged = tt
+unopened store.Spent = tt
+unopened store.Layout = tt
 
 -- a sync takes no line, so that a run is given the same after it
 pub given_after : (files : Files) (old mid : State) (day : List ℕ) (budget : ℕ) → mid ≡ synced old → given_over files old day budget ≡ given_over files mid day budget
@@ -72,6 +82,15 @@ on_volume_then holds run past looked later old mid new ended first is (Unopened 
 on_volume_then holds run past looked later old mid new ended first is (Opened opened spans runs) =
     Opened opened (then past looked opened (Opening old) first.spans (weaker looked opened (Opening mid) (Opening old) (opening_then old mid first.now) spans))
     (subst (λ (s : State). RunsOver holds run opened s ended later new) (synced_after old mid is) runs)
+
+pub on_halves_then : (run : Files → Run) (past looked later : List State) (old mid new : State) (ended : Ended)
+    → Through past looked mid (Opening old) → (mid ≡ old) ⊎ (mid ≡ synced old) → RunsOnHalves run looked mid ended later new
+    → RunsOnHalves run past old ended later new
+on_halves_then run past looked later old mid new ended first is (NotOpened why through) =
+    NotOpened why (goes past looked later mid new (Opening old) first (weakens looked later new (Opening mid) (Opening old) (opening_then old mid first.now) through))
+on_halves_then run past looked later old mid new ended first is (HeldFiles files held runs) =
+    HeldFiles files (subst (λ (image : List Sector). HoldsHalf image files) (present_after old mid is) held)
+    (on_volume_then HoldsHalf (run files) past looked later old mid new ended first is runs)
 
 -- ---- where what an image holds by one store, it holds by either
 

@@ -1,10 +1,13 @@
 -- Runs of programs with files, over a volume.
-use Rattle.std.specs.Prelude.{◌≡◌, ◌⊎◌, List}
+use Rattle.std.specs.Prelude.{◌≡◌, ◌⊎◌, List, Ok}
 use Rattle.station.specs.Disk.{Sector}
 use Rattle.station.specs.State.{State, synced}
 use Rattle.station.specs.History.{Spans, Through}
 use Rattle.station.specs.Opening.{Opening}
+use Rattle.roots.specs.declared.pair.Roots.{Roots}
+use Rattle.roots.specs.Reading.{roots_in}
 use Rattle.records.specs.Files.{Files}
+use Rattle.half_store.specs.Half.{marks as half_marks, Holds as HoldsHalf}
 use Rattle.source_tree.specs.State as end
 use Rattle.source_tree.specs.Meaning.{Run}
 use Rattle.data_instructions.specs.Faults.{fault_of}
@@ -44,3 +47,13 @@ pub record RunsOver (holds : List Sector → Files → Type 0) (run : Run) (past
 pub data RunsOnVolume (holds : List Sector → Files → Type 0) (run : Run) (past : List State) (old : State) (ended : Ended) (later : List State) (new : State) : Type 0 where
   Unopened : IsUnopened ended → Through past later new (Opening old) → RunsOnVolume holds run past old ended later new
   Opened : (opened : List State) → Spans past opened (Opening old) → RunsOver holds run opened (synced old) ended later new → RunsOnVolume holds run past old ended later new
+
+-- the newest root of an image is one of a volume of halves
+abbrev pub IsOfHalves : List Sector → Type 0
+IsOfHalves image = (roots : Roots) × (roots_in half_marks 1 image ≡ Ok roots)
+
+-- A call that opens a volume of halves, and does a run over the files that it finds. Such a volume is read whole when it is opened: either it
+-- isn't opened, and nothing is told, or it held files, and the call is one with these.
+pub data RunsOnHalves (run : Files → Run) (past : List State) (old : State) (ended : Ended) (later : List State) (new : State) : Type 0 where
+  NotOpened : IsUnopened ended → Through past later new (Opening old) → RunsOnHalves run past old ended later new
+  HeldFiles : (files : Files) → HoldsHalf old.disk.present files → RunsOnVolume HoldsHalf (run files) past old ended later new → RunsOnHalves run past old ended later new

@@ -11,7 +11,7 @@ ghost use Rattle.machine.specs.Ends.{IsDigit};
 ghost use Rattle.run_unit.specs.Alone.{RunsAlone};
 ghost use Rattle.run_unit.specs.Images.{IsImageOf};
 ghost use Rattle.run_unit.specs.Ends.{HasCause, IsCauseOf, ForImage, IfUnbegun, IsLoaded};
-ghost use Rattle.run_unit.specs.Volume.{RunsOnVolume};
+ghost use Rattle.run_unit.specs.Volume.{RunsOnVolume, RunsOnHalves, IsOfHalves};
 
 use crate::ended::{Ended, Refusal};
 use crate::volume::{run_alone, run_on_volume};
@@ -62,6 +62,11 @@ pub fn run_image<S: Station>(
         (files : Files) → HoldsFiles (S.state station.old).disk.present files →
         (run : Run) → Runs code (given_over files (S.state station.old) day budget) run →
         RunsOnVolume HoldsFiles run (S.history station.old) (S.state station.old) result (S.history station.new) (S.state station.new) }
+    // An image with files, over a volume of halves, of which nothing else is presumed: it is read whole when it is opened, so that where it is
+    // opened it held files, and the run is the one with these.
+    ensures halves { S.is_honest station.old → (code : Code) → IsImageOf image.now code → code.files ≢ [] → IsOfHalves (S.state station.old).disk.present →
+        (run : Files → Run) → ((files : Files) → Runs code (given_over files (S.state station.old) day budget) (run files)) →
+        RunsOnHalves run (S.history station.old) (S.state station.old) result (S.history station.new) (S.state station.new) }
     // A volume that holds files isn't told to be damaged.
     ensures sound { S.is_honest station.old → (files : Files) → HoldsFiles (S.state station.old).disk.present files → result ≢ Ended.Refused Refusal.Damaged }
 {

@@ -11,7 +11,7 @@ ghost use Rattle.run_unit.specs.Faults.{fault_of};
 ghost use Rattle.run_unit.specs.Trees.{IsTreeOf, IsFaultOf};
 ghost use Rattle.run_unit.specs.Ends.{IsEndOfImage, ForSource};
 ghost use Rattle.run_unit.specs.Alone.{RunsAlone};
-ghost use Rattle.run_unit.specs.Volume.{RunsOnVolume};
+ghost use Rattle.run_unit.specs.Volume.{RunsOnVolume, RunsOnHalves, IsOfHalves};
 ghost use Rattle.run_unit.specs.declared.fault.CompileError.TheVariants.{Memory};
 
 use crate::compiling::compile;
@@ -54,6 +54,10 @@ pub fn run_source<S: Station>(
     ensures volume { S.is_honest station.old → (tree : Program) → IsTreeOf source.now tree → tree.selects ≢ [] →
         (files : Files) → HoldsFiles (S.state station.old).disk.present files →
         IfOk result (λ ended. RunsOnVolume HoldsFiles (meaning tree (given_over files (S.state station.old) day budget)) (S.history station.old) (S.state station.old) ended (S.history station.new) (S.state station.new)) }
+    // A program with files, over a volume of halves, of which nothing else is presumed: it is read whole when it is opened, so that where it is
+    // opened it held files, and the run is what the tree means with these.
+    ensures halves { S.is_honest station.old → (tree : Program) → IsTreeOf source.now tree → tree.selects ≢ [] → IsOfHalves (S.state station.old).disk.present →
+        IfOk result (λ ended. RunsOnHalves (λ files. meaning tree (given_over files (S.state station.old) day budget)) (S.history station.old) (S.state station.old) ended (S.history station.new) (S.state station.new)) }
     // A volume that holds files isn't told to be damaged.
     ensures sound { S.is_honest station.old → (files : Files) → HoldsFiles (S.state station.old).disk.present files → IfOk result (λ ended. ended ≢ Ended.Refused Refusal.Damaged) }
 {

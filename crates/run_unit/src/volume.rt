@@ -10,7 +10,7 @@ ghost use Rattle.code_image.specs.Table.{Runs};
 ghost use Rattle.machine.specs.Ends.{IsDigit};
 ghost use Rattle.run_unit.specs.Alone.{RunsAlone};
 ghost use Rattle.run_unit.specs.Ends.{HasCause, IsRun};
-ghost use Rattle.run_unit.specs.Volume.{RunsOnVolume};
+ghost use Rattle.run_unit.specs.Volume.{RunsOnVolume, RunsOnHalves, IsOfHalves};
 
 use crate::ended::{Ended, Refusal};
 use crate::no_volume::NoVolume;
@@ -71,6 +71,8 @@ fn run_on_halves<S: Station>(
     ensures volume { S.is_honest station.old → (files : Files) → HoldsHalf (S.state station.old).disk.present files →
         (run : Run) → Runs code (given_over files (S.state station.old) day budget) run →
         RunsOnVolume HoldsHalf run (S.history station.old) (S.state station.old) result (S.history station.new) (S.state station.new) }
+    ensures halves { S.is_honest station.old → (run : Files → Run) → ((files : Files) → Runs code (given_over files (S.state station.old) day budget) (run files)) →
+        RunsOnHalves run (S.history station.old) (S.state station.old) result (S.history station.new) (S.state station.new) }
     ensures sound { S.is_honest station.old → (files : Files) → HoldsHalf (S.state station.old).disk.present files → result ≢ Ended.Refused Refusal.Damaged }
 {
     one_list_of_files();
@@ -96,6 +98,9 @@ pub(crate) fn run_on_volume<S: Station>(
     ensures volume { S.is_honest station.old → (files : Files) → HoldsFiles (S.state station.old).disk.present files →
         (run : Run) → Runs code (given_over files (S.state station.old) day budget) run →
         RunsOnVolume HoldsFiles run (S.history station.old) (S.state station.old) result (S.history station.new) (S.state station.new) }
+    ensures halves { S.is_honest station.old → IsOfHalves (S.state station.old).disk.present →
+        (run : Files → Run) → ((files : Files) → Runs code (given_over files (S.state station.old) day budget) (run files)) →
+        RunsOnHalves run (S.history station.old) (S.state station.old) result (S.history station.new) (S.state station.new) }
     ensures sound { S.is_honest station.old → (files : Files) → HoldsFiles (S.state station.old).disk.present files → result ≢ Ended.Refused Refusal.Damaged }
 {
     match PagedStore::open(alloc, station, CACHED_PAGES) {

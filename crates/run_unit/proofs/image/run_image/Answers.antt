@@ -13,3 +13,10 @@ pub returns-else-is_empty-clause-volume : goal.returns-else-is_empty-clause-volu
 returns-else-is_empty-clause-volume g c = λ honest code is some files held run runs.
     let given = given_over files (g.S.Device.state c.args.station.now) c.args.day c.args.budget in
     c.run_on_volume.ensures.volume honest files held run (subst (λ (code : Code). Runs code given run) (sym (c.in-Ok.ensures.only code is)) runs)
+
+pub returns-else-is_empty-clause-halves : goal.returns-else-is_empty-clause-halves
+returns-else-is_empty-clause-halves g c = λ honest code is some halves run runs.
+    c.run_on_volume.ensures.halves honest halves run
+    (λ files.
+    let given = given_over files (g.S.Device.state c.args.station.now) c.args.day c.args.budget in
+    subst (λ (code : Code). Runs code given (run files)) (sym (c.in-Ok.ensures.only code is)) (runs files))

@@ -38,3 +38,11 @@ returns-clause-volume g c = λ honest tree is some files held.
     let given = given_over files (g.S.Device.state c.args.station.now) c.args.day c.args.budget in
     c.run_image.ensures.volume honest has.code (subst (λ bytes. IsImageOf bytes has.code) (sym c.as_slice.ensures.value) has.is)
     (λ none. some (none_too tree.selects has.code.files (sym has.files) none)) files held (meaning tree given) (has.runs given)
+
+pub returns-clause-halves : goal.returns-clause-halves
+returns-clause-halves g c = λ honest tree is some halves.
+    let has = c.in_ok-image.ensures.only tree is in
+    c.run_image.ensures.halves honest has.code (subst (λ bytes. IsImageOf bytes has.code) (sym c.as_slice.ensures.value) has.is)
+    (λ none. some (none_too tree.selects has.code.files (sym has.files) none)) halves
+    (λ files. meaning tree (given_over files (g.S.Device.state c.args.station.now) c.args.day c.args.budget))
+    (λ files. has.runs (given_over files (g.S.Device.state c.args.station.now) c.args.day c.args.budget))

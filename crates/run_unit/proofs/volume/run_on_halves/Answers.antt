@@ -5,8 +5,10 @@ use Rattle.half_store.specs.Stands.{Stands}
 use Rattle.half_store.specs.Stored.{files_of}
 use Rattle.source_tree.specs.Given.{Given}
 use Rattle.code_image.specs.Table.{Runs}
+use Rattle.run_unit.specs.declared.ended.Refusal.{Refusal}
 use Rattle.run_unit.specs.declared.ended.Ended.TheVariants.{Refused}
-use Rattle.run_unit.proofs.Opening.{read_cause, given_after, ran_on}
+use Rattle.run_unit.specs.Volume.{IsUnopened, NotOpened, HeldFiles}
+use Rattle.run_unit.proofs.Opening.{read_cause, unopened, given_after, ran_on}
 use Rattle.run_unit.proofs.volume.run_on_halves.Goals as goal
 
 pub returns-in-Ok-clause-volume : goal.returns-in-Ok-clause-volume
@@ -23,6 +25,19 @@ returns-in-Ok-clause-volume g c = λ honest files held run runs.
       there = subst (λ (l : Files). Stands c.in-Ok.store mid.disk l) own (c.in-Ok.ensures.stands honest);
     }) run (subst (λ (given : Given). Runs c.args.code given run) same runs))
 
+pub returns-in-Ok-clause-halves : goal.returns-in-Ok-clause-halves
+returns-in-Ok-clause-halves g c = λ honest run runs.
+    let s = g.S.Device.state c.args.station.now in
+    let mid = g.S.Device.state c.open.new.device in
+    let files = files_of c.in-Ok.store.files.items in
+    let same = given_after files s mid c.args.day c.args.budget (c.in-Ok.ensures.state honest) in
+    HeldFiles files (c.in-Ok.ensures.holds honest)
+    (ran_on Holds (run files) (g.S.Device.history c.args.station.now) (g.S.Device.history c.open.new.device) (g.S.Device.history c.run_over.new.station)
+    s mid (g.S.Device.state c.run_over.new.station) c.run_over.result
+    (c.open.ensures.moments honest) (c.in-Ok.ensures.state honest)
+    (c.run_over.ensures.runs files (record { honest = c.open.ensures.only.honest.0 honest; there = c.in-Ok.ensures.stands honest }) (run files)
+    (subst (λ (given : Given). Runs c.args.code given (run files)) same (runs files))))
+
 pub returns-in-Ok-clause-sound : goal.returns-in-Ok-clause-sound
 returns-in-Ok-clause-sound g c = λ honest files held.
     c.run_over.ensures.sound (files_of c.in-Ok.store.files.items) (record { honest = c.open.ensures.only.honest.0 honest; there = c.in-Ok.ensures.stands honest })
@@ -30,3 +45,7 @@ returns-in-Ok-clause-sound g c = λ honest files held.
 pub returns-in-Err-clause-sound : goal.returns-in-Err-clause-sound
 returns-in-Err-clause-sound g c = λ honest files held is.
     read_cause c.in-Err.fault (c.in-Err.ensures.opens honest files held) (ap Refused (sym c.of_opening.ensures) ∙ is)
+
+pub returns-in-Err-clause-halves : goal.returns-in-Err-clause-halves
+returns-in-Err-clause-halves g c = λ honest run runs.
+    NotOpened (subst (λ (refusal : Refusal). IsUnopened (Refused refusal)) (sym c.of_opening.ensures) (unopened c.in-Err.fault)) (c.open.ensures.moments honest)

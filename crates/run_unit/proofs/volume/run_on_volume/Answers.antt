@@ -3,13 +3,15 @@ use Rattle.station.specs.Disk.{Sector}
 use Rattle.half_store.specs.Half.{Holds as HoldsHalf}
 use Rattle.file_trees.specs.Volume.{Holds as HoldsTrees}
 use Rattle.file_recovery.specs.Recovered.{HoldsFiles}
-use Rattle.file_recovery.proofs.Foreign.{half_is_foreign}
+use Rattle.file_recovery.proofs.Foreign.{half_foreign, half_is_foreign}
 use Rattle.file_recovery.proofs.TwoStores.{either_cause}
 use Rattle.half_store.specs.Opened.{IsReadCause}
 use Rattle.source_tree.specs.Given.{Given}
 use Rattle.code_image.specs.Table.{Runs}
+use Rattle.run_unit.specs.declared.ended.Refusal.{Refusal}
 use Rattle.run_unit.specs.declared.ended.Ended.TheVariants.{Refused}
-use Rattle.run_unit.proofs.Opening.{read_cause, no_layout, given_after, given_later, present_after, ran_on, on_volume_then, on_either}
+use Rattle.run_unit.specs.Volume.{IsUnopened, NotOpened}
+use Rattle.run_unit.proofs.Opening.{read_cause, unopened, no_layout, given_after, given_later, present_after, ran_on, on_volume_then, on_halves_then, on_either}
 use Rattle.run_unit.proofs.volume.run_on_volume.Goals as goal
 
 pub returns-in-Ok-clause-volume : goal.returns-in-Ok-clause-volume
@@ -27,6 +29,10 @@ returns-in-Ok-clause-volume g c = λ honest files held run runs.
     (subst (λ (given : Given). Runs c.args.code given run) same runs))))
     (λ half. absurd (c.in-Ok.ensures.foreign honest (half_is_foreign s.disk.present files half)))
     held
+
+pub returns-in-Ok-clause-halves : goal.returns-in-Ok-clause-halves
+returns-in-Ok-clause-halves g c = λ honest halves run runs.
+    absurd (c.in-Ok.ensures.foreign honest (half_foreign (g.S.Device.state c.args.station.now).disk.present halves.0 halves.1))
 
 pub returns-in-Ok-clause-sound : goal.returns-in-Ok-clause-sound
 returns-in-Ok-clause-sound g c = λ honest files held.
@@ -54,6 +60,16 @@ returns-in-Layout-clause-volume g c = λ honest files held run runs.
     (subst (λ (given : Given). Runs c.args.code given run) (given_later files s mid c.args.day c.args.budget as_was) runs))))
     held
 
+pub returns-in-Layout-clause-halves : goal.returns-in-Layout-clause-halves
+returns-in-Layout-clause-halves g c = λ honest halves run runs.
+    let s = g.S.Device.state c.args.station.now in
+    let mid = g.S.Device.state c.open.new.device in
+    let as_was = c.in-Err.ensures.unwritten honest in
+    on_halves_then run (g.S.Device.history c.args.station.now) (g.S.Device.history c.open.new.device) (g.S.Device.history c.run_on_halves.new.station)
+    s mid (g.S.Device.state c.run_on_halves.new.station) c.run_on_halves.result (c.open.ensures.moments honest) as_was
+    (c.run_on_halves.ensures.halves (c.open.ensures.honest.0 honest) run
+    (λ files. subst (λ (given : Given). Runs c.args.code given (run files)) (given_later files s mid c.args.day c.args.budget as_was) (runs files)))
+
 pub returns-in-Layout-clause-sound : goal.returns-in-Layout-clause-sound
 returns-in-Layout-clause-sound g c = λ honest files held.
     let s = g.S.Device.state c.args.station.now in
@@ -73,3 +89,7 @@ returns-in_default-clause-sound g c = λ honest files held is.
     read_cause c.in-Err.fault
     (either_cause image c.in-Err.fault files c.in_default.not-Layout (c.in-Err.ensures.opens honest files) (c.in-Err.ensures.foreign honest) held)
     (ap Refused (sym c.of_opening.ensures) ∙ is)
+
+pub returns-in_default-clause-halves : goal.returns-in_default-clause-halves
+returns-in_default-clause-halves g c = λ honest halves run runs.
+    NotOpened (subst (λ (refusal : Refusal). IsUnopened (Refused refusal)) (sym c.of_opening.ensures) (unopened c.in-Err.fault)) (c.open.ensures.moments honest)
