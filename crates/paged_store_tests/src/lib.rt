@@ -33,4 +33,6 @@ mod stop_tests;
 #[cfg(test)]
 mod volume;
 #[cfg(test)]
+mod waiting;
+#[cfg(test)]
 mod walk_tests;

@@ -5,14 +5,15 @@ use crate::model::{Change, ModelFile, Verb};
 use crate::recovered::are_files;
 use crate::shapes::{LONGEST, Shape, journal, slots, stock};
 use crate::volume::{Volume, sectors_of, station_with};
+use crate::waiting::{leave_drawn, waiting_sectors};
 use file_recovery::recover;
 use records::{Outcome, Side, StoreFault};
 use station::MemoryStation;
 use std::alloc::Global;
 use std::process::Abort;
 
-/// So many crashes are tried of each stop: the first leaves the stable sectors, the second the last ones, the others are drawn.
-const CRASHES: u32 = 16;
+/// So many crashes by drawn choices are tried of each stop, besides the two by choices that are all 0, or all 1.
+const DRAWN: u32 = 200;
 
 /// More calls than any change makes.
 const MOST_CALLS: u64 = 100;
@@ -152,15 +153,8 @@ impl Turn {
         false
     }
 
-    // What a crash leaves, by this choice or by drawn ones: the files before, or those after.
-    fn leaves(&mut self, rt: &impl Abort, station: &mut MemoryStation, crash: u32, is_done: bool) {
-        let mut choices = [crash.min(1); 64];
-        for choice in choices.iter_mut() {
-            if crash > 1 {
-                *choice = self.draw.below(3);
-            }
-        }
-        station.crash(&choices);
+    // Recovery finds the files before, or those after; those after where the change was answered.
+    fn recovers(&self, rt: &impl Abort, station: &mut MemoryStation, is_done: bool) {
         match recover(self.alloc, station) {
             Ok(files) => {
                 let is_before = are_files(&files, &self.before);
@@ -171,16 +165,41 @@ impl Turn {
         }
     }
 
+    // A change that is stopped at a call, or came to its end before, and a crash by one choice for all sectors.
+    fn crashed(&mut self, rt: &impl Abort, call: u64, choice: u32) -> (MemoryStation, bool) {
+        let station = station_with(rt, self.alloc, &self.sectors);
+        let mut volume = Volume::on(rt, self.alloc, station);
+        let is_done = self.disturbed(rt, &mut volume, Fault::Stop, call);
+        let mut station = volume.station;
+        station.crash(&[choice; 64]);
+        (station, is_done)
+    }
+
     // Whether the change came to its end before that call.
     fn stopped(&mut self, rt: &impl Abort, call: u64) -> bool {
-        let mut is_done = false;
-        for crash in 0..CRASHES {
-            let station = station_with(rt, self.alloc, &self.sectors);
-            let mut volume = Volume::on(rt, self.alloc, station);
-            is_done = self.disturbed(rt, &mut volume, Fault::Stop, call);
-            self.leaves(rt, &mut volume.station, crash, is_done);
+        let (mut stable, is_done) = self.crashed(rt, call, 0);
+        let (mut first, _) = self.crashed(rt, call, 1);
+        let (mut second, _) = self.crashed(rt, call, 2);
+        let waiting = waiting_sectors(rt, self.alloc, &mut stable, &mut first, &mut second);
+        self.recovers(rt, &mut stable, is_done);
+        self.recovers(rt, &mut first, is_done);
+        let mut station = stable;
+        for _crash in 0..DRAWN {
+            leave_drawn(rt, &mut self.draw, &waiting, &mut station);
+            self.recovers(rt, &mut station, is_done);
         }
         is_done
+    }
+
+    // By the number of a crash, choices that are all 0, all 1, or drawn.
+    fn choices(&mut self, crash: u64) -> [u32; 64] {
+        let mut choices = [crash.min(1) as u32; 64];
+        for choice in choices.iter_mut() {
+            if crash > 1 {
+                *choice = self.draw.below(3);
+            }
+        }
+        choices
     }
 
     // The same of a failure, after which each call is refused.
@@ -191,7 +210,9 @@ impl Turn {
         if !is_done {
             self.is_spent(rt, &mut volume);
         }
-        self.leaves(rt, &mut volume.station, (call % 3) as u32, is_done);
+        let choices = self.choices(call % 3);
+        volume.station.crash(&choices);
+        self.recovers(rt, &mut volume.station, is_done);
         is_done
     }
 
@@ -209,10 +230,14 @@ impl Turn {
         }
     }
 
-    // Each call of a change is disturbed, and then the change is made. Answers how many calls it made.
-    fn each_call(&mut self, rt: &impl Abort, change: Change, fault: Fault) -> u64 {
+    // A change comes next: the files after it are known, and its outcome.
+    fn next(&mut self, rt: &impl Abort, change: Change) {
         self.change = change;
         self.outcome = apply(rt, &mut self.after, &change);
+    }
+
+    // It is disturbed at each of its calls. Answers how many these are.
+    fn each_call(&mut self, rt: &impl Abort, fault: Fault) -> u64 {
         let mut calls = 0;
         for call in 1..MOST_CALLS {
             let is_done = match fault {
@@ -224,40 +249,61 @@ impl Turn {
             }
             calls = call;
         }
+        holds(rt, 0 < calls && calls < MOST_CALLS - 1);
+        calls
+    }
+
+    // It is made.
+    fn pass(&mut self, rt: &impl Abort) {
+        let change = self.change;
         let station = station_with(rt, self.alloc, &self.sectors);
         let mut volume = Volume::on(rt, self.alloc, station);
         let shape = shape_of(rt, &self.after, &change);
-        same_in(
-            rt,
-            &change,
-            volume.change(rt, &shape, &change),
-            Ok(self.outcome),
-        );
+        let told = volume.change(rt, &shape, &change);
+        same_in(rt, &change, told, Ok(self.outcome));
         self.sectors = sectors_of(rt, self.alloc, &mut volume.station);
         apply(rt, &mut self.before, &change);
-        calls
     }
 }
 
-fn each_change(rt: &impl Abort, alloc: Global, fault: Fault) {
+// Each change of a file is stopped at each of its calls. A crash leaves the files before, or those after; those after where the change
+// was answered.
+fn stops(rt: &impl Abort, alloc: Global, file: usize) {
     let mut turn = Turn::new(rt, alloc);
-    let mut calls = 0;
     for change in changes() {
-        let made = turn.each_call(rt, change, fault);
-        holds(rt, made < MOST_CALLS - 1);
-        calls = made.saturating_add(calls);
+        turn.next(rt, change);
+        if change.file == file {
+            turn.each_call(rt, Fault::Stop);
+        }
+        turn.pass(rt);
     }
-    same_in(rt, &calls, calls > 100, true);
 }
 
-// A crash behind a stop leaves the files before, or those after; those after where the change was answered.
 #[test]
-fn stops_at_each_call(rt: HostRuntime) {
-    each_change(&rt, rt.alloc(), Fault::Stop);
+fn stops_in_changes_of_a_sequential_file(rt: HostRuntime) {
+    stops(&rt, rt.alloc(), 0);
+}
+
+#[test]
+fn stops_in_changes_of_a_relative_file(rt: HostRuntime) {
+    stops(&rt, rt.alloc(), 1);
+}
+
+#[test]
+fn stops_in_changes_of_an_indexed_file(rt: HostRuntime) {
+    stops(&rt, rt.alloc(), 2);
 }
 
 // A failure spends the store, and leaves the files before, or those after.
 #[test]
 fn failures_at_each_call(rt: HostRuntime) {
-    each_change(&rt, rt.alloc(), Fault::Failure);
+    let mut turn = Turn::new(&rt, rt.alloc());
+    let mut calls = 0u64;
+    for change in changes() {
+        turn.next(&rt, change);
+        let made = turn.each_call(&rt, Fault::Failure);
+        turn.pass(&rt);
+        calls = made.saturating_add(calls);
+    }
+    same_in(&rt, &calls, calls > 100, true);
 }
