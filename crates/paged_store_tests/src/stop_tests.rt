@@ -267,31 +267,35 @@ impl Turn {
 }
 
 // Each change of a file is stopped at each of its calls. A crash leaves the files before, or those after; those after where the change
-// was answered.
-fn stops(rt: &impl Abort, alloc: Global, file: usize) {
+// was answered. At the least so many calls are made: a change that is done writes a page, the catalog's, a sector of the map and a
+// root, and syncs twice.
+fn stops(rt: &impl Abort, alloc: Global, file: usize, least: u64) {
     let mut turn = Turn::new(rt, alloc);
+    let mut calls = 0u64;
     for change in changes() {
         turn.next(rt, change);
         if change.file == file {
-            turn.each_call(rt, Fault::Stop);
+            let made = turn.each_call(rt, Fault::Stop);
+            calls = made.saturating_add(calls);
         }
         turn.pass(rt);
     }
+    same_in(rt, &calls, calls >= least, true);
 }
 
 #[test]
 fn stops_in_changes_of_a_sequential_file(rt: HostRuntime) {
-    stops(&rt, rt.alloc(), 0);
+    stops(&rt, rt.alloc(), 0, 30);
 }
 
 #[test]
 fn stops_in_changes_of_a_relative_file(rt: HostRuntime) {
-    stops(&rt, rt.alloc(), 1);
+    stops(&rt, rt.alloc(), 1, 24);
 }
 
 #[test]
 fn stops_in_changes_of_an_indexed_file(rt: HostRuntime) {
-    stops(&rt, rt.alloc(), 2);
+    stops(&rt, rt.alloc(), 2, 60);
 }
 
 // A failure spends the store, and leaves the files before, or those after.
