@@ -47,7 +47,7 @@ pub(crate) fn count_of(bytes: usize) -> u32
 /// What is to be written.
 #[derive(Drop)]
 struct Draft {
-    blocks: Vec<Block>,
+    blocks: Vec<Block<'static>>,
     root: [u8; 4096],
 }
 

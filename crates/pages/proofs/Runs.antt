@@ -1,10 +1,51 @@
--- Runs of sectors, and how many of each aren't marked.
-use Rattle.std.proofs.Common.{◌≡◌, ⊎_elim, ◌<◌, ◌≤◌, ◌+◌, ◌-◌, ◌*◌, ◌/◌, min, cond, Bool, true, false, not, ℕ, List, length, take, take_all, drop, set, get_or, refl, sym, ◌∙◌, ap, arith, length-set, get_or-set_other, get_or-set_same}
+-- Runs of sectors, how many of each aren't marked, and the bytes that mark them.
+use Rattle.std.proofs.Common.{◌≡◌, ⊎_elim, ◌<◌, ◌≤◌, ◌+◌, ◌-◌, ◌*◌, ◌/◌, ◌==◌, min, cond, Bool, true, false, not, ℕ, List, [], ◌∷◌, map, length, take, take_all, drop, set, get_or, refl, sym, ◌∙◌, ap, subst, arith, length-set, get_or-set_other, get_or-set_same}
 use Rattle.std.proofs.lemmas.Bool.{cases_lt, cases_eq, cases_Bool}
-use Rattle.std.proofs.lemmas.List.{take-take, take-set-le, get_or-take, length-take-le, drop-take}
+use Rattle.std.proofs.lemmas.List.{take-take, take-set-le, get_or-take, get_or-drop, get_or_read, length-map, length-take-le, drop-take, map-set}
+use Rattle.std.proofs.Math.ListN.{get_or-map}
+use Rattle.std.specs.Int.{from_bool}
+use Rattle.memchr.specs.Find.{Nowhere, Passes, is_byte}
 use Rattle.std.proofs.Math.Seq.{take-set-lt}
 use Rattle.std.proofs.lemmas.List.Sums.{count_by_more_yes, count_by-le-length, sum_by-set, sum_by-take-drop}
-use Rattle.pages.specs.Runs.{unused_count, unused_below, AreRuns}
+use Rattle.pages.specs.Runs.{marked, unused_count, unused_below, AreRuns}
+
+-- as many sectors as bytes
+pub length_marked : (bytes : List ℕ) → length (marked bytes) ≡ length bytes
+length_marked bytes = length-map bytes (λ byte. not (byte == 0))
+
+-- whether a sector is marked, by its byte
+marked_at : (bytes : List ℕ) (s : ℕ) → get_or (marked bytes) s false ≡ not (get_or bytes s 0 == 0)
+marked_at bytes s = get_or-map (λ byte. not (byte == 0)) bytes s 0
+
+-- 1 marks, and 0 doesn't
+mark_is : (b : Bool) → not (from_bool b == 0) ≡ b
+mark_is true = refl
+mark_is false = refl
+
+pub marked_bytes : (used : List Bool) → marked (map from_bool used) ≡ used
+marked_bytes [] = refl
+marked_bytes (u ∷ more) = ap (λ v. v ∷ marked (map from_bool more)) (mark_is u) ∙ ap (λ vs. u ∷ vs) (marked_bytes more)
+
+pub marked_set : (bytes : List ℕ) (s mark : ℕ) (b : Bool) → mark ≡ from_bool b → marked (set bytes s mark) ≡ set (marked bytes) s b
+marked_set bytes s mark b is =
+    map-set (λ byte. not (byte == 0)) bytes s mark ∙ ap (λ byte. set (marked bytes) s (not (byte == 0))) is ∙ ap (λ u. set (marked bytes) s u) (mark_is b)
+
+not_zero : (b : Bool) → (b ≡ true → ⊥) → not b ≡ true
+not_zero true h = absurd (h refl)
+not_zero false h = refl
+
+-- part of the bytes, where a zero is sought
+module _ (bytes part : List ℕ) (start end : ℕ) (is : part ≡ take (end - start) (drop start bytes)) (long : length part + start ≡ end) where
+  part_at : (k : ℕ) → k < length part → get_or part k 0 ≡ get_or bytes (start + k) 0
+  part_at k low = ap (λ xs. get_or xs k 0) is ∙ get_or-take (end - start) (drop start bytes) k 0 (omega arith) ∙ get_or-drop start bytes k 0
+
+  -- each sector is marked as far as there is no zero
+  pub marked_before : (k t : ℕ) → k ≤ length part → Nowhere (Passes (is_byte 0) part) 0 k → start ≤ t → t < start + k → get_or (marked bytes) t false ≡ true
+  marked_before k t most none from below =
+      let low : t - start < length part = omega arith in
+      let place : start + (t - start) ≡ t = omega arith in
+      let at : get_or part (t - start) 0 ≡ get_or bytes t 0 = part_at (t - start) low ∙ ap (λ s. get_or bytes s 0) place in
+      marked_at bytes t ∙ ap (λ byte. not (byte == 0)) (sym at) ∙ not_zero (get_or part (t - start) 0 == 0) (none (t - start) (omega arith) (omega arith))
 
 -- 1 for a sector that isn't marked
 abbrev pub bit : Bool → ℕ
@@ -124,3 +165,25 @@ module _ (used : List Bool) (counts : List ℕ) (are : AreRuns used counts) wher
             (cases_lt q r))
             (cases_eq q r);
       }
+
+-- of a sector, its byte and the count of its run, as they are read
+module _ (bytes counts : List ℕ) (are : AreRuns (marked bytes) counts) (s count byte : ℕ) (low : s < length (marked bytes)) (counted : count ≡ get_or counts (s / 1024) count) (reads : byte ≡ get_or bytes s byte) where
+  mark_read : not (byte == 0) ≡ get_or (marked bytes) s false
+  mark_read =
+      let there : s < length bytes = omega (arith, low, length_marked bytes) in
+      ap (λ b. not (b == 0)) (get_or_read bytes s byte there reads 0) ∙ sym (marked_at bytes s)
+
+  count_read : count ≡ get_or counts (s / 1024) 0
+  count_read = get_or_read counts (s / 1024) count (run_there (marked bytes) counts are s low) counted 0
+
+  pub read_few : count ≤ 921600
+  read_few = omega (arith, run_few (marked bytes) counts are (s / 1024) (run_there (marked bytes) counts are s low), count_read)
+
+  pub read_some : not (byte == 0) ≡ false → 0 < count
+  read_some unset = omega (arith, run_some (marked bytes) counts are s low (sym mark_read ∙ unset), count_read)
+
+  pub use_set : (c mark : ℕ) (b : Bool) → mark ≡ from_bool b → c + cond (not (byte == 0)) 0 1 ≡ count + cond b 0 1 → AreRuns (marked (set bytes s mark)) (set counts (s / 1024) c)
+  use_set c mark b is turned =
+      let was = ap {B = ℕ} (λ u. cond u 0 1) mark_read in
+      subst (λ (used : List Bool). AreRuns used (set counts (s / 1024) c)) (sym (marked_set bytes s mark b is))
+      (runs_set (marked bytes) counts are s c b low (omega (arith, turned, count_read, was)))

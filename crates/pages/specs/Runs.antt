@@ -1,5 +1,9 @@
 -- Runs of 1,024 sectors, and how many of each aren't marked as used.
-use Rattle.std.specs.Prelude.{◌≡◌, ◌<◌, ◌≤◌, ◌+◌, ◌*◌, not, count_by, take, Bool, ℕ, List, length, slice_index}
+use Rattle.std.specs.Prelude.{◌≡◌, ◌<◌, ◌≤◌, ◌+◌, ◌*◌, ◌==◌, not, map, count_by, take, Bool, ℕ, List, length, slice_index}
+
+-- of each byte, whether it marks its sector as used: whether it is other than zero
+abbrev pub marked : List ℕ → List Bool
+marked bytes = map (λ byte. not (byte == 0)) bytes
 
 -- how many sectors aren't marked as used
 abbrev pub unused_count : List Bool → ℕ

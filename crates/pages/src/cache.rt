@@ -1,5 +1,5 @@
 //! Pages as committed, so many as the cache may hold, the most recently used first.
-ghost use Rattle.std.specs.Prelude.{◌≡◌, ◌<◌, ◌↔◌, ℕ, List, [], ◌∷◌, Ok, Err, None, slice_index_or, nat_eq, option_copied, Contains, IfOk, IfNone, OnErr, IsSome};
+ghost use Rattle.std.specs.Prelude.{◌≡◌, ◌<◌, ◌↔◌, ℕ, List, [], ◌∷◌, Ok, Err, Some, None, slice_index_or, nat_eq, option_copied, Contains, IfOk, IfNone, OnErr, IsSome};
 ghost use Rattle.std.specs.List.{All};
 ghost use Rattle.std.specs.Map.{lookup};
 ghost use Rattle.station.specs.Calls.{OnlyReads};
@@ -134,6 +134,23 @@ pub(crate) fn keep_changes(cache: &mut LruCache<u32, PageBytes>, changes: Vec<Ch
     for change in changes {
         keep_change(cache, change);
     }
+}
+
+/// A page leaves the cache, and what it had there becomes these bytes.
+pub(crate) fn take_page(
+    cache: &mut LruCache<u32, PageBytes>,
+    page: u32,
+    bytes: &[u8; 4096],
+) -> Option<PageBytes>
+    ensures bytes { IsSome (lookup (nat_eq page) cache.old.entries) → result ≡ Some bytes.now }
+    ensures entries { cache.new ≡ forgotten page cache.old }
+    ensures valid { IsValid nat_eq cache.old }
+{
+    // This tells that each page is there once.
+    let _count = cache.len();
+    let mut kept = cache.pop(&page)?;
+    kept.set(bytes);
+    Some(kept)
 }
 
 /// A page leaves the cache.

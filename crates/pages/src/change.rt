@@ -1,6 +1,8 @@
 //! The pages that were changed since the last commit.
-ghost use Rattle.std.specs.Prelude.{◌≡◌, ◌≢◌, ◌<◌, ◌≤◌, ℕ, List, ◌+◌, ◌++◌, ◌∷◌, is_some, option_copied, if◌then◌else◌, [], length, slice_set, Option, IfOk, OnOk, OnErr, IfSome, IfNone, slice_index_or, None, false, true, ◌^◌};
+ghost use Rattle.std.specs.Prelude.{◌≡◌, ◌≢◌, ◌<◌, ◌≤◌, ℕ, List, ◌+◌, ◌++◌, ◌∷◌, is_some, option_copied, if◌then◌else◌, [], length, slice_set, Option, IsOk, IfOk, OnOk, OnErr, IfSome, IfNone, slice_index_or, None, false, true, ◌^◌};
 ghost use Rattle.std.specs.List.{All, HoldsAt};
+ghost use Rattle.std.specs.Vec.{vec_len, vec_capacity};
+ghost use Rattle.std.specs.HashMap.{spare};
 ghost use Rattle.station.specs.Disk.{Sector};
 ghost use Rattle.pages.specs.Image.{NamesOnce};
 ghost use Rattle.pages.specs.Changes.{changed, changed_pages, kept, ChangesPage, ArePlaced};
@@ -10,6 +12,9 @@ use crate::page_bytes::PageBytes;
 use crate::volume::MAP_ENTRIES;
 use std::alloc::{AllocError, Global};
 use std::collections::HashMap;
+
+/// Of so many places the room is kept.
+const FEW_PLACES: usize = 64;
 
 /// A page's new bytes, or none where it was released.
 #[derive(Drop)]
@@ -40,19 +45,6 @@ impl Change {
     }
 }
 
-/// The bytes of a page, on the heap.
-pub(crate) fn keep_bytes(
-    alloc: Global,
-    bytes: Option<[u8; 4096]>,
-) -> Result<Option<PageBytes>, AllocError>
-    ensures { IfOk result (λ kept. kept ≡ bytes) }
-{
-    match bytes {
-        Some(bytes) => Ok(Some(PageBytes::new(alloc, bytes)?)),
-        None => Ok(None),
-    }
-}
-
 /// The place of a page's change.
 pub(crate) fn find_change(
     changes: &[Change],
@@ -66,6 +58,20 @@ pub(crate) fn find_change(
     places.get(&page).copied()
 }
 
+/// Room for one more change.
+pub(crate) fn reserve_change(
+    changes: &mut Vec<Change>,
+    places: &mut HashMap<u32, usize>,
+) -> Result<(), AllocError>
+    requires placed { ArePlaced changes.old.items places.old }
+    ensures placed { ArePlaced changes.new.items places.new }
+    ensures items { changes.new.items ≡ changes.old.items }
+    ensures room { OnOk result ((vec_len changes.new < vec_capacity changes.new) × (0 < spare places.new)) }
+{
+    places.reserve(1)?;
+    changes.reserve(1)
+}
+
 /// A change of a page that had none.
 fn push_change(
     changes: &mut Vec<Change>,
@@ -77,12 +83,24 @@ fn push_change(
     ensures placed { ArePlaced changes.new.items places.new }
     ensures ok { OnOk result (changes.new.items ≡ changes.old.items ++ change ∷ []) }
     ensures err { OnErr result (changes.new.items ≡ changes.old.items) }
+    ensures sure { vec_len changes.old < vec_capacity changes.old → 0 < spare places.old → IsOk result }
 {
     let page = change.page;
     places.reserve(1)?;
     changes.push(change)?;
     places.insert(page, changes.len() - 1)?;
     Ok(())
+}
+
+/// No change is left. Room for a few places is kept, and that for many is given back.
+pub(crate) fn clear_places(alloc: Global, places: &mut HashMap<u32, usize>)
+    ensures { places.new.entries ≡ [] }
+{
+    if places.len() <= FEW_PLACES {
+        places.clear();
+    } else {
+        *places = HashMap::new(alloc);
+    }
 }
 
 /// Gives a page new bytes, or none.
@@ -102,6 +120,9 @@ pub(crate) fn set_change(
     ensures fills { NamesOnce (changed_pages changes.old.items) → OnOk result (IfSome bytes (λ _. Fills changes.old.items page changes.new.items)) }
     ensures bounds { (n : ℕ) → page < n → All (λ c. (0 < c.page) × (c.page < n)) changes.old.items → OnOk result (All (λ c. (0 < c.page) × (c.page < n)) changes.new.items) }
     ensures err { OnErr result (changes.new.items ≡ changes.old.items) }
+
+    // With room for one more change it succeeds.
+    ensures sure { vec_len changes.old < vec_capacity changes.old → 0 < spare places.old → IsOk result }
 {
     let change = Change { page, bytes };
     match find_change(changes, places, page) {

@@ -7,7 +7,7 @@ ghost use Rattle.pages.specs.Volumes.{PlacesBlock, SetsPage, SetsMap};
 use crate::error::PagesError;
 use crate::sector_use::SectorUse;
 use crate::volume::{MAP_ENTRIES, VolumeMap};
-use station::Block;
+use station::{Block, SectorBytes};
 use std::alloc::AllocError;
 
 /// A sector that becomes used, or is used no longer.
@@ -19,8 +19,8 @@ pub(crate) struct Turn {
 
 /// What the next volume has other than the volume.
 #[derive(Drop)]
-pub(crate) struct Draft {
-    pub blocks: Vec<Block>,
+pub(crate) struct Draft<'a> {
+    pub blocks: Vec<Block<'a>>,
     /// The maps whose entries changed.
     pub changed_maps: Vec<bool>,
     /// The sectors whose use changed.
@@ -49,13 +49,13 @@ pub(crate) fn note_turns(turns: &mut Vec<Turn>, old: u32, new: u32) -> Result<()
 }
 
 /// Places a block in the next sector that isn't used.
-pub(crate) fn place_block(
+pub(crate) fn place_block<'a>(
     used: &SectorUse,
-    draft: &mut Draft,
-    bytes: &[u8; 4096],
+    draft: &mut Draft<'a>,
+    bytes: SectorBytes<'a>,
 ) -> Result<u32, PagesError>
     requires { length used.now < 2 ^ 32 }
-    ensures placed { IfOk result (λ sector. PlacesBlock used.now draft.old draft.new sector bytes.now) }
+    ensures placed { IfOk result (λ sector. PlacesBlock used.now draft.old draft.new sector bytes.entry) }
     ensures full { result ≡ Err PagesError.Full → (s : ℕ) → draft.old.next ≤ s → s < length used.now → slice_index_or used.now s false ≡ true }
     ensures cause { IsPlanError result }
 {
@@ -63,11 +63,7 @@ pub(crate) fn place_block(
         Some(sector) => sector,
         None => return Err(PagesError::Full),
     };
-    let block = Block {
-        sector,
-        bytes: *bytes,
-    };
-    draft.blocks.push(block)?;
+    draft.blocks.push(Block { sector, bytes })?;
     draft.next = sector + 1;
     Ok(sector)
 }

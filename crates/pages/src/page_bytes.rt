@@ -27,6 +27,22 @@ impl PageBytes {
         })
     }
 
+    /// A copy of these bytes.
+    pub(crate) fn copied(alloc: Global, bytes: &[u8; 4096]) -> Result<PageBytes, AllocError>
+        ensures { IfOk result (λ page. page ≡ bytes.now) }
+    {
+        Ok(PageBytes {
+            bytes: Box::new(alloc, *bytes)?,
+        })
+    }
+
+    /// It becomes these bytes, where it stands.
+    pub(crate) fn set(&mut self, bytes: &[u8; 4096])
+        ensures { self.new ≡ bytes.now }
+    {
+        *self.bytes = *bytes;
+    }
+
     pub(crate) fn view(&self) -> &[u8; 4096]
         ensures { result.now ≡ self.now }
     {

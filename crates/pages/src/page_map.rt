@@ -1,5 +1,5 @@
 //! The pages of a volume, as their user sees them: a finite map from page numbers to pages, beside the page of the catalog's root.
-ghost use Rattle.std.specs.Prelude.{◌≡◌, ◌⊎◌, ◌+◌, ◌^◌, is_some, IfSome, if◌then◌else◌, ◌<◌, ◌≤◌, ◌↔◌, Err, Some, None, true, false, replicate, List, [], length, slice_set, map, IsOk, IfOk, IfErr, OnOk, OnErr};
+ghost use Rattle.std.specs.Prelude.{◌≡◌, ◌⊎◌, ◌+◌, ◌^◌, is_some, IfSome, IsOkUnless, if◌then◌else◌, ◌<◌, ◌≤◌, ◌↔◌, Err, Some, None, true, false, replicate, List, [], length, slice_set, map, IsOk, IfOk, IfErr, OnOk, OnErr};
 ghost use Rattle.station.specs.Disk.{Sector};
 ghost use Rattle.station.specs.State.{synced, SameConsole};
 ghost use Rattle.station.specs.History.{Through};
@@ -14,9 +14,12 @@ ghost use Rattle.pages.specs.Changes.{BeforeOrAfter, ChangesPage};
 ghost use Rattle.pages.specs.Errors.{IsEditRefusal, IsAllocateRefusal, IsCommitRefusal};
 ghost use Rattle.pages.specs.Use.{free_count};
 
-use crate::cache::{forget_page, keep_changes, new_cache, promote_page, recall_page, seen_page};
+use crate::cache::{
+    forget_page, keep_changes, new_cache, promote_page, recall_page, seen_page, take_page,
+};
 use crate::change::{
-    Change, find_change, forget_run, is_kept, keep_bytes, pass_runs, set_change, unused_page,
+    Change, clear_places, find_change, forget_run, is_kept, pass_runs, reserve_change, set_change,
+    unused_page,
 };
 use crate::commit::commit_volume;
 use crate::error::PagesError;
@@ -283,7 +286,14 @@ impl PageMap {
         ensures cause { IsEditRefusal result }
         ensures spent { (result ≡ Err PagesError.Spent) ↔ (is_spent self.old ≡ true) }
     {
-        self.change(page, Some(*bytes))
+        if self.spent {
+            return Err(PagesError::Spent);
+        }
+        if seen_page(&self.cache, page).is_some() {
+            return self.rewrite(page, bytes);
+        }
+        let kept = PageBytes::copied(self.alloc, bytes)?;
+        self.change(page, Some(kept))
     }
 
     /// A page that wasn't in the map comes into it, with zeros. `Full` tells that there is no unused page number.
@@ -320,7 +330,8 @@ impl PageMap {
             Some(page) => page,
             None => return Err(PagesError::Full),
         };
-        self.change(page, Some([0; 4096]))?;
+        let kept = PageBytes::new(self.alloc, [0; 4096])?;
+        self.change(page, Some(kept))?;
         pass_runs(&mut self.passed, self.next_page, page);
         self.next_page = page + 1;
         Ok(page)
@@ -352,7 +363,7 @@ impl PageMap {
     }
 
     /// Gives a page new bytes, or none.
-    fn change(&mut self, page: u32, bytes: Option<[u8; 4096]>) -> Result<(), PagesError>
+    fn change(&mut self, page: u32, bytes: Option<PageBytes>) -> Result<(), PagesError>
         requires open { IsOpen self.old }
         requires page { IsPage self.old page }
         ensures map { OnOk result ((image : List Sector) → (map_now self.new image).pages ≡ slice_set (map_now self.old image).pages page bytes) }
@@ -372,9 +383,33 @@ impl PageMap {
         if self.spent {
             return Err(PagesError::Spent);
         }
-        let kept = keep_bytes(self.alloc, bytes)?;
-        set_change(&mut self.changes, &mut self.places, page, kept)?;
+        set_change(&mut self.changes, &mut self.places, page, bytes)?;
         forget_page(&mut self.cache, page);
+        Ok(())
+    }
+
+    /// Gives a page of the cache new bytes, which come where the old ones stand in memory.
+    fn rewrite(&mut self, page: u32, bytes: &[u8; 4096]) -> Result<(), PagesError>
+        requires open { IsOpen self.old }
+        requires page { IsPage self.old page }
+        requires unspent { is_spent self.old ≡ false }
+        requires cached { IsSome (lookup (nat_eq page) (cache_of self.old).entries) }
+        ensures map { OnOk result ((image : List Sector) → (map_now self.new image).pages ≡ slice_set (map_now self.old image).pages page (Some bytes.now)) }
+        ensures changes_page { OnOk result (ChangesPage (changed_pages_of self.old) page (changed_pages_of self.new)) }
+        ensures unchanged { OnErr result (changed_pages_of self.new ≡ changed_pages_of self.old) }
+        ensures filled { filled_of self.new ≤ filled_of self.old + 1 }
+        ensures fills { OnOk result (FillsPage self.old page self.new) }
+        ensures unfilled { OnErr result (filled_of self.new ≡ filled_of self.old) }
+        ensures err { OnErr result ((image : List Sector) → map_now self.new image ≡ map_now self.old image) }
+        ensures capacity { (cache_of self.new).cap ≡ (cache_of self.old).cap }
+        ensures forgets { OnOk result (cache_of self.new ≡ forgotten page (cache_of self.old)) }
+        ensures cache { OnErr result (cache_of self.new ≡ cache_of self.old) }
+        ensures keeps { Keeps self.old self.new }
+        ensures cause { IsOkUnless result PagesError.Memory }
+    {
+        reserve_change(&mut self.changes, &mut self.places)?;
+        let kept = take_page(&mut self.cache, page, bytes);
+        set_change(&mut self.changes, &mut self.places, page, kept)?;
         Ok(())
     }
 
@@ -440,7 +475,7 @@ impl PageMap {
         )?;
         // What a large commit took of memory is given back, but for the pages that come into the cache.
         let changes = mem::replace(&mut self.changes, Vec::new(self.alloc));
-        self.places = HashMap::new(self.alloc);
+        clear_places(self.alloc, &mut self.places);
         keep_changes(&mut self.cache, changes);
         self.spent = false;
         Ok(())

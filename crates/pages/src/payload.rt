@@ -1,13 +1,13 @@
 //! The root sector of a volume of pages.
-ghost use Rattle.std.specs.Prelude.{◌≡◌, ◌<◌, ◌≤◌, ◌+◌, ◌^◌, length};
+ghost use Rattle.std.specs.Prelude.{◌≡◌, ◌<◌, ◌≤◌, ◌+◌, ◌*◌, ◌^◌, length, drop};
 ghost use Rattle.roots.specs.Root.{put_at};
-ghost use Rattle.pages.specs.Layout.{words, map_count};
+ghost use Rattle.pages.specs.Layout.{words, spelled, map_count};
 ghost use Rattle.pages.specs.Payload.{payload_words, SpellsRoot};
 ghost use Rattle.pages.specs.Volumes.{volume_of};
 
 use crate::volume::VolumeMap;
 use byteorder::{BigEndian, ByteOrder};
-use roots::{Root, root_sector};
+use roots::{PAYLOAD_AT, put_head};
 
 /// The mark of a volume of pages.
 pub(crate) const MARK: [u8; 8] = *b"COBVOL01";
@@ -15,32 +15,22 @@ pub(crate) const MARK: [u8; 8] = *b"COBVOL01";
 /// The mark of the other format.
 pub(crate) const FOREIGN_MARK: [u8; 8] = *b"COBHALF1";
 
-/// Puts numbers into a payload from this place on.
-fn put_numbers(numbers: &mut [u32; 1019], at: usize, part: &[u32])
-    requires { at + length part.now ≤ 1019 }
-    ensures { numbers.new ≡ put_at at part.now numbers.old }
+/// Spells numbers from this byte of a root sector on.
+fn put_numbers(bytes: &mut [u8; 4096], at: usize, numbers: &[u32])
+    requires { at + 4 * length numbers.now ≤ 4096 }
+    ensures { bytes.new ≡ put_at at (spelled numbers.now) bytes.old }
 {
-    numbers[at..at + part.len()].copy_from_slice(part);
+    BigEndian::write_u32_into(numbers, &mut bytes[at..at + 4 * numbers.len()]);
 }
 
-/// The numbers of a payload: the catalog's page, the number of map sectors, these, and zeros.
-fn payload_numbers(catalog: u32, maps: &[u32]) -> [u32; 1019]
+/// A sector with a payload behind what stands in front of it: the catalog's page, the number of map sectors, these, and zeros.
+fn payload_bytes(catalog: u32, maps: &[u32]) -> [u8; 4096]
     requires { length maps.now ≤ 900 }
-    ensures { result ≡ payload_words catalog maps.now }
+    ensures { words (drop 20 result) ≡ payload_words catalog maps.now }
 {
-    let mut numbers = [0; 1019];
-    put_numbers(&mut numbers, 0, &[catalog, maps.len() as u32]);
-    put_numbers(&mut numbers, 2, maps);
-    numbers
-}
-
-/// Their bytes.
-fn payload_bytes(numbers: &[u32]) -> [u8; 4076]
-    requires { length numbers.now ≡ 1019 }
-    ensures { words result ≡ numbers.now }
-{
-    let mut bytes = [0; 4076];
-    BigEndian::write_u32_into(numbers, &mut bytes);
+    let mut bytes = [0; 4096];
+    put_numbers(&mut bytes, PAYLOAD_AT, &[catalog, maps.len() as u32]);
+    put_numbers(&mut bytes, PAYLOAD_AT + 8, maps);
     bytes
 }
 
@@ -57,14 +47,9 @@ pub(crate) fn root_bytes_with(
     requires maps { length maps.now ≡ map_count sectors }
     ensures { SpellsRoot (record { generation = generation; sectors = sectors; catalog = catalog; maps = maps.now }) result }
 {
-    let numbers = payload_numbers(catalog, maps);
-    let root = Root {
-        mark: 0,
-        generation,
-        sectors,
-        payload: payload_bytes(&numbers),
-    };
-    root_sector(&MARK, &root)
+    let mut bytes = payload_bytes(catalog, maps);
+    put_head(&mut bytes, &MARK, generation, sectors);
+    bytes
 }
 
 /// The bytes of the root sector of a volume.

@@ -21,25 +21,28 @@ use std::alloc::{AllocError, Global};
 /// The first sector behind the roots.
 const FIRST_SECTOR: u32 = 2;
 
+/// A draft has room for so many blocks from the start, which is enough for a small commit, and for as many old and new sectors.
+const FEW_BLOCKS: usize = 8;
+
 /// A draft with nothing in it, for so many maps.
-fn fresh_draft(alloc: Global, maps: usize) -> Result<Draft, AllocError>
+fn fresh_draft<'a>(alloc: Global, maps: usize) -> Result<Draft<'a>, AllocError>
     ensures { IfOk result (λ draft. IsFresh maps draft) }
 {
     Ok(Draft {
-        blocks: Vec::new(alloc),
+        blocks: Vec::with_capacity(alloc, FEW_BLOCKS)?,
         changed_maps: vec![in alloc; false; maps]?,
-        turns: Vec::new(alloc),
+        turns: Vec::with_capacity(alloc, 2 * FEW_BLOCKS)?,
         next: FIRST_SECTOR,
     })
 }
 
 /// The next volume, with these changes and this page of the catalog's root.
-pub(crate) fn next_volume(
+pub(crate) fn next_volume<'a>(
     alloc: Global,
     volume: &mut VolumeMap,
-    changes: &[Change],
+    changes: &'a [Change],
     catalog: u32,
-) -> Result<Draft, PagesError>
+) -> Result<Draft<'a>, PagesError>
     requires sound { IsSound volume.old }
     requires pages { All (λ c. (0 < c.page) × (c.page < length volume.old.table.items)) changes.now }
     requires once { NamesOnce (changed_pages changes.now) }
@@ -59,7 +62,7 @@ pub(crate) fn next_volume(
     }
     let mut draft = fresh_draft(alloc, volume.maps.len())?;
     stage_changes(volume, &mut draft, changes)?;
-    stage_maps(volume, &mut draft)?;
+    stage_maps(alloc, volume, &mut draft)?;
     volume.generation += 1;
     volume.catalog = catalog;
     Ok(draft)

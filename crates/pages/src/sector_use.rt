@@ -1,30 +1,34 @@
 //! Which sectors of a volume are used.
 ghost use Rattle.std.specs.Prelude.{◌≡◌, ◌<◌, ◌≤◌, ◌+◌, ◌*◌, ℕ, false, true, if◌then◌else◌, length, slice_index_or, IfOk, IfSome, IfNone};
-ghost use Rattle.pages.specs.Runs.{unused_below, AreRuns};
+ghost use Rattle.pages.specs.Runs.{marked, unused_below, AreRuns};
 
 use crate::volume::count_free;
+use memchr::memchr;
 use std::alloc::{AllocError, Global};
 use std::marker::Model;
 
 /// The sectors of a run.
 const RUN: usize = 1024;
 
-/// For each sector whether it is used, and of each run of 1,024 sectors how many aren't: so a search passes over runs without one.
+/// The byte of a sector that isn't used.
+const UNUSED: u8 = 0;
+
+/// For each sector a byte, 1 if it is used, and of each run of 1,024 sectors how many aren't: so a search passes over runs without one.
 #[derive(Drop)]
 pub(crate) struct SectorUse {
-    used: Vec<bool>,
+    used: Vec<u8>,
     unused: Vec<u32>,
 }
 
 impl Model for SectorUse {
     ghost use Rattle.std.specs.Prelude.{Bool, List};
-    ghost use Rattle.pages.specs.Runs.{AreRuns};
+    ghost use Rattle.pages.specs.Runs.{marked, AreRuns};
 
     ghost Value = { List Bool };
 
-    ghost view = { λ sectors. sectors.used.items };
+    ghost view = { λ sectors. marked sectors.used.items };
 
-    ghost invariant = { λ sectors. AreRuns sectors.used.items sectors.unused.items };
+    ghost invariant = { λ sectors. AreRuns (marked sectors.used.items) sectors.unused.items };
 }
 
 /// How many sectors of a run aren't used.
@@ -62,29 +66,33 @@ fn turned_count(count: u32, was: bool, used: bool) -> u32
     if used { count - 1 } else { count + 1 }
 }
 
+/// For each sector the byte that marks it as used, or as not.
+fn mark_bytes(alloc: Global, used: &[bool]) -> Result<Vec<u8>, AllocError>
+    ensures { IfOk result (λ bytes. marked bytes.items ≡ used.now) }
+{
+    used.iter().map(|used| u8::from(*used)).collect(alloc)
+}
+
 /// The first sector of some that isn't used.
-fn first_unused(used: &[bool], start: usize, end: usize) -> Option<u32>
+fn first_unused(used: &[u8], start: usize, end: usize) -> Option<u32>
     requires few { length used.now ≤ 921600 }
     requires end { end ≤ length used.now }
-    ensures found { IfSome result (λ s. (start ≤ s) × (s < end) × (slice_index_or used.now s false ≡ false)) }
-    ensures first { IfSome result (λ s. (t : ℕ) → start ≤ t → t < s → slice_index_or used.now t false ≡ true) }
-    ensures full { IfNone result ((t : ℕ) → start ≤ t → t < end → slice_index_or used.now t false ≡ true) }
+    ensures found { IfSome result (λ s. (start ≤ s) × (s < end) × (slice_index_or (marked used.now) s false ≡ false)) }
+    ensures first { IfSome result (λ s. (t : ℕ) → start ≤ t → t < s → slice_index_or (marked used.now) t false ≡ true) }
+    ensures full { IfNone result ((t : ℕ) → start ≤ t → t < end → slice_index_or (marked used.now) t false ≡ true) }
 {
-    for sector in start..end {
-        if !used[sector] {
-            return Some(sector as u32);
-        }
-    }
-    None
+    let sectors = used.get(start..end)?;
+    let place = memchr(UNUSED, sectors)?;
+    Some((start + place) as u32)
 }
 
 /// The first sector of a run, and from this one on, that isn't used.
-fn unused_in_run(used: &[bool], counts: &[u32], from: usize, run: usize) -> Option<u32>
-    requires runs { AreRuns used.now counts.now }
+fn unused_in_run(used: &[u8], counts: &[u32], from: usize, run: usize) -> Option<u32>
+    requires runs { AreRuns (marked used.now) counts.now }
     requires run { run < length counts.now }
-    ensures found { IfSome result (λ s. (from ≤ s) × (1024 * run ≤ s) × (s < length used.now) × (slice_index_or used.now s false ≡ false)) }
-    ensures first { IfSome result (λ s. (t : ℕ) → from ≤ t → 1024 * run ≤ t → t < s → slice_index_or used.now t false ≡ true) }
-    ensures full { IfNone result ((t : ℕ) → from ≤ t → 1024 * run ≤ t → t < 1024 * run + 1024 → t < length used.now → slice_index_or used.now t false ≡ true) }
+    ensures found { IfSome result (λ s. (from ≤ s) × (1024 * run ≤ s) × (s < length used.now) × (slice_index_or (marked used.now) s false ≡ false)) }
+    ensures first { IfSome result (λ s. (t : ℕ) → from ≤ t → 1024 * run ≤ t → t < s → slice_index_or (marked used.now) t false ≡ true) }
+    ensures full { IfNone result ((t : ℕ) → from ≤ t → 1024 * run ≤ t → t < 1024 * run + 1024 → t < length used.now → slice_index_or (marked used.now) t false ≡ true) }
 {
     if counts[run] == 0 {
         return None;
@@ -106,6 +114,7 @@ impl SectorUse {
         ensures { IfOk result (λ sectors. sectors ≡ used.items) }
     {
         let unused = count_runs(alloc, &used)?;
+        let used = mark_bytes(alloc, &used)?;
         Ok(SectorUse { used, unused })
     }
 
@@ -114,7 +123,7 @@ impl SectorUse {
         requires { sector < length self.now }
         ensures { result ≡ slice_index_or self.now sector false }
     {
-        self.used[sector as usize]
+        self.used[sector as usize] != UNUSED
     }
 
     /// A sector becomes used, or is used no longer.
@@ -124,8 +133,8 @@ impl SectorUse {
     {
         let place = sector as usize;
         let run = place / RUN;
-        self.unused[run] = turned_count(self.unused[run], self.used[place], used);
-        self.used[place] = used;
+        self.unused[run] = turned_count(self.unused[run], self.used[place] != UNUSED, used);
+        self.used[place] = u8::from(used);
     }
 
     /// The first sector from this one on that isn't used.

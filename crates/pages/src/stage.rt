@@ -14,12 +14,14 @@ use crate::draft::{Draft, place_block, set_map, set_page};
 use crate::error::PagesError;
 use crate::numbers::spelled_numbers;
 use crate::volume::{MAP_ENTRIES, VolumeMap};
+use station::SectorBytes;
+use std::alloc::Global;
 
 /// Stages one changed page.
-pub(crate) fn stage_change(
+pub(crate) fn stage_change<'a>(
     volume: &mut VolumeMap,
-    draft: &mut Draft,
-    change: &Change,
+    draft: &mut Draft<'a>,
+    change: &'a Change,
 ) -> Result<(), PagesError>
     requires few { length volume.old.used < 2 ^ 32 }
     requires page { change.now.page < length volume.old.table.items }
@@ -36,7 +38,8 @@ pub(crate) fn stage_change(
     let page = change.page as usize;
     match &change.bytes {
         Some(bytes) => {
-            let sector = place_block(&volume.used, draft, bytes.view())?;
+            let bytes = SectorBytes::borrowed(bytes.view());
+            let sector = place_block(&volume.used, draft, bytes)?;
             set_page(volume, draft, page, sector)
         }
         None => release_page(volume, draft, page),
@@ -62,10 +65,10 @@ pub(crate) fn release_page(
 }
 
 /// Stages each changed page.
-pub(crate) fn stage_changes(
+pub(crate) fn stage_changes<'a>(
     volume: &mut VolumeMap,
-    draft: &mut Draft,
-    changes: &[Change],
+    draft: &mut Draft<'a>,
+    changes: &'a [Change],
 ) -> Result<(), PagesError>
     requires few { length volume.old.used < 2 ^ 32 }
     requires pages { All (λ c. (0 < c.page) × (c.page < length volume.old.table.items)) changes.now }
@@ -86,18 +89,17 @@ pub(crate) fn stage_changes(
 }
 
 /// The entries of one map.
-fn map_entries(table: &[u32], map: usize) -> [u32; 1024]
+fn map_entries(table: &[u32], map: usize) -> &[u32]
     requires { 1024 * map + 1024 ≤ length table.now }
-    ensures { result ≡ map_part table.now map }
+    ensures entries { result.now ≡ map_part table.now map }
+    ensures count { length result.now ≡ 1024 }
 {
-    let mut entries = [0; 1024];
     let start = MAP_ENTRIES * map;
-    entries.copy_from_slice(&table[start..start + MAP_ENTRIES]);
-    entries
+    &table[start..start + MAP_ENTRIES]
 }
 
 /// Whether no entry of a map names a sector.
-fn is_blank(entries: &[u32; 1024]) -> bool
+fn is_blank(entries: &[u32]) -> bool
     ensures { result ≡ list_all (λ entry. entry == 0) entries.now }
 {
     entries.iter().all(|entry| *entry == 0)
@@ -105,6 +107,7 @@ fn is_blank(entries: &[u32; 1024]) -> bool
 
 /// Stages one map, if its entries changed.
 pub(crate) fn stage_map(
+    alloc: Global,
     volume: &mut VolumeMap,
     draft: &mut Draft,
     map: usize,
@@ -125,16 +128,20 @@ pub(crate) fn stage_map(
         return Ok(());
     }
     let entries = map_entries(&volume.table, map);
-    if is_blank(&entries) {
+    if is_blank(entries) {
         return set_map(volume, draft, map, 0);
     }
-    let bytes = spelled_numbers(&entries);
-    let sector = place_block(&volume.used, draft, &bytes)?;
+    let bytes = SectorBytes::owned(alloc, spelled_numbers(entries))?;
+    let sector = place_block(&volume.used, draft, bytes)?;
     set_map(volume, draft, map, sector)
 }
 
 /// Stages each map whose entries changed.
-pub(crate) fn stage_maps(volume: &mut VolumeMap, draft: &mut Draft) -> Result<(), PagesError>
+pub(crate) fn stage_maps(
+    alloc: Global,
+    volume: &mut VolumeMap,
+    draft: &mut Draft,
+) -> Result<(), PagesError>
     requires few { length volume.old.used < 2 ^ 32 }
     requires count { length volume.old.table.items ≡ 1024 * length volume.old.maps.items }
     requires changed_maps { length draft.old.changed_maps.items ≡ length volume.old.maps.items }
@@ -146,7 +153,7 @@ pub(crate) fn stage_maps(volume: &mut VolumeMap, draft: &mut Draft) -> Result<()
     ensures full { (v : Volume) (changes : List Change) → IsCounted v volume.old draft.old changes 0 → result ≡ Err PagesError.Full → free_count v < filled changes + written_below v changes (length volume.old.maps.items) }
 {
     for map in 0..volume.maps.len() {
-        stage_map(volume, draft, map)?;
+        stage_map(alloc, volume, draft, map)?;
     }
     Ok(())
 }

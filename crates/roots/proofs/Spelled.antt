@@ -1,5 +1,5 @@
 -- The bytes of a root sector, written and read again.
-use Rattle.std.proofs.Common.{◌≡◌, ◌<◌, ◌≤◌, ◌^◌, ◌%◌, true, false, ℕ, List, [], ◌++◌, length, drop, refl, sym, ◌∙◌, ap, append_assoc, arith, length-drop, length-append}
+use Rattle.std.proofs.Common.{◌≡◌, ◌<◌, ◌≤◌, ◌+◌, ◌^◌, ◌%◌, true, false, ℕ, List, [], ◌++◌, length, drop, refl, sym, ◌∙◌, ap, append_assoc, arith, length-drop, length-append}
 use Rattle.std.specs.Prelude.{Some}
 use Rattle.std.proofs.lemmas.List.{take_at, drop_at, drop-drop, drop_all, append-nil}
 use Rattle.std.proofs.lemmas.Bool.{cond-true, cond-false, and_parts, ltb-true, leb-true, eqb-true}
@@ -14,20 +14,28 @@ front : (n : ℕ) (p part rest : List ℕ) → length p ≡ n → put_at n part 
 front n p part rest at =
     rw (take_at p rest n at) (ap (λ (l : List ℕ). p ++ part ++ l) (sym (drop-drop (length part) n (p ++ rest)) ∙ ap (drop (length part)) (drop_at p rest n at)))
 
-pub all_put : (zeros mark generation sectors payload one two three four : List ℕ)
-    → length zeros ≡ 4096 → length mark ≡ 8 → length generation ≡ 8 → length sectors ≡ 4 → length payload ≡ 4076
-    → one ≡ put_at 0 mark zeros → two ≡ put_at 8 generation one → three ≡ put_at 16 sectors two → four ≡ put_at 20 payload three
-    → four ≡ mark ++ generation ++ sectors ++ payload
-all_put zeros mark generation sectors payload one two three four all m g s p is_one is_two is_three is_four =
-    let r1 = drop (length mark) zeros in
+-- what stands in front of the payload
+pub head_put : (bytes mark generation sectors one two three : List ℕ) → length mark ≡ 8 → length generation ≡ 8 → length sectors ≡ 4
+    → one ≡ put_at 0 mark bytes → two ≡ put_at 8 generation one → three ≡ put_at 16 sectors two → three ≡ mark ++ generation ++ sectors ++ drop 20 bytes
+head_put bytes mark generation sectors one two three m g s is_one is_two is_three =
+    let r1 = drop (length mark) bytes in
     let r2 = drop (length generation) r1 in
-    let r3 = drop (length sectors) r2 in
-    let e1 : one ≡ mark ++ r1 = is_one ∙ front 0 [] mark zeros refl in
+    let e1 : one ≡ mark ++ r1 = is_one ∙ front 0 [] mark bytes refl in
     let e2 : two ≡ mark ++ generation ++ r2 = is_two ∙ ap (put_at 8 generation) e1 ∙ front 8 mark generation r1 m in
-    let e3 : three ≡ mark ++ generation ++ sectors ++ r3 = is_three ∙ ap (put_at 16 sectors) e2 ∙ front 16 (mark ++ generation) sectors r2 (omega (arith, length-append mark generation, m, g)) in
-    let e4 : four ≡ mark ++ generation ++ sectors ++ payload ++ drop (length payload) r3
-    = is_four ∙ ap (put_at 20 payload) e3 ∙ front 20 (mark ++ generation ++ sectors) payload r3 (omega (arith, length-append mark generation, length-append (mark ++ generation) sectors, m, g, s)) in
-    let none : drop (length payload) r3 ≡ [] = drop_all (length payload) r3 (omega (arith, p, s, g, m, all, length-drop (length sectors) r2, length-drop (length generation) r1, length-drop (length mark) zeros)) in
+    let e3 : three ≡ mark ++ generation ++ sectors ++ drop (length sectors) r2 = is_three ∙ ap (put_at 16 sectors) e2 ∙ front 16 (mark ++ generation) sectors r2 (omega (arith, length-append mark generation, m, g)) in
+    e3 ∙ ap (λ (l : List ℕ). mark ++ generation ++ sectors ++ l)
+    (drop-drop (length sectors) (length generation) r1 ∙ drop-drop (length generation + length sectors) (length mark) bytes ∙ ap (λ (n : ℕ). drop n bytes) {y = 20} (omega (arith, m, g, s)))
+
+-- a payload behind it
+pub all_put : (zeros mark generation sectors payload three four : List ℕ)
+    → length zeros ≡ 4096 → length mark ≡ 8 → length generation ≡ 8 → length sectors ≡ 4 → length payload ≡ 4076
+    → three ≡ mark ++ generation ++ sectors ++ drop 20 zeros → four ≡ put_at 20 payload three
+    → four ≡ mark ++ generation ++ sectors ++ payload
+all_put zeros mark generation sectors payload three four all m g s p is_three is_four =
+    let rest = drop 20 zeros in
+    let e4 : four ≡ mark ++ generation ++ sectors ++ payload ++ drop (length payload) rest
+    = is_four ∙ ap (put_at 20 payload) is_three ∙ front 20 (mark ++ generation ++ sectors) payload rest (omega (arith, length-append mark generation, length-append (mark ++ generation) sectors, m, g, s)) in
+    let none : drop (length payload) rest ≡ [] = drop_all (length payload) rest (omega (arith, p, all, length-drop 20 zeros)) in
     e4 ∙ ap (λ (l : List ℕ). mark ++ generation ++ sectors ++ payload ++ l) none ∙ append-nil (mark ++ generation ++ sectors ++ payload)
 
 -- a root is valid

@@ -1,5 +1,6 @@
 //! A root sector. Numbers are big-endian; the layout is this project's own.
-ghost use Rattle.std.specs.Prelude.{◌≡◌, ◌≤◌, ◌+◌, length, Option};
+ghost use Rattle.std.specs.Prelude.{◌≡◌, ◌≤◌, ◌+◌, ◌++◌, length, drop, Option};
+ghost use Rattle.byteorder.specs.Endian.{big_bytes};
 ghost use Rattle.roots.specs.Root.{mark_index, root_in, root_with, is_blank, is_valid, put_at, root_bytes};
 
 use byteorder::{BigEndian, ByteOrder};
@@ -8,6 +9,9 @@ pub const SECTOR_BYTES: usize = 4096;
 
 /// The first bytes of a root sector, which tell the format.
 pub const MARK_BYTES: usize = 8;
+
+/// Where the payload begins.
+pub const PAYLOAD_AT: usize = 20;
 
 /// A root sector ends in so many bytes that the format of the volume rules.
 pub const PAYLOAD_BYTES: usize = 4076;
@@ -111,14 +115,21 @@ fn put(bytes: &mut [u8; 4096], at: usize, part: &[u8])
     bytes[at..at + part.len()].copy_from_slice(part);
 }
 
+/// Puts what stands in front of a root's payload into its sector: this mark, its generation and the number of sectors.
+pub fn put_head(bytes: &mut [u8; 4096], mark: &[u8; 8], generation: u64, sectors: u32)
+    ensures { bytes.new ≡ mark.now ++ big_bytes 8 generation ++ big_bytes 4 sectors ++ drop 20 bytes.old }
+{
+    put(bytes, 0, mark);
+    put(bytes, 8, &generation.to_be_bytes());
+    put(bytes, 16, &sectors.to_be_bytes());
+}
+
 /// The bytes of a root sector with this mark.
 pub fn root_sector(mark: &[u8; 8], root: &Root) -> [u8; 4096]
     ensures { result ≡ root_bytes mark.now root.now }
 {
     let mut bytes = [0; 4096];
-    put(&mut bytes, 0, mark);
-    put(&mut bytes, 8, &root.generation.to_be_bytes());
-    put(&mut bytes, 16, &root.sectors.to_be_bytes());
-    put(&mut bytes, 20, &root.payload);
+    put_head(&mut bytes, mark, root.generation, root.sectors);
+    put(&mut bytes, PAYLOAD_AT, &root.payload);
     bytes
 }

@@ -1,5 +1,5 @@
 -- Calls on a device, one after the other.
-use Rattle.std.proofs.Common.{◌≡◌, ◌≤◌, ◌<◌, ◌-◌, ◌^◌, ◌↔◌, ◌⊎◌, inl, inr, ⊎_elim, ℕ, refl, ◌∙◌, ap, subst, arith}
+use Rattle.std.proofs.Common.{◌≡◌, ◌↔◌, ◌⊎◌, inl, inr, ⊎_elim, ℕ, refl, ◌∙◌, ap, arith}
 use Rattle.std.specs.Prelude.{Result, OnOk, OnErr, IsErr}
 use Rattle.station.specs.Disk.{Sector}
 use Rattle.station.specs.State.{State, synced, MayHaveWritten}

@@ -5,6 +5,7 @@ pub mod History
 pub mod Failures
 pub mod Calls
 -- Words of what stays, and of what a crash leaves
+pub mod SectorBytes
 pub mod Blocks
 pub mod Opening
 pub mod Changes

@@ -5,13 +5,14 @@ ghost use Rattle.station.specs.History.{Through};
 ghost use Rattle.station.specs.Calls.{OnlyWrites};
 ghost use Rattle.station.specs.Blocks.{SectorsAre, Writing, wrote_all};
 
+use crate::sector_bytes::SectorBytes;
 use crate::{Device, DeviceError};
 
 /// A sector's new bytes.
 #[derive(Drop)]
-pub struct Block {
+pub struct Block<'a> {
     pub sector: u32,
-    pub bytes: [u8; 4096],
+    pub bytes: SectorBytes<'a>,
 }
 
 /// Writes each block. None of them is durable yet.
@@ -26,7 +27,7 @@ pub fn write_blocks<D: Device>(device: &mut D, blocks: &[Block]) -> Result<(), D
         (Writing (D.state device.old).events (D.state device.old).disk.present blocks.now) }
 {
     for block in blocks {
-        device.write(block.sector, &block.bytes)?;
+        device.write(block.sector, block.bytes.view())?;
     }
     Ok(())
 }

@@ -14,6 +14,7 @@ mod laws;
 mod memory;
 mod note;
 mod plan;
+mod sector_bytes;
 mod two_phase;
 
 pub use blocks::{Block, write_blocks};
@@ -21,4 +22,5 @@ pub use device::{Device, DeviceError, Station};
 pub use laws::{crash_laws, moment_laws};
 pub use memory::MemoryStation;
 pub use note::Note;
+pub use sector_bytes::SectorBytes;
 pub use two_phase::{two_phase_write, write_blocks_through, write_through};

@@ -2,8 +2,8 @@
 use crate::asserted::{same, same_in};
 use crate::opened::blank_station;
 use roots::{
-    GENERATIONS, Root, RootSector, RootsError, RootsFault, newest_of, read_root, read_roots,
-    root_sector,
+    GENERATIONS, Root, RootSector, RootsError, RootsFault, newest_of, put_head, read_root,
+    read_roots, root_sector,
 };
 use station::{Device, MemoryStation};
 use std::process::Abort;
@@ -29,6 +29,19 @@ enum Found {
     Newest(u64, bool),
     Damaged,
     Foreign,
+}
+
+// The mark, the generation and the number of sectors stand in front; what is behind stays.
+#[test]
+fn a_head_in_front_of_a_payload(rt: HostRuntime) {
+    let mut bytes = filled(9);
+    put_head(&mut bytes, b"COBVOL01", 0x0102_0304_0506_0708, 2048);
+    same(
+        &rt,
+        bytes.starts_with(b"COBVOL01\x01\x02\x03\x04\x05\x06\x07\x08\x00\x00\x08\x00"),
+        true,
+    );
+    same(&rt, bytes[20..].iter().all(|byte| *byte == 9), true);
 }
 
 // The bytes after the number of sectors.

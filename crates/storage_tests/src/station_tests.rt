@@ -1,6 +1,8 @@
 //! Rows of single calls on a station in memory: what each answers, what a failure and a stop do, and what a crash leaves.
 use crate::asserted::{holds, same, same_in};
-use station::{Block, Device, DeviceError, MemoryStation, Note, Station, two_phase_write};
+use station::{
+    Block, Device, DeviceError, MemoryStation, Note, SectorBytes, Station, two_phase_write,
+};
 use std::alloc::{AllocError, Global};
 use std::process::Abort;
 
@@ -310,15 +312,19 @@ fn a_crash_keeps_the_console(rt: HostRuntime) {
 }
 
 // Puts 2 and 3 in sectors 2 and 3, and then the root 9 in sector 1.
-fn put_all(station: &mut MemoryStation) -> Result<(), DeviceError> {
+fn put_all(station: &mut MemoryStation, alloc: Global) -> Result<(), DeviceError> {
+    let second = filled(2);
+    let Ok(third) = SectorBytes::owned(alloc, filled(3)) else {
+        return Err(DeviceError::Failed);
+    };
     let blocks = [
         Block {
             sector: 2,
-            bytes: filled(2),
+            bytes: SectorBytes::borrowed(&second),
         },
         Block {
             sector: 3,
-            bytes: filled(3),
+            bytes: third,
         },
     ];
     if station.count() < 8 {
@@ -331,7 +337,7 @@ fn put_all(station: &mut MemoryStation) -> Result<(), DeviceError> {
 fn stopped_put(rt: &impl Abort, alloc: Global, n: u64, works: bool, choose: &[u32], left: [u8; 3]) {
     let mut station = fresh_station(rt, alloc);
     station.stop_at(n);
-    same_in(rt, &n, put_all(&mut station).is_ok(), works);
+    same_in(rt, &n, put_all(&mut station, alloc).is_ok(), works);
     station.crash(choose);
     let now = [
         first_byte(rt, &mut station, 1),

@@ -1,5 +1,7 @@
 use Rattle.std.proofs.Common.{◌≡◌, ◌<◌, ◌+◌, ◌/◌, ◌^◌, ◌∙◌, ⊎_elim, ℕ, List, [], length, get_or, sym, ap, subst, arith, refl}
-use Rattle.std.specs.Prelude.{false}
+use Rattle.std.specs.Prelude.{false, Some, slice_set}
+use Rattle.station.specs.Disk.{Sector}
+use Rattle.pages.specs.Pages.{map_now}
 use Rattle.pages.specs.Image.{NamesOnce}
 use Rattle.pages.specs.Changes.{changed_pages, kept, ArePlaced}
 use Rattle.pages.specs.declared.change.Change.{Change}
@@ -50,7 +52,19 @@ pub returns-in_err-change-clause-full : goal.returns-in_err-change-clause-full
 returns-in_err-change-clause-full c = λ is.
     let table = c.args.self.now.volume.table.items in
     let changes = c.args.self.now.changes.items in (
-      λ full. absurd (let told = rw full at c.from_residual.ensures.1 in ⊎_elim (λ memory. cc (told, memory)) (λ spent. cc (told, spent)) c.in_err-change.ensures.cause),
+      λ full. absurd (let told = rw full at c.from_residual-in_err-change.ensures.1 in ⊎_elim (λ memory. cc (told, memory)) (λ spent. cc (told, spent)) c.in_err-change.ensures.cause),
       λ each. absurd (each [] c.in-Some.page (c.in-Some.ensures.found.0, subst (λ (l : List ℕ). c.in-Some.page < length l) c.deref.ensures.value c.in-Some.ensures.found.1)
           (unused_none [] table changes c.in-Some.page (at_map table c.deref.result.now changes c.deref-2.result.now c.in-Some.page c.deref.ensures.value c.deref-2.ensures.value ∙ c.in-Some.ensures.found.2))),
     )
+
+pub returns-in_err-kept-clause-full : goal.returns-in_err-kept-clause-full
+returns-in_err-kept-clause-full c = λ is.
+    let table = c.args.self.now.volume.table.items in
+    let changes = c.args.self.now.changes.items in (
+      λ full. absurd (let told = rw full at c.from_residual.ensures.1 in cc (told)),
+      λ each. absurd (each [] c.in-Some.page (c.in-Some.ensures.found.0, subst (λ (l : List ℕ). c.in-Some.page < length l) c.deref.ensures.value c.in-Some.ensures.found.1)
+          (unused_none [] table changes c.in-Some.page (at_map table c.deref.result.now changes c.deref-2.result.now c.in-Some.page c.deref.ensures.value c.deref-2.ensures.value ∙ c.in-Some.ensures.found.2))),
+    )
+
+pub returns-clause-map : goal.returns-clause-map
+returns-clause-map c = λ image. c.in_ok-change.ensures.map image ∙ ap (λ (b : Sector). slice_set (map_now c.args.self.now image).pages c.in-Some.page (Some b)) c.in_ok-kept.ensures
