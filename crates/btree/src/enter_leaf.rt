@@ -40,9 +40,7 @@ fn spell_entered(
     if place == 0 {
         return false;
     }
-    let mut leaf = node.to_page();
-    leaf.insert(place, key, value);
-    *spelled = leaf.bytes();
+    node.spell_inserted(place, key, value, spelled);
     true
 }
 

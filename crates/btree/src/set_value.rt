@@ -36,9 +36,7 @@ fn spell_set(
         Ok(place) => place,
         Err(_) => return false,
     };
-    let mut leaf = node.to_page();
-    leaf.set_rest(place, value);
-    *spelled = leaf.bytes();
+    node.spell_with_rest(place, value, spelled);
     true
 }
 

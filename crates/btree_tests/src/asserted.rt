@@ -98,6 +98,32 @@ pub fn set_rest(rt: &impl Abort, page: &mut TreePage, place: usize, rest: &[u8])
     page.set_rest(place, rest);
 }
 
+/// What this page is with a row more at this place, written over other bytes.
+pub fn spelled_insert(
+    rt: &impl Abort,
+    page: &TreePage,
+    place: usize,
+    key: &[u8],
+    rest: &[u8],
+) -> [u8; 4096] {
+    assert!(rt; place <= page.count());
+    assert!(rt; !page.is_full());
+    assert!(rt; key.len() == page.layout().key_length);
+    assert!(rt; rest.len() == rest_length(page));
+    let mut bytes = [9; 4096];
+    page.view().spell_inserted(place, key, rest, &mut bytes);
+    bytes
+}
+
+/// What this page is with another rest in the row at this place, written over other bytes.
+pub fn spelled_rest(rt: &impl Abort, page: &TreePage, place: usize, rest: &[u8]) -> [u8; 4096] {
+    assert!(rt; place < page.count());
+    assert!(rt; rest.len() == rest_length(page));
+    let mut bytes = [9; 4096];
+    page.view().spell_with_rest(place, rest, &mut bytes);
+    bytes
+}
+
 /// Takes the rows from this place on out of the page.
 pub fn split_off(rt: &impl Abort, page: &mut TreePage, place: usize) -> TreePage {
     assert!(rt; place <= page.count());

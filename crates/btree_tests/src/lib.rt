@@ -23,4 +23,6 @@ mod reading_tests;
 #[cfg(test)]
 mod refusal_tests;
 #[cfg(test)]
+mod spelled_tests;
+#[cfg(test)]
 mod volume;

@@ -8,7 +8,7 @@ use Rattle.tree_pages.specs.Node.{rows_in}
 use Rattle.tree_pages.proofs.Rows.{drop-rows_in, get_or-rows_in, length-rows_in, rows_in-append, rows_in-front, rows_in-take, take-rows_in}
 
 -- the bytes of some rows, and of those behind them
-together : (row n place more : ℕ) → n ≡ place + more → n * row ≡ place * row + more * row
+pub together : (row n place more : ℕ) → n ≡ place + more → n * row ≡ place * row + more * row
 together row n place more e = rw e (omega arith)
 
 -- one row between the rows before a place and a tail

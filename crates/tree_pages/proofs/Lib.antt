@@ -1,3 +1,4 @@
+pub mod Around
 pub mod Beginnings
 pub mod Changed
 pub mod Edited

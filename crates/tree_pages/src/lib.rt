@@ -10,6 +10,7 @@ mod node_view;
 mod row_bytes;
 mod row_layout;
 mod search;
+mod spelled;
 mod tree_page;
 
 pub use laws::{
