@@ -12,7 +12,7 @@ use std::alloc::Global;
 const NUMBERS: u64 = 4294967296;
 
 /// The bytes of an arrival.
-const ARRIVAL_BYTES: usize = 8;
+pub(crate) const ARRIVAL_BYTES: usize = 8;
 
 /// The aim at a value with its number.
 fn aim_at_pair(side: Side) -> Aim
@@ -127,7 +127,7 @@ pub(crate) fn pair_bytes(alloc: Global, value: &[u8], number: u64) -> Result<Vec
     ensures bytes { IfOk result (λ bytes. bytes.items ≡ value.now ++ big_bytes 8 number) }
     ensures memory { IsOkUnless result StoreFault.Memory }
 {
-    let mut out = Vec::new(alloc);
+    let mut out = Vec::with_capacity(alloc, value.len().saturating_add(ARRIVAL_BYTES))?;
     out.extend_from_slice(value)?;
     out.extend_from_slice(&number.to_be_bytes())?;
     Ok(out)

@@ -36,7 +36,8 @@ pub(crate) fn catalog_tree(alloc: Global, root: u32) -> Tree
     Tree::new(alloc, layout, root)
 }
 
-/// The entry of a name in the catalog.
+/// The entry of a name in the catalog. It isn't built into its callers, as each entry on the way to its answer takes room there.
+#[inline(never)]
 pub(crate) fn find_listing<D: Device>(
     alloc: Global,
     pages: &mut PageMap,

@@ -21,7 +21,9 @@ use records::{KeyOfReference, StoreFault};
 use station::Device;
 use std::alloc::Global;
 
-/// Whether a row has this value of an alternate key, by the key's tree.
+/// Whether a row has this value of an alternate key, by the key's tree. It isn't built into its callers, so that its entry takes no
+/// room beside what they have.
+#[inline(never)]
 pub(crate) fn is_value_there<D: Device>(
     alloc: Global,
     tree: &Tree,

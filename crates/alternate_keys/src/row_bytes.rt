@@ -6,7 +6,7 @@ ghost use Rattle.records.specs.Rows.{part, named_pair};
 ghost use Rattle.records.specs.Changes.{new_number};
 ghost use Rattle.file_trees.specs.Trees.{prime_key};
 
-use crate::aiming::{number_bytes, pair_bytes};
+use crate::aiming::{ARRIVAL_BYTES, number_bytes, pair_bytes};
 use records::{AlternateKey, FileSpec, KeyOfReference, KeyPlace, Organization, StoreFault};
 use std::alloc::Global;
 
@@ -82,7 +82,9 @@ pub(crate) fn new_value(
     ensures value { IfOk result (λ value. value.items ≡ bytes.now ++ flat_map (big_bytes 8) (map (λ key. arrival) file.now.alternates.items)) }
     ensures memory { IsOkUnless result StoreFault.Memory }
 {
-    let mut out = copy_of(alloc, bytes)?;
+    let arrivals = ARRIVAL_BYTES.saturating_mul(file.alternates.len());
+    let mut out = Vec::with_capacity(alloc, bytes.len().saturating_add(arrivals))?;
+    out.extend_from_slice(bytes)?;
     push_arrivals(&mut out, &file.alternates, arrival)?;
     Ok(out)
 }

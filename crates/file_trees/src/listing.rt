@@ -117,7 +117,7 @@ pub fn spell_spec(alloc: Global, file: &FileSpec) -> Result<Vec<u8>, StoreFault>
     ensures bytes { IfOk result (λ bytes. bytes.items ≡ spec_bytes (spec_of file.now)) }
     ensures memory { IsOkUnless result StoreFault.Memory }
 {
-    let mut out = Vec::new(alloc);
+    let mut out = Vec::with_capacity(alloc, LISTING_BYTES)?;
     push_head(&mut out, file)?;
     push_keys(&mut out, &file.alternates)?;
     push_zeros(&mut out, KEYS_BYTES - KEY_BYTES * file.alternates.len())?;
