@@ -143,6 +143,7 @@ pub(crate) fn take_page(
     bytes: &[u8; 4096],
 ) -> Option<PageBytes>
     ensures bytes { IsSome (lookup (nat_eq page) cache.old.entries) → result ≡ Some bytes.now }
+    ensures missing { lookup (nat_eq page) cache.old.entries ≡ None → result ≡ None }
     ensures entries { cache.new ≡ forgotten page cache.old }
     ensures valid { IsValid nat_eq cache.old }
 {

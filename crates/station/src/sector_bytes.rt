@@ -11,8 +11,7 @@ pub(crate) enum Place<'a> {
     Owned(Box<[u8; 4096]>),
 }
 
-/// The bytes of a sector: another keeps them, or they stand on the heap. So what is written is copied where it has no other owner
-/// alone.
+/// The bytes of a sector. Another keeps them, and then they aren't copied, or they are its own on the heap.
 #[derive(Drop)]
 pub struct SectorBytes<'a> {
     pub(crate) place: Place<'a>,
