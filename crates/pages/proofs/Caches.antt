@@ -1,6 +1,6 @@
 -- What the cache holds stays right.
 use Rattle.std.proofs.Common.{◌≡◌, ◌<◌, zero, suc, ◌⊎◌, ⊎_elim, inl, inr, ℕ, Bool, List, [], ◌∷◌, ◌++◌, length, get_or, cond, true, false, refl, sym, ◌∙◌, ap, subst, arith, Bor}
-use Rattle.std.specs.Prelude.{option_copied, Option, Some, None, Contains, IsSome, IfNone, IfSome, nat_eq}
+use Rattle.std.specs.Prelude.{option_copied, Option, Some, None, is_some, Contains, IsSome, IfNone, IfSome, nat_eq}
 use Rattle.std.specs.List.{All, IsDistinct}
 use Rattle.std.specs.Map.{lookup, lookup_entry, remove_entry, keys_of}
 use Rattle.std.specs.Cmp.{nat_eq_equiv}
@@ -9,7 +9,7 @@ use Rattle.std.proofs.lemmas.List.{get_or-map, get_or_default, length-map}
 use Rattle.std.proofs.lemmas.List.Elements.{Contains-append_cases, Contains-append_left, Contains-append_right}
 use Rattle.std.proofs.lemmas.Map.{lookup-remove_entry}
 use Rattle.std.proofs.lemmas.Map.Views.{IsSome-lookup_from_Contains}
-use Rattle.station.specs.Disk.{Sector}
+use Rattle.station.specs.Disk.{Sector, sector_at}
 use Rattle.lru.specs.LruCache.{LruCache, lru_cache, promoted, put_entries}
 use Rattle.lru.proofs.Splits.{Contains-head}
 use Rattle.lru.proofs.CallerLemmas.{Contains-lookup, Contains-promoted, Contains-remove_entry, Contains-put_entries}
@@ -17,7 +17,7 @@ use Rattle.pages.specs.Cache.{IsCacheOf, Recalls, StaysOut, ComesIn, Keeps, Keep
 use Rattle.pages.specs.Changes.{changed, changed_pages, ChangesPage}
 use Rattle.pages.specs.declared.change.Change.{Change}
 use Rattle.pages.proofs.Edits.{changed_at, away_same, is_only, only_same}
-use Rattle.pages.specs.Image.{NamesOnce}
+use Rattle.pages.specs.Image.{NamesOnce, pages_in, page_at}
 
 -- a page of the cache is the page
 pub hit_page : (pages : List (Option Sector)) (changed : List ℕ) (entries : List (ℕ × Sector)) (page : ℕ) (bytes : Sector) → IsCacheOf pages changed entries → lookup (nat_eq page) entries ≡ Some bytes → Some bytes ≡ get_or pages page None
@@ -67,6 +67,33 @@ after_kept pages changed old new page bytes here away is kept = ⊎_elim
     (λ same. subst (λ (l : LruCache ℕ Sector). IsCacheOf pages changed l.entries) (sym same) is)
     (λ put. subst (λ (l : LruCache ℕ Sector). IsCacheOf pages changed l.entries) (sym put) (after_put pages changed old page bytes here away is))
     kept
+
+-- the page of an entry of the table
+entry_page : (image : List Sector) (table : List ℕ) (page : ℕ) → get_or (pages_in image table) page None ≡ page_at image (get_or table page 0)
+entry_page image [] page = refl
+entry_page image (s ∷ table) zero = refl
+entry_page image (s ∷ table) (suc n) = entry_page image table n
+
+sector_page : (image : List Sector) (sector : ℕ) → 0 < sector → page_at image sector ≡ Some (sector_at image sector)
+sector_page image zero some = absurd (omega (arith, some))
+sector_page image (suc s) some = refl
+
+-- a page whose sector is there is what the sector holds
+pub named_page : (image : List Sector) (table : List ℕ) (page sector : ℕ) → sector ≡ get_or table page 0 → 0 < sector → get_or (pages_in image table) page None ≡ Some (sector_at image sector)
+named_page image table page sector is some = entry_page image table page ∙ ap (λ (s : ℕ). page_at image s) (sym is) ∙ sector_page image sector some
+
+no_sector : (image : List Sector) (sector : ℕ) → page_at image sector ≡ None → sector ≡ 0
+no_sector image zero none = refl
+no_sector image (suc s) none = cc
+
+-- and one that isn't there has none
+pub unnamed_page : (image : List Sector) (table : List ℕ) (page : ℕ) → get_or (pages_in image table) page None ≡ None → get_or table page 0 ≡ 0
+unnamed_page image table page none = no_sector image (get_or table page 0) (sym (entry_page image table page) ∙ none)
+
+-- what a search without a result tells
+pub none_found : {A : Type 0} (found : Option A) (Told : Type 0) → is_some found ≡ false → IfNone found Told → Told
+none_found None Told none told = told
+none_found (Some x) Told none told = absurd (false≢true (sym none))
 
 pub recalls_kept : (old new : LruCache ℕ Sector) (page : ℕ) (bytes : Sector) → lookup (nat_eq page) old.entries ≡ None → Keeps page bytes old new → Recalls page (Some bytes) old new
 recalls_kept old new page bytes none kept = ⊎_elim (λ same. StaysOut none same) (λ put. ComesIn bytes none refl put) kept

@@ -128,12 +128,12 @@ kept_where image table changes page there = ⊎_elim (λ is. is) (λ is. absurd 
 table_covers : (sectors maps table : ℕ) → maps ≡ (sectors + 1023) / 1024 → table ≡ 1024 * maps → sectors ≤ table
 table_covers sectors maps table maps_is table_is = omega arith
 
-pub crowded : (m : VolumeMap) (changes : List Change) → IsSound m → ((image : List Sector) (page : ℕ) → (0 < page) × (page < length m.table.items) → get_or (applied (λ o. o) (pages_in image m.table.items) changes) page None ≢ None)
+pub crowded : (m : VolumeMap) (changes : List Change) → IsSound m → ((image : List Sector) (page : ℕ) → (0 < page) × (page < length m.table) → get_or (applied (λ o. o) (pages_in image m.table) changes) page None ≢ None)
     → free_count (volume_of m) < length changes
 crowded m changes sound each =
     let list = names (volume_of m) in
-    let used = each_used m.table.items changes (λ page some low. kept_where [] m.table.items changes page (each [] page (some, low))) in
+    let used = each_used m.table changes (λ page some low. kept_where [] m.table changes page (each [] page (some, low))) in
     let marked = marked_least m.sectors list m.used (omega (arith, sound.least)) sound.once sound.places sound.in_use in
-    let both = sum_by-append (λ (s : ℕ). cond (not (s == 0)) 1 0) m.maps.items m.table.items in
-    let wide = table_covers m.sectors (length m.maps.items) (length m.table.items) sound.maps_count sound.count in
+    let both = sum_by-append (λ (s : ℕ). cond (not (s == 0)) 1 0) m.maps.items m.table in
+    let wide = table_covers m.sectors (length m.maps.items) (length m.table) sound.maps_count sound.count in
     omega (arith, used, marked, both, wide, true_or_not m.used, sound.in_use.count, counted m.sectors list m.used sound.in_use)

@@ -45,12 +45,12 @@ naming_as v used used' named named' turns turns' next next' u n t k is =
     subst (λ (x : List Bool). Naming v x named' turns' next') (sym u) (subst (λ (x : List ℕ). Naming v used x turns' next') (sym n)
     (subst (λ (x : List Turn). Naming v used named x next') (sym t) (subst (λ (x : ℕ). Naming v used named turns x) (sym k) is)))
 
-module _ (v : Volume) (m : VolumeMap) (d : Draft) (changes : List Change) (draft : IsDraft v m d changes) (c : Change) (some : 0 < c.page) (in_table : c.page < length m.table.items) (low : c.page / 1024 < length d.changed_maps.items) where
+module _ (v : Volume) (m : VolumeMap) (d : Draft) (changes : List Change) (draft : IsDraft v m d changes) (c : Change) (some : 0 < c.page) (in_table : c.page < length m.table) (low : c.page / 1024 < length d.changed_maps.items) where
   abbrev maps : List ℕ
   maps = m.maps.items
 
   abbrev table : List ℕ
-  table = m.table.items
+  table = m.table
 
   abbrev place : ℕ
   place = length maps + c.page
@@ -79,11 +79,11 @@ module _ (v : Volume) (m : VolumeMap) (d : Draft) (changes : List Change) (draft
       record {
         in_use = subst (λ (u : List Bool). IsUse v.root.sectors (names v) u) (sym sets.size.used) draft.in_use;
         some = draft.some;
-        staged = staged_as v maps after.maps.items (set table c.page s) after.table.items (set d.changed_maps.items (c.page / 1024) true) last.changed_maps.items (d.blocks.items ++ b ∷ []) last.blocks.items (changes ++ c ∷ [])
+        staged = staged_as v maps after.maps.items (set table c.page s) after.table (set d.changed_maps.items (c.page / 1024) true) last.changed_maps.items (d.blocks.items ++ b ∷ []) last.blocks.items (changes ++ c ∷ [])
             (ap (λ (x : Vec ℕ Global). x.items) sets.maps) sets.table (sets.changed_maps ∙ ap (λ (x : Vec Bool Global). set x.items (c.page / 1024) true) placed.changed_maps) (ap (λ (x : Vec Block Global). x.items) sets.blocks ∙ placed.blocks)
             (page_staged v maps table d.changed_maps.items d.blocks.items changes c draft.staged some low b free (λ has. unnamed (Contains-append_right maps table s has)) is);
-        naming = naming_as v m.used after.used (maps ++ set table c.page s) (after.maps.items ++ after.table.items) (d.turns.items ++ turns_of (get_or table c.page 0) s) last.turns.items (s + 1) last.next
-            sets.size.used (ap (λ (x : Vec ℕ Global). x.items ++ after.table.items) sets.maps ∙ ap (λ (l : List ℕ). maps ++ l) sets.table)
+        naming = naming_as v m.used after.used (maps ++ set table c.page s) (after.maps.items ++ after.table) (d.turns.items ++ turns_of (get_or table c.page 0) s) last.turns.items (s + 1) last.next
+            sets.size.used (ap (λ (x : Vec ℕ Global). x.items ++ after.table) sets.maps ∙ ap (λ (l : List ℕ). maps ++ l) sets.table)
             (sets.turns ∙ ap (λ (x : Vec Turn Global). x.items ++ turns_of (get_or table c.page 0) s) placed.turns) (sets.next ∙ placed.next)
             (table_renamed s (s + 1) (inr (placed.later, free, refl)));
       }
@@ -102,11 +102,11 @@ module _ (v : Volume) (m : VolumeMap) (d : Draft) (changes : List Change) (draft
   release_drafted last after is (HadOne some_there sets) = record {
     in_use = subst (λ (u : List Bool). IsUse v.root.sectors (names v) u) (sym sets.size.used) draft.in_use;
     some = draft.some;
-    staged = staged_as v maps after.maps.items (set table c.page 0) after.table.items (set d.changed_maps.items (c.page / 1024) true) last.changed_maps.items d.blocks.items last.blocks.items (changes ++ c ∷ [])
+    staged = staged_as v maps after.maps.items (set table c.page 0) after.table (set d.changed_maps.items (c.page / 1024) true) last.changed_maps.items d.blocks.items last.blocks.items (changes ++ c ∷ [])
         (ap (λ (x : Vec ℕ Global). x.items) sets.maps) sets.table sets.changed_maps (ap (λ (x : Vec Block Global). x.items) sets.blocks)
         (page_released v maps table d.changed_maps.items d.blocks.items changes c draft.staged some low is (set d.changed_maps.items (c.page / 1024) true) (inl refl));
-    naming = naming_as v m.used after.used (maps ++ set table c.page 0) (after.maps.items ++ after.table.items) (d.turns.items ++ turns_of (get_or table c.page 0) 0) last.turns.items d.next last.next
-        sets.size.used (ap (λ (x : Vec ℕ Global). x.items ++ after.table.items) sets.maps ∙ ap (λ (l : List ℕ). maps ++ l) sets.table) sets.turns sets.next
+    naming = naming_as v m.used after.used (maps ++ set table c.page 0) (after.maps.items ++ after.table) (d.turns.items ++ turns_of (get_or table c.page 0) 0) last.turns.items d.next last.next
+        sets.size.used (ap (λ (x : Vec ℕ Global). x.items ++ after.table) sets.maps ∙ ap (λ (l : List ℕ). maps ++ l) sets.table) sets.turns sets.next
         (table_renamed 0 d.next (inl (refl, refl)));
   }
 
@@ -114,58 +114,58 @@ module _ (v : Volume) (m : VolumeMap) (d : Draft) (changes : List Change) (draft
 module _ (v : Volume) (m : VolumeMap) (d : Draft) (changes : List Change) (j : ℕ) (draft : IsMappedDraft v m d changes j) (low : j < length m.maps.items) where
   -- one whose entries didn't change
   pub kept_mapped : get_or d.changed_maps.items j false ≡ false → IsMappedDraft v m d changes (j + 1)
-  kept_mapped is = record { draft = draft.draft; mapped = map_kept v m.maps.items m.table.items d.changed_maps.items d.blocks.items changes j draft.draft.staged draft.mapped low is }
+  kept_mapped is = record { draft = draft.draft; mapped = map_kept v m.maps.items m.table d.changed_maps.items d.blocks.items changes j draft.draft.staged draft.mapped low is }
 
   maps_renamed : (s after : ℕ) → ((s ≡ 0) × (after ≡ d.next)) ⊎ ((d.next ≤ s) × IsFree v s × (after ≡ s + 1))
-      → Naming v m.used (set m.maps.items j s ++ m.table.items) (d.turns.items ++ turns_of (get_or m.maps.items j 0) s) after
-  maps_renamed s after choice = subst (λ (l : List ℕ). Naming v m.used l (d.turns.items ++ turns_of (get_or m.maps.items j 0) s) after) (set-append_left m.maps.items m.table.items j s low)
-      (subst (λ (t : ℕ). Naming v m.used (set (m.maps.items ++ m.table.items) j s) (d.turns.items ++ turns_of t s) after) (get_or_append_left m.maps.items m.table.items 0 j low)
-      (renamed v m.used (m.maps.items ++ m.table.items) d.turns.items d.next j s after draft.draft.some (omega (arith, low, length-append m.maps.items m.table.items)) draft.draft.naming choice))
+      → Naming v m.used (set m.maps.items j s ++ m.table) (d.turns.items ++ turns_of (get_or m.maps.items j 0) s) after
+  maps_renamed s after choice = subst (λ (l : List ℕ). Naming v m.used l (d.turns.items ++ turns_of (get_or m.maps.items j 0) s) after) (set-append_left m.maps.items m.table j s low)
+      (subst (λ (t : ℕ). Naming v m.used (set (m.maps.items ++ m.table) j s) (d.turns.items ++ turns_of t s) after) (get_or_append_left m.maps.items m.table 0 j low)
+      (renamed v m.used (m.maps.items ++ m.table) d.turns.items d.next j s after draft.draft.some (omega (arith, low, length-append m.maps.items m.table)) draft.draft.naming choice))
 
   -- one of zeros
-  pub blank_mapped : (last : Draft) (after : VolumeMap) → map_part m.table.items j ≡ zeros → SetsMap m after d last j 0 → IsMappedDraft v after last changes (j + 1)
+  pub blank_mapped : (last : Draft) (after : VolumeMap) → map_part m.table j ≡ zeros → SetsMap m after d last j 0 → IsMappedDraft v after last changes (j + 1)
   blank_mapped last after blank sets =
       let maps_is = sets.maps in
-      let table_is = ap (λ (x : Vec ℕ Global). x.items) sets.table in
+      let table_is = sets.table in
       let changed_is = ap (λ (x : Vec Bool Global). x.items) sets.changed_maps in
       let blocks_is = ap (λ (x : Vec Block Global). x.items) sets.blocks in
       record {
         draft = record {
           in_use = subst (λ (u : List Bool). IsUse v.root.sectors (names v) u) (sym sets.size.used) draft.draft.in_use;
           some = draft.draft.some;
-          staged = staged_as v (set m.maps.items j 0) after.maps.items m.table.items after.table.items d.changed_maps.items last.changed_maps.items d.blocks.items last.blocks.items changes maps_is table_is changed_is blocks_is
-              (blank_staged v m.maps.items m.table.items d.changed_maps.items d.blocks.items changes j draft.draft.staged draft.mapped low);
-          naming = naming_as v m.used after.used (set m.maps.items j 0 ++ m.table.items) (after.maps.items ++ after.table.items) (d.turns.items ++ turns_of (get_or m.maps.items j 0) 0) last.turns.items d.next last.next
-              sets.size.used (ap (λ (x : List ℕ). x ++ after.table.items) maps_is ∙ ap (λ (l : List ℕ). set m.maps.items j 0 ++ l) table_is) sets.turns sets.next
+          staged = staged_as v (set m.maps.items j 0) after.maps.items m.table after.table d.changed_maps.items last.changed_maps.items d.blocks.items last.blocks.items changes maps_is table_is changed_is blocks_is
+              (blank_staged v m.maps.items m.table d.changed_maps.items d.blocks.items changes j draft.draft.staged draft.mapped low);
+          naming = naming_as v m.used after.used (set m.maps.items j 0 ++ m.table) (after.maps.items ++ after.table) (d.turns.items ++ turns_of (get_or m.maps.items j 0) 0) last.turns.items d.next last.next
+              sets.size.used (ap (λ (x : List ℕ). x ++ after.table) maps_is ∙ ap (λ (l : List ℕ). set m.maps.items j 0 ++ l) table_is) sets.turns sets.next
               (maps_renamed 0 d.next (inl (refl, refl)));
         };
-        mapped = mapped_as v (set m.maps.items j 0) after.maps.items m.table.items after.table.items d.blocks.items last.blocks.items (j + 1) maps_is table_is blocks_is
-            (map_blank v m.maps.items m.table.items d.changed_maps.items d.blocks.items changes j draft.draft.staged draft.mapped low blank);
+        mapped = mapped_as v (set m.maps.items j 0) after.maps.items m.table after.table d.blocks.items last.blocks.items (j + 1) maps_is table_is blocks_is
+            (map_blank v m.maps.items m.table d.changed_maps.items d.blocks.items changes j draft.draft.staged draft.mapped low blank);
       }
 
   -- one that is written
-  pub written_mapped : (bytes : Sector) (mid last : Draft) (after : VolumeMap) (s : ℕ) → words bytes ≡ map_part m.table.items j → PlacesBlock m.used d mid s bytes → SetsMap m after mid last j s → IsMappedDraft v after last changes (j + 1)
+  pub written_mapped : (bytes : Sector) (mid last : Draft) (after : VolumeMap) (s : ℕ) → words bytes ≡ map_part m.table j → PlacesBlock m.used d mid s bytes → SetsMap m after mid last j s → IsMappedDraft v after last changes (j + 1)
   written_mapped bytes mid last after s spells placed sets =
       let free : IsFree v s = unused_free v m.used s draft.draft.in_use placed.low placed.free in
       let b : Block = record { sector = s; bytes = bytes } in
-      let unnamed = unnamed_yet v m.used (m.maps.items ++ m.table.items) d.turns.items d.next s draft.draft.naming placed.later free in
+      let unnamed = unnamed_yet v m.used (m.maps.items ++ m.table) d.turns.items d.next s draft.draft.naming placed.later free in
       let maps_is = sets.maps in
-      let table_is = ap (λ (x : Vec ℕ Global). x.items) sets.table in
+      let table_is = sets.table in
       let changed_is = ap (λ (x : Vec Bool Global). x.items) (sets.changed_maps ∙ placed.changed_maps) in
       let blocks_is = ap (λ (x : Vec Block Global). x.items) sets.blocks ∙ placed.blocks in
       record {
         draft = record {
           in_use = subst (λ (u : List Bool). IsUse v.root.sectors (names v) u) (sym sets.size.used) draft.draft.in_use;
           some = draft.draft.some;
-          staged = staged_as v (set m.maps.items j s) after.maps.items m.table.items after.table.items d.changed_maps.items last.changed_maps.items (d.blocks.items ++ b ∷ []) last.blocks.items changes maps_is table_is changed_is blocks_is
-              (written_staged v m.maps.items m.table.items d.changed_maps.items d.blocks.items changes j draft.draft.staged draft.mapped low b free unnamed);
-          naming = naming_as v m.used after.used (set m.maps.items j s ++ m.table.items) (after.maps.items ++ after.table.items) (d.turns.items ++ turns_of (get_or m.maps.items j 0) s) last.turns.items (s + 1) last.next
-              sets.size.used (ap (λ (x : List ℕ). x ++ after.table.items) maps_is ∙ ap (λ (l : List ℕ). set m.maps.items j s ++ l) table_is)
+          staged = staged_as v (set m.maps.items j s) after.maps.items m.table after.table d.changed_maps.items last.changed_maps.items (d.blocks.items ++ b ∷ []) last.blocks.items changes maps_is table_is changed_is blocks_is
+              (written_staged v m.maps.items m.table d.changed_maps.items d.blocks.items changes j draft.draft.staged draft.mapped low b free unnamed);
+          naming = naming_as v m.used after.used (set m.maps.items j s ++ m.table) (after.maps.items ++ after.table) (d.turns.items ++ turns_of (get_or m.maps.items j 0) s) last.turns.items (s + 1) last.next
+              sets.size.used (ap (λ (x : List ℕ). x ++ after.table) maps_is ∙ ap (λ (l : List ℕ). set m.maps.items j s ++ l) table_is)
               (sets.turns ∙ ap (λ (x : Vec Turn Global). x.items ++ turns_of (get_or m.maps.items j 0) s) placed.turns) (sets.next ∙ placed.next)
               (maps_renamed s (s + 1) (inr (placed.later, free, refl)));
         };
-        mapped = mapped_as v (set m.maps.items j s) after.maps.items m.table.items after.table.items (d.blocks.items ++ b ∷ []) last.blocks.items (j + 1) maps_is table_is blocks_is
-            (map_written v m.maps.items m.table.items d.changed_maps.items d.blocks.items changes j draft.draft.staged draft.mapped low b free unnamed spells);
+        mapped = mapped_as v (set m.maps.items j s) after.maps.items m.table after.table (d.blocks.items ++ b ∷ []) last.blocks.items (j + 1) maps_is table_is blocks_is
+            (map_written v m.maps.items m.table d.changed_maps.items d.blocks.items changes j draft.draft.staged draft.mapped low b free unnamed spells);
       }
 
 pub same_size_then : (a b c : VolumeMap) → SameSize a b → SameSize b c → SameSize a c

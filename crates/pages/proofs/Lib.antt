@@ -1,4 +1,5 @@
 pub mod Words
+pub mod Spellings
 pub mod Roots
 pub mod Runs
 pub mod Frame

@@ -41,9 +41,9 @@ start_marks n some =
         (which s low)
 
 -- all that was read of an image is a volume that it holds
-pub reads_now : (image : List Sector) (m : VolumeMap) (used : List Bool) → newest image ≡ Some (volume_of m).root → length m.table.items ≡ 1024 * length m.maps.items
-    → ((i : ℕ) → i < length m.maps.items → map_at image (get_or m.maps.items i 0) ≡ map_part m.table.items i)
-    → IsMarked (m.maps.items ++ m.table.items) used → length used ≡ m.sectors → get_or m.table.items 0 0 ≡ 0 → Reads image (volume_of m)
+pub reads_now : (image : List Sector) (m : VolumeMap) (used : List Bool) → newest image ≡ Some (volume_of m).root → length m.table ≡ 1024 * length m.maps.items
+    → ((i : ℕ) → i < length m.maps.items → map_at image (get_or m.maps.items i 0) ≡ map_part m.table i)
+    → IsMarked (m.maps.items ++ m.table) used → length used ≡ m.sectors → get_or m.table 0 0 ≡ 0 → Reads image (volume_of m)
 reads_now image m used root count entries marked all first = record {
   root = root;
   maps = record {
@@ -55,8 +55,8 @@ reads_now image m used root count entries marked all first = record {
   };
 }
 
-pub sound_now : (m : VolumeMap) → m.generation < 2 ^ 63 → 1024 ≤ m.sectors → m.sectors ≤ 921600 → length m.maps.items ≡ map_count m.sectors → length m.table.items ≡ 1024 * length m.maps.items
-    → IsMarked (m.maps.items ++ m.table.items) m.used → length m.used ≡ m.sectors → get_or m.table.items 0 0 ≡ 0 → m.free ≡ unused_count m.used → IsSound m
+pub sound_now : (m : VolumeMap) → m.generation < 2 ^ 63 → 1024 ≤ m.sectors → m.sectors ≤ 921600 → length m.maps.items ≡ map_count m.sectors → length m.table ≡ 1024 * length m.maps.items
+    → IsMarked (m.maps.items ++ m.table) m.used → length m.used ≡ m.sectors → get_or m.table 0 0 ≡ 0 → m.free ≡ unused_count m.used → IsSound m
 sound_now m generation least most maps count marked all first free = record {
   generation = generation;
   least = least;
@@ -66,7 +66,7 @@ sound_now m generation least most maps count marked all first free = record {
   places = λ s has. subst (λ (n : ℕ). IsPlace n s) all (marked.names.places s has);
   once = marked.names.once;
   unused = first;
-  in_use = subst (λ (n : ℕ). IsUse n (m.maps.items ++ m.table.items) m.used) all marked.in_use;
+  in_use = subst (λ (n : ℕ). IsUse n (m.maps.items ++ m.table) m.used) all marked.in_use;
   free = free;
 }
 

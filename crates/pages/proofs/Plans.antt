@@ -29,7 +29,7 @@ started m d sound fresh = record {
     unused = sound.unused;
     free = subst (SectorsAre (IsFree (volume_of m))) (sym fresh.blocks) (All-nil (λ (b : Block). IsFree (volume_of m) b.sector));
     clean = λ page is. refl;
-    pages = λ base all reads. ap (λ (l : List Block). pages_in (with_all base l) m.table.items) fresh.blocks;
+    pages = λ base all reads. ap (λ (l : List Block). pages_in (with_all base l) m.table) fresh.blocks;
   };
   naming = record {
     start = omega (arith, fresh.next);
@@ -57,11 +57,11 @@ module _ (m staged : VolumeMap) (after : VolumeMap) (d : Draft) (changes : List 
   maps_is : after.maps.items ≡ staged.maps.items
   maps_is = ap (λ (x : Vec ℕ Global). x.items) same_maps
 
-  table_is : after.table.items ≡ staged.table.items
-  table_is = ap (λ (x : Vec ℕ Global). x.items) same_table
+  table_is : after.table ≡ staged.table
+  table_is = same_table
 
-  named_is : names (volume_of after) ≡ staged.maps.items ++ staged.table.items
-  named_is = ap (λ (l : List ℕ). l ++ after.table.items) maps_is ∙ ap (λ (l : List ℕ). staged.maps.items ++ l) table_is
+  named_is : names (volume_of after) ≡ staged.maps.items ++ staged.table
+  named_is = ap (λ (l : List ℕ). l ++ after.table) maps_is ∙ ap (λ (l : List ℕ). staged.maps.items ++ l) table_is
 
   sectors_is : after.sectors ≡ m.sectors
   sectors_is = same_sectors ∙ size.sectors
@@ -69,10 +69,10 @@ module _ (m staged : VolumeMap) (after : VolumeMap) (d : Draft) (changes : List 
   places : (s : ℕ) → Contains (names (volume_of after)) s → IsPlace after.sectors s
   places s has = subst (λ (n : ℕ). IsPlace n s) (sym sectors_is) (done.draft.naming.places s (subst (λ (l : List ℕ). Contains l s) named_is has))
 
-  unused : get_or after.table.items 0 0 ≡ 0
+  unused : get_or after.table 0 0 ≡ 0
   unused = ap (λ (l : List ℕ). get_or l 0 0) table_is ∙ done.draft.staged.unused
 
-  count : length after.table.items ≡ 1024 * length after.maps.items
+  count : length after.table ≡ 1024 * length after.maps.items
   count = ap length table_is ∙ size.table ∙ sound.count ∙ ap (λ (n : ℕ). 1024 * n) (sym (ap length maps_is ∙ size.maps))
 
   pub is_plan : IsPlan v (volume_of after) d.blocks.items changes

@@ -90,8 +90,8 @@ kept_set v table changes c s pages is =
 
 module _ (v : Volume) (m : VolumeMap) (d : Draft) (changes : List Change) (maps : ℕ) (counted : IsCounted v m d changes maps) where
   -- the page has a sector where the volume has one for it
-  entry_same : (page : ℕ) → Away page changes → names_sector (get_or m.table.items page 0) ≡ names_sector (get_or v.table page 0)
-  entry_same page away = sym (named_at m.table.items page) ∙ ap (λ (l : List Bool). get_or l page false) counted.pages ∙ away_same is_some (map names_sector v.table) changes page false away ∙ named_at v.table page
+  entry_same : (page : ℕ) → Away page changes → names_sector (get_or m.table page 0) ≡ names_sector (get_or v.table page 0)
+  entry_same page away = sym (named_at m.table page) ∙ ap (λ (l : List Bool). get_or l page false) counted.pages ∙ away_same is_some (map names_sector v.table) changes page false away ∙ named_at v.table page
 
   more_blocks : (mid : Draft) (s : ℕ) (bytes : Sector) → PlacesBlock m.used d mid s bytes → length mid.blocks.items ≡ length d.blocks.items + 1
   more_blocks mid s bytes placed = ap length placed.blocks ∙ length-append d.blocks.items (record { sector = s; bytes = bytes } ∷ [])
@@ -107,7 +107,7 @@ module _ (v : Volume) (m : VolumeMap) (d : Draft) (changes : List Change) (maps 
           taken = taken_as m.used after.used mid.next last.next mid.blocks.items last.blocks.items sets.size.used sets.next (ap (λ (b : Vec Block Global). b.items) sets.blocks)
               (taken_next m.used d mid s bytes counted.taken placed);
           blocks = omega (arith, ap (λ (b : Vec Block Global). length b.items) sets.blocks, more_blocks mid s bytes placed, counted.blocks, filled_yes changes c some);
-          pages = ap (map names_sector) sets.table ∙ kept_set v m.table.items changes c s counted.pages (ap not (ne_eqb s 0 sector) ∙ sym some);
+          pages = ap (map names_sector) sets.table ∙ kept_set v m.table changes c s counted.pages (ap not (ne_eqb s 0 sector) ∙ sym some);
           changed_maps = subst (AreChanged v (changes ++ c ∷ [])) (sym (sets.changed_maps ∙ ap (λ (x : Vec Bool Global). set x.items (c.page / 1024) true) placed.changed_maps))
               (changed_set v changes c d.changed_maps.items counted.changed_maps low (or_left (is_some c.bytes) (names_sector (get_or v.table c.page 0)) some));
         }
@@ -121,17 +121,17 @@ module _ (v : Volume) (m : VolumeMap) (d : Draft) (changes : List Change) (maps 
           free = counted.free;
           taken = counted.taken;
           blocks = counted.blocks ∙ ap (λ (n : ℕ). n + maps) (sym (filled_no changes c absent));
-          pages = ap (map names_sector) (sym (ap (set m.table.items c.page) (sym none) ∙ set-get_or m.table.items c.page 0)) ∙ kept_set v m.table.items changes c 0 counted.pages (sym absent);
+          pages = ap (map names_sector) (sym (ap (set m.table c.page) (sym none) ∙ set-get_or m.table c.page 0)) ∙ kept_set v m.table changes c 0 counted.pages (sym absent);
           changed_maps = changed_same v changes c d.changed_maps.items counted.changed_maps entry;
         }))
     release_counted last after is (HadOne some sets) =
         let absent : is_some c.bytes ≡ false = ap is_some is in
-        let entry : changes_entry v c ≡ true = or_right (is_some c.bytes) (names_sector (get_or v.table c.page 0)) (sym (entry_same c.page away) ∙ ap not (ne_eqb (get_or m.table.items c.page 0) 0 some)) in
+        let entry : changes_entry v c ≡ true = or_right (is_some c.bytes) (names_sector (get_or v.table c.page 0)) (sym (entry_same c.page away) ∙ ap not (ne_eqb (get_or m.table c.page 0) 0 some)) in
         record {
           free = ap unused_count sets.size.used ∙ counted.free;
           taken = taken_as m.used after.used d.next last.next d.blocks.items last.blocks.items sets.size.used sets.next (ap (λ (b : Vec Block Global). b.items) sets.blocks) counted.taken;
           blocks = ap (λ (b : Vec Block Global). length b.items) sets.blocks ∙ counted.blocks ∙ ap (λ (n : ℕ). n + maps) (sym (filled_no changes c absent));
-          pages = ap (map names_sector) sets.table ∙ kept_set v m.table.items changes c 0 counted.pages (sym absent);
+          pages = ap (map names_sector) sets.table ∙ kept_set v m.table changes c 0 counted.pages (sym absent);
           changed_maps = subst (AreChanged v (changes ++ c ∷ [])) (sym sets.changed_maps) (changed_set v changes c d.changed_maps.items counted.changed_maps low entry);
         }
 
@@ -158,21 +158,21 @@ written_le v changes i (suc k) =
 
 -- a map sector, where so many before it were written
 module _ (v : Volume) (m : VolumeMap) (d : Draft) (changes : List Change) (j : ℕ) (counted : IsCounted v m d changes (written_below v changes j)) (low : j < length d.changed_maps.items) where
-  has_is : has_pages v changes j ≡ not (list_all (λ entry. entry == 0) (map_part m.table.items j))
+  has_is : has_pages v changes j ≡ not (list_all (λ entry. entry == 0) (map_part m.table j))
   has_is = ap (λ (l : List Bool). list_any (λ here. here) (take 1024 (drop (1024 * j) l))) (sym counted.pages)
-      ∙ ap (λ (l : List Bool). list_any (λ here. here) (take 1024 l)) (drop-map names_sector (1024 * j) m.table.items)
-      ∙ ap (list_any (λ here. here)) (take-map names_sector 1024 (drop (1024 * j) m.table.items))
-      ∙ any_named (map_part m.table.items j)
+      ∙ ap (λ (l : List Bool). list_any (λ here. here) (take 1024 l)) (drop-map names_sector (1024 * j) m.table)
+      ∙ ap (list_any (λ here. here)) (take-map names_sector 1024 (drop (1024 * j) m.table))
+      ∙ any_named (map_part m.table j)
 
   clean_unwritten : get_or d.changed_maps.items j false ≡ false → is_written v changes j ≡ false
   unfolding is_written
   clean_unwritten is = ap (λ (b : Bool). b && has_pages v changes j) (sym (counted.changed_maps j low) ∙ is)
 
-  blank_unwritten : list_all (λ entry. entry == 0) (map_part m.table.items j) ≡ true → is_written v changes j ≡ false
+  blank_unwritten : list_all (λ entry. entry == 0) (map_part m.table j) ≡ true → is_written v changes j ≡ false
   unfolding is_written
   blank_unwritten is = ap (λ (b : Bool). list_any (alters v j) changes && b) (has_is ∙ ap not is) ∙ and_false (list_any (alters v j) changes)
 
-  pub now_written : get_or d.changed_maps.items j false ≡ true → list_all (λ entry. entry == 0) (map_part m.table.items j) ≡ false → is_written v changes j ≡ true
+  pub now_written : get_or d.changed_maps.items j false ≡ true → list_all (λ entry. entry == 0) (map_part m.table j) ≡ false → is_written v changes j ≡ true
   unfolding is_written
   now_written changed_maps is = and_from (list_any (alters v j) changes) (has_pages v changes j) (sym (counted.changed_maps j low) ∙ changed_maps) (has_is ∙ ap not is)
 
@@ -181,12 +181,12 @@ module _ (v : Volume) (m : VolumeMap) (d : Draft) (changes : List Change) (j : �
   kept_counted is = subst (IsCounted v m d changes) (sym (step_no v changes j (clean_unwritten is))) counted
 
   -- one of zeros
-  pub blank_counted : (last : Draft) (after : VolumeMap) → list_all (λ entry. entry == 0) (map_part m.table.items j) ≡ true → SetsMap m after d last j 0 → IsCounted v after last changes (written_below v changes (j + 1))
+  pub blank_counted : (last : Draft) (after : VolumeMap) → list_all (λ entry. entry == 0) (map_part m.table j) ≡ true → SetsMap m after d last j 0 → IsCounted v after last changes (written_below v changes (j + 1))
   blank_counted last after is sets = record {
     free = ap unused_count sets.size.used ∙ counted.free;
     taken = taken_as m.used after.used d.next last.next d.blocks.items last.blocks.items sets.size.used sets.next (ap (λ (b : Vec Block Global). b.items) sets.blocks) counted.taken;
     blocks = ap (λ (b : Vec Block Global). length b.items) sets.blocks ∙ counted.blocks ∙ ap (λ (n : ℕ). filled changes + n) (sym (step_no v changes j (blank_unwritten is)));
-    pages = ap (λ (t : Vec ℕ Global). map names_sector t.items) sets.table ∙ counted.pages;
+    pages = ap (λ (t : List ℕ). map names_sector t) sets.table ∙ counted.pages;
     changed_maps = subst (λ (x : Vec Bool Global). AreChanged v changes x.items) (sym sets.changed_maps) counted.changed_maps;
   }
 
@@ -197,7 +197,7 @@ module _ (v : Volume) (m : VolumeMap) (d : Draft) (changes : List Change) (j : �
     taken = taken_as m.used after.used mid.next last.next mid.blocks.items last.blocks.items sets.size.used sets.next (ap (λ (b : Vec Block Global). b.items) sets.blocks)
         (taken_next m.used d mid s bytes counted.taken placed);
     blocks = omega (arith, ap (λ (b : Vec Block Global). length b.items) sets.blocks, more_blocks v m d changes (written_below v changes j) counted mid s bytes placed, counted.blocks, step_yes v changes j is);
-    pages = ap (λ (t : Vec ℕ Global). map names_sector t.items) sets.table ∙ counted.pages;
+    pages = ap (λ (t : List ℕ). map names_sector t) sets.table ∙ counted.pages;
     changed_maps = subst (λ (x : Vec Bool Global). AreChanged v changes x.items) (sym (sets.changed_maps ∙ placed.changed_maps)) counted.changed_maps;
   }
 

@@ -25,6 +25,10 @@ pub data Recalls (page : ℕ) (answer : Option Sector) (old new : LruCache ℕ S
 abbrev pub Keeps : ℕ → Sector → LruCache ℕ Sector → LruCache ℕ Sector → Type 0
 Keeps page bytes old new = (new ≡ old) ⊎ (new ≡ lru_cache (put_entries nat_eq old page bytes) old.cap)
 
+-- a page comes in, with some bytes, or stays out
+abbrev pub Loads : ℕ → LruCache ℕ Sector → LruCache ℕ Sector → Type 0
+Loads page old new = (bytes : Sector) × Keeps page bytes old new
+
 -- Pages with these new bytes come in or stay out: what is there then was there, or is one of them.
 pub record KeepsChanges (changes : List Change) (old new : LruCache ℕ Sector) : Type 0 where
   pub capacity : new.cap ≡ old.cap

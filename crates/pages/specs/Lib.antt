@@ -1,6 +1,7 @@
 pub mod Layout
 pub mod Runs
 pub mod Image
+pub mod Table
 pub mod Changes
 pub mod Cache
 pub mod Plan

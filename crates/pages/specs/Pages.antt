@@ -19,7 +19,7 @@ committed_of p = volume_of p.volume
 
 -- the map, over the image of the last commit, with what was changed since
 abbrev pub map_now : PageMap → List Sector → Map
-map_now p image = record { generation = p.volume.generation; catalog = p.catalog; pages = changed (pages_in image p.volume.table.items) p.changes.items }
+map_now p image = record { generation = p.volume.generation; catalog = p.catalog; pages = changed (pages_in image p.volume.table) p.changes.items }
 
 -- the page of that number, or none
 abbrev pub page_of : Map → ℕ → Option Sector
@@ -52,7 +52,7 @@ abbrev pub sectors_of : PageMap → ℕ
 sectors_of p = p.volume.sectors
 
 abbrev pub page_count : PageMap → ℕ
-page_count p = length p.volume.table.items
+page_count p = length p.volume.table
 
 -- a page number from 1 on
 abbrev pub IsPage : PageMap → ℕ → Type 0
@@ -65,7 +65,7 @@ cache_of p = p.cache
 -- the disk is as the last commit left it, and so are the pages of the cache
 pub record Agrees (p : PageMap) (disk : Disk) : Type 0 where
   pub committed : IsCommitted (committed_of p) disk
-  pub cache : IsCacheOf (pages_in disk.present p.volume.table.items) (changed_pages_of p) p.cache.entries
+  pub cache : IsCacheOf (pages_in disk.present p.volume.table) (changed_pages_of p) p.cache.entries
 
 -- each page number from 1 on is in the map
 abbrev pub HasEachPage : PageMap → Type 0
@@ -85,7 +85,7 @@ IsFull p = HasChanges p × ((free_count (committed_of p) < needed_of p) ⊎ (2 ^
 
 pub record IsReady (p : PageMap) : Type 0 where
   pub sound : IsSound p.volume
-  pub pages : All (λ (c : Change). (0 < c.page) × (c.page < length p.volume.table.items)) p.changes.items
+  pub pages : All (λ (c : Change). (0 < c.page) × (c.page < length p.volume.table)) p.changes.items
   pub once : NamesOnce (changed_pages p.changes.items)
   pub placed : ArePlaced p.changes.items p.places
 

@@ -16,7 +16,7 @@ use Rattle.pages.specs.declared.draft.Turn.{Turn}
 use Rattle.pages.specs.declared.change.Change.{Change}
 
 abbrev pub volume_of : VolumeMap → Volume
-volume_of m = record { root = record { generation = m.generation; sectors = m.sectors; catalog = m.catalog; maps = m.maps.items }; table = m.table.items }
+volume_of m = record { root = record { generation = m.generation; sectors = m.sectors; catalog = m.catalog; maps = m.maps.items }; table = m.table }
 
 -- what is named is within the volume, each sector once, and the use is right
 pub record IsSound (m : VolumeMap) : Type 0 where
@@ -24,10 +24,10 @@ pub record IsSound (m : VolumeMap) : Type 0 where
   pub least : 1024 ≤ m.sectors
   pub most : m.sectors ≤ 921600
   pub maps_count : length m.maps.items ≡ map_count m.sectors
-  pub count : length m.table.items ≡ 1024 * length m.maps.items
+  pub count : length m.table ≡ 1024 * length m.maps.items
   pub places : (s : ℕ) → Contains (names (volume_of m)) s → IsPlace m.sectors s
   pub once : NamesOnce (names (volume_of m))
-  pub unused : slice_index m.table.items 0 ≡ 0
+  pub unused : slice_index m.table 0 ≡ 0
   pub in_use : IsUse m.sectors (names (volume_of m)) m.used
   pub free : m.free ≡ unused_count m.used
 
@@ -35,13 +35,13 @@ pub record IsSound (m : VolumeMap) : Type 0 where
 pub record IsDraft (v : Volume) (m : VolumeMap) (d : Draft) (changes : List Change) : Type 0 where
   pub in_use : IsUse v.root.sectors (names v) m.used
   pub some : 0 < v.root.sectors
-  pub staged : IsStaged v m.maps.items m.table.items d.changed_maps.items d.blocks.items changes
-  pub naming : Naming v m.used (m.maps.items ++ m.table.items) d.turns.items d.next
+  pub staged : IsStaged v m.maps.items m.table d.changed_maps.items d.blocks.items changes
+  pub naming : Naming v m.used (m.maps.items ++ m.table) d.turns.items d.next
 
 -- the first maps of it are on their way too
 pub record IsMappedDraft (v : Volume) (m : VolumeMap) (d : Draft) (changes : List Change) (next : ℕ) : Type 0 where
   pub draft : IsDraft v m d changes
-  pub mapped : IsMapped v m.maps.items m.table.items d.blocks.items next
+  pub mapped : IsMapped v m.maps.items m.table d.blocks.items next
 
 -- each block's sector is behind those of the blocks before it
 abbrev pub AreAscending : List Block → Type 0
@@ -59,7 +59,7 @@ pub record IsCounted (v : Volume) (m : VolumeMap) (d : Draft) (changes : List Ch
   pub free : unused_count m.used ≡ free_count v
   pub taken : IsTaken m.used d.next d.blocks.items
   pub blocks : length d.blocks.items ≡ filled changes + maps
-  pub pages : map (λ s. not (s == 0)) m.table.items ≡ kept v.table changes
+  pub pages : map (λ s. not (s == 0)) m.table ≡ kept v.table changes
   pub changed_maps : (i : ℕ) → i < length d.changed_maps.items → slice_index_or d.changed_maps.items i false ≡ list_any (alters v i) changes
 
 -- nothing but the two lists of names changed, and not their lengths
@@ -68,7 +68,7 @@ pub record SameSize (old new : VolumeMap) : Type 0 where
   pub sectors : new.sectors ≡ old.sectors
   pub catalog : new.catalog ≡ old.catalog
   pub maps : length new.maps.items ≡ length old.maps.items
-  pub table : length new.table.items ≡ length old.table.items
+  pub table : length new.table ≡ length old.table
   pub used : new.used ≡ old.used
   pub free : new.free ≡ old.free
 
@@ -87,10 +87,10 @@ pub record PlacesBlock (used : List Bool) (old new : Draft) (sector : ℕ) (byte
 pub record SetsPage (m after : VolumeMap) (old new : Draft) (page sector : ℕ) : Type 0 where
   pub size : SameSize m after
   pub maps : after.maps ≡ m.maps
-  pub table : after.table.items ≡ slice_set m.table.items page sector
+  pub table : after.table ≡ slice_set m.table page sector
   pub blocks : new.blocks ≡ old.blocks
   pub changed_maps : new.changed_maps.items ≡ slice_set old.changed_maps.items (page / 1024) true
-  pub turns : new.turns.items ≡ old.turns.items ++ turns_of (slice_index m.table.items page) sector
+  pub turns : new.turns.items ≡ old.turns.items ++ turns_of (slice_index m.table page) sector
   pub next : new.next ≡ old.next
 
 -- a map has another sector, or none
@@ -105,8 +105,8 @@ pub record SetsMap (m after : VolumeMap) (old new : Draft) (map sector : ℕ) : 
 
 -- a page has no sector
 pub data ReleasesPage (m after : VolumeMap) (old new : Draft) (page : ℕ) : Type 0 where
-  HadNone : slice_index m.table.items page ≡ 0 → after ≡ m → new ≡ old → ReleasesPage m after old new page
-  HadOne : slice_index m.table.items page ≢ 0 → SetsPage m after old new page 0 → ReleasesPage m after old new page
+  HadNone : slice_index m.table page ≡ 0 → after ≡ m → new ≡ old → ReleasesPage m after old new page
+  HadOne : slice_index m.table page ≢ 0 → SetsPage m after old new page 0 → ReleasesPage m after old new page
 
 -- a draft of a volume with so many maps, with nothing in it
 pub record IsFresh (maps : ℕ) (d : Draft) : Type 0 where
@@ -121,7 +121,7 @@ pub record IsNext (old new : VolumeMap) (page : ℕ) : Type 0 where
   pub sectors : new.sectors ≡ old.sectors
   pub catalog : new.catalog ≡ page
   pub maps : length new.maps.items ≡ length old.maps.items
-  pub table : length new.table.items ≡ length old.table.items
+  pub table : length new.table ≡ length old.table
   pub used : new.used ≡ old.used
   pub free : new.free ≡ old.free
 
@@ -131,10 +131,10 @@ pub record IsSoundAfter (m : VolumeMap) (turns : List Turn) : Type 0 where
   pub least : 1024 ≤ m.sectors
   pub most : m.sectors ≤ 921600
   pub maps_count : length m.maps.items ≡ map_count m.sectors
-  pub count : length m.table.items ≡ 1024 * length m.maps.items
+  pub count : length m.table ≡ 1024 * length m.maps.items
   pub places : (s : ℕ) → Contains (names (volume_of m)) s → IsPlace m.sectors s
   pub once : NamesOnce (names (volume_of m))
-  pub unused : slice_index m.table.items 0 ≡ 0
+  pub unused : slice_index m.table 0 ≡ 0
   pub in_use : IsUse m.sectors (names (volume_of m)) (turned m.used turns)
   pub turns_low : All (λ (t : Turn). t.sector < length m.used) turns
   pub free : m.free ≡ unused_count m.used

@@ -5,12 +5,12 @@ ghost use Rattle.std.specs.Map.{lookup};
 ghost use Rattle.station.specs.Calls.{OnlyReads};
 ghost use Rattle.lru.specs.LruCache.{lru_cache, promoted, IsValid};
 ghost use Rattle.pages.specs.Image.{pages_in};
-ghost use Rattle.pages.specs.Cache.{IsCacheOf, Recalls, Keeps, KeepsChanges, forgotten};
+ghost use Rattle.pages.specs.Cache.{IsCacheOf, Recalls, Keeps, Loads, KeepsChanges, forgotten};
 
 use crate::change::Change;
 use crate::error::PagesError;
 use crate::page_bytes::PageBytes;
-use crate::reading::read_page;
+use crate::reading::{read_page, sector_of};
 use lru::LruCache;
 use station::Device;
 use std::alloc::{AllocError, Global};
@@ -113,6 +113,60 @@ fn put_page(cache: &mut LruCache<u32, PageBytes>, page: u32, bytes: PageBytes)
         Ok(_) => {}
         Err(_) => {}
     }
+}
+
+/// The same. A page that leaves the cache for it is answered, for its place in memory.
+fn push_page(cache: &mut LruCache<u32, PageBytes>, page: u32, bytes: PageBytes) -> Option<PageBytes>
+    ensures { Keeps page bytes cache.old cache.new }
+{
+    match cache.push(page, bytes) {
+        Ok(Some((_, left))) => Some(left),
+        Ok(None) => None,
+        Err(_) => None,
+    }
+}
+
+/// A place in memory for a page: the spare one, or a new one, if memory has one.
+fn take_spare(alloc: Global, spare: &mut Option<PageBytes>) -> Option<PageBytes> {
+    match spare.take() {
+        Some(bytes) => Some(bytes),
+        None => match PageBytes::new(alloc, [0; 4096]) {
+            Ok(bytes) => Some(bytes),
+            Err(_) => None,
+        },
+    }
+}
+
+/// A page of a table comes from the device into the cache, so far as memory has a place for it. It is read where it will stand. The
+/// place of a page that leaves the cache for it becomes the spare one.
+pub(crate) fn load_page<D: Device>(
+    alloc: Global,
+    cache: &mut LruCache<u32, PageBytes>,
+    spare: &mut Option<PageBytes>,
+    table: &[u32],
+    device: &mut D,
+    page: u32,
+) -> Result<(), PagesError>
+    requires { All (λ s. s < D.sectors device.old) table.now }
+    ensures only { OnlyReads D.Device (result ≡ Err PagesError.Device) device.old device.new }
+    ensures cause { OnErr result (result ≡ Err PagesError.Device) }
+    ensures right { (changed : List ℕ) → (Contains changed page → ⊥) → D.is_honest device.old → IsCacheOf (pages_in (D.state device.old).disk.present table.now) changed cache.old.entries →
+        IsCacheOf (pages_in (D.state device.old).disk.present table.now) changed cache.new.entries }
+    ensures absent { slice_index_or table.now page 0 ≡ 0 → (device.new ≡ device.old) × (cache.new ≡ cache.old) }
+    ensures loads { Loads page cache.old cache.new }
+    ensures err { OnErr result (cache.new ≡ cache.old) }
+{
+    let sector = sector_of(table, page);
+    if sector == 0 {
+        return Ok(());
+    }
+    let mut bytes = match take_spare(alloc, spare) {
+        Some(bytes) => bytes,
+        None => return Ok(()),
+    };
+    bytes.fill(device, sector)?;
+    *spare = push_page(cache, page, bytes);
+    Ok(())
 }
 
 /// A page that was changed comes into the cache, if it has bytes, so far as memory allows.

@@ -30,7 +30,7 @@ pub(crate) fn commit_volume<D: Device>(
 ) -> Result<(), PagesError>
     requires sound { IsSound volume.old }
     requires sectors { volume.old.sectors ≤ D.sectors device.old }
-    requires pages { All (λ c. (0 < c.page) × (c.page < length volume.old.table.items)) changes.now }
+    requires pages { All (λ c. (0 < c.page) × (c.page < length volume.old.table)) changes.now }
     requires once { NamesOnce (changed_pages changes.now) }
     ensures honest { D.is_honest device.old ↔ D.is_honest device.new }
     ensures sectors { D.sectors device.new ≡ D.sectors device.old }

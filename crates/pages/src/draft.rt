@@ -75,14 +75,14 @@ pub(crate) fn set_page(
     page: usize,
     sector: u32,
 ) -> Result<(), PagesError>
-    requires page { page < length volume.old.table.items }
+    requires page { page < length volume.old.table }
     requires changed_maps { page / 1024 < length draft.old.changed_maps.items }
     ensures sectors { volume.new.sectors ≡ volume.old.sectors }
     ensures set { OnOk result (SetsPage volume.old volume.new draft.old draft.new page sector) }
     ensures cause { IsOkUnless result PagesError.Memory }
 {
-    note_turns(&mut draft.turns, volume.table[page], sector)?;
-    volume.table[page] = sector;
+    note_turns(&mut draft.turns, volume.table.entries()[page], sector)?;
+    volume.table.set(page, sector);
     draft.changed_maps[page / MAP_ENTRIES] = true;
     Ok(())
 }

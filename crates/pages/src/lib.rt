@@ -21,6 +21,7 @@ mod reading;
 mod root;
 mod sector_use;
 mod stage;
+mod table;
 mod volume;
 
 pub use empty::format;

@@ -1,5 +1,5 @@
 //! A sector as 1,024 numbers of four bytes.
-ghost use Rattle.std.specs.Prelude.{◌≡◌, length};
+ghost use Rattle.std.specs.Prelude.{◌≡◌, ◌<◌, ℕ, List, length, slice_set};
 ghost use Rattle.pages.specs.Layout.{words, spelled};
 
 use byteorder::{BigEndian, ByteOrder};
@@ -22,4 +22,12 @@ pub(crate) fn spelled_numbers(numbers: &[u32]) -> [u8; 4096]
     let mut bytes = [0; 4096];
     BigEndian::write_u32_into(numbers, &mut bytes);
     bytes
+}
+
+/// Puts a number in the place of another of a sector.
+pub(crate) fn put_number(bytes: &mut [u8; 4096], place: usize, number: u32)
+    requires { place < 1024 }
+    ensures { (numbers : List ℕ) → length numbers ≡ 1024 → bytes.old ≡ spelled numbers → bytes.new ≡ spelled (slice_set numbers place number) }
+{
+    BigEndian::write_u32(&mut bytes[4 * place..], number);
 }

@@ -16,6 +16,7 @@ use crate::marks::mark_names;
 use crate::reading::read_table;
 use crate::root::read_root;
 use crate::sector_use::SectorUse;
+use crate::table::SectorTable;
 use crate::volume::{VolumeMap, count_free};
 use station::Device;
 use std::alloc::{AllocError, Global};
@@ -56,6 +57,7 @@ pub(crate) fn read_volume<D: Device>(alloc: Global, device: &mut D) -> Result<Vo
     }
     let free = count_free(&used);
     let used = SectorUse::new(alloc, used)?;
+    let table = SectorTable::new(alloc, table, root.maps.len())?;
     Ok(VolumeMap {
         generation: root.generation,
         sectors: root.sectors,

@@ -1,6 +1,10 @@
 //! The bytes of a page in memory.
-ghost use Rattle.std.specs.Prelude.{◌≡◌, IfOk};
+ghost use Rattle.std.specs.Prelude.{◌≡◌, ◌<◌, Err, IfOk, OnErr, OnOk};
+ghost use Rattle.station.specs.Disk.{sector_at};
+ghost use Rattle.station.specs.Calls.{OnlyReads};
 
+use crate::error::PagesError;
+use station::Device;
 use std::alloc::{AllocError, Global};
 use std::marker::Model;
 
@@ -41,6 +45,17 @@ impl PageBytes {
         ensures { self.new ≡ bytes.now }
     {
         *self.bytes = *bytes;
+    }
+
+    /// It becomes the bytes of a sector, which are read where it stands.
+    pub(crate) fn fill<D: Device>(&mut self, device: &mut D, sector: u32) -> Result<(), PagesError>
+        requires { sector < D.sectors device.old }
+        ensures only { OnlyReads D.Device (result ≡ Err PagesError.Device) device.old device.new }
+        ensures bytes { D.is_honest device.old → OnOk result (self.new ≡ sector_at (D.state device.old).disk.present sector) }
+        ensures cause { OnErr result (result ≡ Err PagesError.Device) }
+    {
+        device.read(sector, &mut *self.bytes)?;
+        Ok(())
     }
 
     pub(crate) fn view(&self) -> &[u8; 4096]

@@ -15,7 +15,8 @@ ghost use Rattle.pages.specs.Errors.{IsEditRefusal, IsAllocateRefusal, IsCommitR
 ghost use Rattle.pages.specs.Use.{free_count};
 
 use crate::cache::{
-    forget_page, keep_changes, new_cache, promote_page, recall_page, seen_page, take_page,
+    forget_page, keep_changes, load_page, new_cache, promote_page, recall_page, seen_page,
+    take_page,
 };
 use crate::change::{
     Change, clear_places, find_change, forget_run, is_kept, pass_runs, reserve_change, set_change,
@@ -47,6 +48,8 @@ pub struct PageMap {
     /// The runs of page numbers, one a map sector, that had no unused one when they were looked through. They are looked through
     /// again where no other has one.
     passed: Vec<bool>,
+    /// A place in memory for the page that comes into the cache next.
+    spare: Option<PageBytes>,
     catalog: u32,
     spent: bool,
 }
@@ -56,7 +59,7 @@ impl PageMap {
     ghost use Rattle.std.specs.Map.{lookup};
     ghost use Rattle.std.specs.Prelude.{Ok, nat_eq, option_copied, Contains, IsSome};
     ghost use Rattle.lru.specs.LruCache.{lru_cache, promoted};
-    ghost use Rattle.pages.specs.Cache.{Recalls, Gathers, forgotten};
+    ghost use Rattle.pages.specs.Cache.{Recalls, Loads, Gathers, forgotten};
     ghost use Rattle.station.specs.Disk.{Disk};
 
     /// Opens the volume of a device. It syncs first, and writes nothing. The cache holds at most `capacity` pages, from 1 to 4,096.
@@ -103,6 +106,7 @@ impl PageMap {
             places: HashMap::new(alloc),
             next_page: 1,
             passed,
+            spare: None,
             catalog,
             spent: false,
         })
@@ -160,10 +164,15 @@ impl PageMap {
         if page == 0 {
             return false;
         }
-        if page as usize >= self.volume.table.len() {
+        if page as usize >= self.volume.table.entries().len() {
             return false;
         }
-        is_kept(&self.volume.table, &self.changes, &self.places, page)
+        is_kept(
+            self.volume.table.entries(),
+            &self.changes,
+            &self.places,
+            page,
+        )
     }
 
     /// How many page numbers the volume has, 0 among them.
@@ -172,7 +181,7 @@ impl PageMap {
         ensures pages { (image : List Sector) → length (map_now self.now image).pages ≡ page_count self.now }
         ensures few { IsOpen self.now → is_spent self.now ≡ false → result ≤ 921600 }
     {
-        self.volume.table.len()
+        self.volume.table.entries().len()
     }
 
     /// How many sectors the volume has.
@@ -234,11 +243,55 @@ impl PageMap {
             None => recall_page(
                 self.alloc,
                 &mut self.cache,
-                &self.volume.table,
+                self.volume.table.entries(),
                 device,
                 page,
             ),
         }
+    }
+
+    /// Brings a page into memory, where `view` finds it: one that was neither changed since the last commit nor is in the cache comes
+    /// there from the device, as the most recently used one, so far as memory has a place for it.
+    #[cold]
+    #[inline(never)]
+    pub fn load<D: Device>(&mut self, device: &mut D, page: u32) -> Result<(), PagesError>
+        requires open { IsOpen self.old }
+        requires sectors { sectors_of self.old ≤ D.sectors device.old }
+        ensures only { OnlyReads D.Device (result ≡ Err PagesError.Device) device.old device.new }
+
+        // The map stays, and what is known of it. A refusal leaves the cache too.
+        ensures unchanged { Unchanged self.old self.new }
+        ensures agrees { D.is_honest device.old → Agrees self.old (D.state device.old).disk → Agrees self.new (D.state device.new).disk }
+        ensures open { IsOpen self.new }
+        ensures err { OnErr result (cache_of self.new ≡ cache_of self.old) }
+
+        // What is in memory stays as it is, and the device isn't asked. Nor is it for a page that the map hasn't.
+        ensures changed { Contains (changed_pages_of self.old) page → (device.new ≡ device.old) × (self.new ≡ self.old) }
+        ensures hit { IsSome (lookup (nat_eq page) (cache_of self.old).entries) → (device.new ≡ device.old) × (self.new ≡ self.old) }
+        ensures absent { (image : List Sector) → page_of (map_now self.old image) page ≡ None → device.new ≡ device.old }
+        ensures loads { Loads page (cache_of self.old) (cache_of self.new) }
+
+        // `Spent` comes exactly where the value is spent, and otherwise the device alone refuses.
+        ensures spent { result ≡ Err PagesError.Spent ↔ is_spent self.old ≡ true }
+        ensures cause { OnErr result ((result ≡ Err PagesError.Device) ⊎ (result ≡ Err PagesError.Spent)) }
+    {
+        if self.spent {
+            return Err(PagesError::Spent);
+        }
+        if find_change(&self.changes, &self.places, page).is_some() {
+            return Ok(());
+        }
+        if seen_page(&self.cache, page).is_some() {
+            return Ok(());
+        }
+        load_page(
+            self.alloc,
+            &mut self.cache,
+            &mut self.spare,
+            self.volume.table.entries(),
+            device,
+            page,
+        )
     }
 
     /// The bytes of a page where they stand in memory: of one that was changed since the last commit, or is in the cache. The order of
@@ -321,7 +374,7 @@ impl PageMap {
             return Err(PagesError::Spent);
         }
         let page = match unused_page(
-            &self.volume.table,
+            self.volume.table.entries(),
             &self.changes,
             &self.places,
             self.next_page as usize,

@@ -44,7 +44,7 @@ pub(crate) fn next_volume<'a>(
     catalog: u32,
 ) -> Result<Draft<'a>, PagesError>
     requires sound { IsSound volume.old }
-    requires pages { All (λ c. (0 < c.page) × (c.page < length volume.old.table.items)) changes.now }
+    requires pages { All (λ c. (0 < c.page) × (c.page < length volume.old.table)) changes.now }
     requires once { NamesOnce (changed_pages changes.now) }
     ensures cause { IsPlanError result }
     ensures plan { IfOk result (λ draft. IsPlan (volume_of volume.old) (volume_of volume.new) draft.blocks.items changes.now) }

@@ -46,6 +46,14 @@ pub(crate) fn read_table<D: Device>(
     Ok(table)
 }
 
+/// The sector of a page in a table, 0 for none.
+pub(crate) fn sector_of(table: &[u32], page: u32) -> u32
+    ensures { result ≡ slice_index_or table.now page 0 }
+{
+    let place = page as usize;
+    if place < table.len() { table[place] } else { 0 }
+}
+
 /// The page of a number in a table, or none.
 pub(crate) fn read_page<D: Device>(
     table: &[u32],
@@ -58,11 +66,7 @@ pub(crate) fn read_page<D: Device>(
     ensures absent { result ≡ Ok None → device.new ≡ device.old }
     ensures cause { OnErr result (result ≡ Err PagesError.Device) }
 {
-    let place = page as usize;
-    if place >= table.len() {
-        return Ok(None);
-    }
-    let sector = table[place];
+    let sector = sector_of(table, page);
     if sector == 0 {
         return Ok(None);
     }

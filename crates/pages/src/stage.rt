@@ -12,7 +12,7 @@ ghost use Rattle.pages.specs.Volumes.{IsDraft, IsMappedDraft, IsCounted, SameSiz
 use crate::change::Change;
 use crate::draft::{Draft, place_block, set_map, set_page};
 use crate::error::PagesError;
-use crate::numbers::spelled_numbers;
+use crate::table::map_entries;
 use crate::volume::{MAP_ENTRIES, VolumeMap};
 use station::SectorBytes;
 use std::alloc::Global;
@@ -24,7 +24,7 @@ pub(crate) fn stage_change<'a>(
     change: &'a Change,
 ) -> Result<(), PagesError>
     requires few { length volume.old.used < 2 ^ 32 }
-    requires page { change.now.page < length volume.old.table.items }
+    requires page { change.now.page < length volume.old.table }
     requires changed_maps { change.now.page / 1024 < length draft.old.changed_maps.items }
     ensures cause { IsPlanError result }
     ensures sectors { volume.new.sectors ≡ volume.old.sectors }
@@ -52,13 +52,13 @@ pub(crate) fn release_page(
     draft: &mut Draft,
     page: usize,
 ) -> Result<(), PagesError>
-    requires page { page < length volume.old.table.items }
+    requires page { page < length volume.old.table }
     requires changed_maps { page / 1024 < length draft.old.changed_maps.items }
     ensures sectors { volume.new.sectors ≡ volume.old.sectors }
     ensures released { OnOk result (ReleasesPage volume.old volume.new draft.old draft.new page) }
     ensures cause { IsOkUnless result PagesError.Memory }
 {
-    if volume.table[page] == 0 {
+    if volume.table.entries()[page] == 0 {
         return Ok(());
     }
     set_page(volume, draft, page, 0)
@@ -71,8 +71,8 @@ pub(crate) fn stage_changes<'a>(
     changes: &'a [Change],
 ) -> Result<(), PagesError>
     requires few { length volume.old.used < 2 ^ 32 }
-    requires pages { All (λ c. (0 < c.page) × (c.page < length volume.old.table.items)) changes.now }
-    requires count { length volume.old.table.items ≡ 1024 * length draft.old.changed_maps.items }
+    requires pages { All (λ c. (0 < c.page) × (c.page < length volume.old.table)) changes.now }
+    requires count { length volume.old.table ≡ 1024 * length draft.old.changed_maps.items }
     ensures cause { IsPlanError result }
     ensures sectors { volume.new.sectors ≡ volume.old.sectors }
     ensures size { OnOk result (SameSize volume.old volume.new) }
@@ -86,16 +86,6 @@ pub(crate) fn stage_changes<'a>(
         stage_change(volume, draft, change)?;
     }
     Ok(())
-}
-
-/// The entries of one map.
-fn map_entries(table: &[u32], map: usize) -> &[u32]
-    requires { 1024 * map + 1024 ≤ length table.now }
-    ensures entries { result.now ≡ map_part table.now map }
-    ensures count { length result.now ≡ 1024 }
-{
-    let start = MAP_ENTRIES * map;
-    &table[start..start + MAP_ENTRIES]
 }
 
 /// Whether no entry of a map names a sector.
@@ -115,7 +105,7 @@ pub(crate) fn stage_map(
     requires few { length volume.old.used < 2 ^ 32 }
     requires map { map < length volume.old.maps.items }
     requires changed_maps { map < length draft.old.changed_maps.items }
-    requires count { length volume.old.table.items ≡ 1024 * length volume.old.maps.items }
+    requires count { length volume.old.table ≡ 1024 * length volume.old.maps.items }
     ensures cause { IsPlanError result }
     ensures sectors { volume.new.sectors ≡ volume.old.sectors }
     ensures size { OnOk result (SameSize volume.old volume.new) }
@@ -127,11 +117,10 @@ pub(crate) fn stage_map(
     if !draft.changed_maps[map] {
         return Ok(());
     }
-    let entries = map_entries(&volume.table, map);
-    if is_blank(entries) {
+    if is_blank(map_entries(volume.table.entries(), map)) {
         return set_map(volume, draft, map, 0);
     }
-    let bytes = SectorBytes::owned(alloc, spelled_numbers(entries))?;
+    let bytes = SectorBytes::owned(alloc, *volume.table.map_bytes(map))?;
     let sector = place_block(&volume.used, draft, bytes)?;
     set_map(volume, draft, map, sector)
 }
@@ -143,7 +132,7 @@ pub(crate) fn stage_maps(
     draft: &mut Draft,
 ) -> Result<(), PagesError>
     requires few { length volume.old.used < 2 ^ 32 }
-    requires count { length volume.old.table.items ≡ 1024 * length volume.old.maps.items }
+    requires count { length volume.old.table ≡ 1024 * length volume.old.maps.items }
     requires changed_maps { length draft.old.changed_maps.items ≡ length volume.old.maps.items }
     ensures cause { IsPlanError result }
     ensures sectors { volume.new.sectors ≡ volume.old.sectors }

@@ -3,6 +3,7 @@ ghost use Rattle.std.specs.Prelude.{◌≡◌, ◌<◌, ◌^◌, length};
 ghost use Rattle.pages.specs.Runs.{unused_count};
 
 use crate::sector_use::SectorUse;
+use crate::table::SectorTable;
 
 /// Pages and map sectors that a map names.
 pub(crate) const MAP_ENTRIES: usize = 1024;
@@ -17,7 +18,7 @@ pub(crate) struct VolumeMap {
     /// The sector of each map sector, 0 for a map of zeros.
     pub maps: Vec<u32>,
     /// The sector of each page, 0 for none.
-    pub table: Vec<u32>,
+    pub table: SectorTable,
     /// Whether a sector is a root or is named.
     pub used: SectorUse,
     /// How many aren't.

@@ -220,6 +220,12 @@ impl Volume {
         }
     }
 
+    /// Brings a page into memory.
+    pub fn load(&mut self, rt: &impl Abort, page: u32) -> Result<(), PagesError> {
+        assert!(rt; self.pages.sectors() <= self.station.count());
+        self.pages.load(&mut self.station, page)
+    }
+
     /// The byte that a page is filled with, where its bytes stand in memory.
     pub fn seen(&self, page: u32) -> Option<u8> {
         match self.pages.view(page) {

@@ -103,3 +103,68 @@ fn a_failed_read_keeps_the_cache(rt: HostRuntime) {
     volume.fail_at(1_000_000);
     same(&rt, volume.has(&rt, 2), Some(2));
 }
+
+// How often the device is read while five pages, filled with their number, are brought into memory.
+fn loads_of(rt: &impl Abort, volume: &mut Volume, numbers: &[u8; 5]) -> u64 {
+    let before = volume.counts().reads;
+    for number in numbers {
+        works(rt, volume.load(rt, *number as u32));
+        same(rt, volume.seen(*number as u32), Some(*number));
+    }
+    volume.counts().reads.wrapping_sub(before)
+}
+
+// A page that is brought into memory is seen there. Where it is there already, its use isn't noted.
+#[test]
+fn pages_are_brought_into_memory(rt: HostRuntime) {
+    for (capacity, numbers, reads) in [
+        (1, [1, 1, 2, 3, 1], 4),
+        (2, [1, 1, 2, 3, 1], 4),
+        (3, [1, 1, 2, 3, 1], 3),
+        (4096, [1, 1, 2, 3, 1], 3),
+        (2, [1, 2, 1, 3, 1], 4),
+        (2, [1, 2, 1, 3, 2], 3),
+        (3, [3, 3, 3, 3, 3], 1),
+    ] {
+        let mut volume = three_pages(&rt, rt.alloc(), capacity);
+        let told = loads_of(&rt, &mut volume, &numbers);
+        same_in(&rt, &(capacity, numbers), told, reads);
+    }
+}
+
+// A page that was changed stays as it is in memory, one that was released isn't brought back, and one that the map hasn't isn't asked
+// for.
+#[test]
+fn what_is_changed_is_not_brought(rt: HostRuntime) {
+    let mut volume = three_pages(&rt, rt.alloc(), 2);
+    works(&rt, volume.edit(&rt, 1, 11));
+    works(&rt, volume.release(&rt, 2));
+    let before = volume.counts();
+    for (page, seen) in [
+        (1, Some(11)),
+        (2, None),
+        (4, None),
+        (0, None),
+        (5_000, None),
+    ] {
+        works(&rt, volume.load(&rt, page));
+        same_in(&rt, &page, volume.seen(page), seen);
+    }
+    same(&rt, volume.counts(), before);
+}
+
+// Where the device fails the cache stays as it was: page 1 is still there, page 2 isn't.
+#[test]
+fn a_failed_load_keeps_the_cache(rt: HostRuntime) {
+    let mut volume = three_pages(&rt, rt.alloc(), 1);
+    works(&rt, volume.load(&rt, 3));
+    works(&rt, volume.load(&rt, 1));
+    volume.stop_at(1);
+    same(&rt, volume.load(&rt, 2), Err(PagesError::Device));
+    same(&rt, volume.seen(1), Some(1));
+    same(&rt, volume.seen(2), None);
+    volume.fail_at(1_000_000);
+    works(&rt, volume.load(&rt, 2));
+    same(&rt, volume.seen(2), Some(2));
+    same(&rt, volume.seen(1), None);
+}

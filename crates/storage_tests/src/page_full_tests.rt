@@ -21,6 +21,7 @@ fn is_spent(rt: &impl Abort, volume: &mut Volume) {
     holds(rt, volume.is_spent());
     let before = volume.counts();
     same(rt, volume.read(rt, 1), Err(PagesError::Spent));
+    same(rt, volume.load(rt, 1), Err(PagesError::Spent));
     same(rt, volume.edit(rt, 1, 9), Err(PagesError::Spent));
     same(rt, volume.release(rt, 1), Err(PagesError::Spent));
     same(rt, volume.allocate(), Err(PagesError::Spent));

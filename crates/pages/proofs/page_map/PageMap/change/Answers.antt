@@ -15,12 +15,12 @@ returns-clause-keeps c = record {
       let ready = before is in
       record {
         sound = ready.sound;
-        pages = c.in_ok-set_change.ensures.bounds (length c.args.self.now.volume.table.items) c.requires.page.1 ready.pages;
+        pages = c.in_ok-set_change.ensures.bounds (length c.args.self.now.volume.table) c.requires.page.1 ready.pages;
         once = c.in_ok-set_change.ensures.once ready.once;
         placed = c.in_ok-set_change.ensures.placed;
       };
   agrees = λ disk agrees.
-      let pages = pages_in disk.present c.args.self.now.volume.table.items in
+      let pages = pages_in disk.present c.args.self.now.volume.table in
       let old = changed_pages c.args.self.now.changes.items in
       let new = changed_pages c.set_change.new.changes.items in
       record {

@@ -25,10 +25,10 @@ returns-then-self-2-clause-moments g c = λ honest agrees.
     stays (g.D.Device.history c.args.device.now) old _ (at_rest (committed_of c.args.self.now) (advanced (map_now c.args.self.now old.disk.present)) old agrees.committed)
 
 -- what was changed comes into the cache
-gathered : (g : Over) (c : goal.After-self-2-1 g) (image : List Sector) → Gathers (changed_pages c.args.self.now.changes.items) (changed (pages_in image c.args.self.now.volume.table.items) c.args.self.now.changes.items) c.args.self.now.cache c.keep_changes.new.cache
+gathered : (g : Over) (c : goal.After-self-2-1 g) (image : List Sector) → Gathers (changed_pages c.args.self.now.changes.items) (changed (pages_in image c.args.self.now.volume.table) c.args.self.now.changes.items) c.args.self.now.cache c.keep_changes.new.cache
 gathered g c image =
     let ready = c.requires.open c.if-self.false in
-    let table = c.args.self.now.volume.table.items in
+    let table = c.args.self.now.volume.table in
     let changes = c.args.self.now.changes.items in
     let same : c.replace-changes.result.items ≡ changes = ap (λ (v : Vec Change Global). v.items) c.replace-changes.ensures.value in
     gathers (pages_in image table) changes c.args.self.now.cache c.keep_changes.new.cache ready.once
@@ -42,8 +42,8 @@ pub returns-clause-agrees : goal.returns-clause-agrees
 returns-clause-agrees g c = λ honest agrees.
     let changes = c.args.self.now.changes.items in
     let present = (g.D.Device.state c.args.device.now).disk.present in
-    let pages = pages_in present c.args.self.now.volume.table.items in
-    let after = pages_in (g.D.Device.state c.commit_volume.new.device).disk.present c.commit_volume.new.volume.table.items in
+    let pages = pages_in present c.args.self.now.volume.table in
+    let after = pages_in (g.D.Device.state c.commit_volume.new.device).disk.present c.commit_volume.new.volume.table in
     let next : after ≡ changed pages changes = ap (λ (m : Map). m.pages) (c.in_ok-commit_volume.ensures.map honest agrees.committed) ∙ ap (λ (l : List Change). changed pages l) c.deref.ensures.value in
     let none : c.replace-changes.new.dest.items ≡ [] = search rules in
     record {

@@ -13,7 +13,7 @@ returns-clause-keeps c = record {
   catalog = refl;
   is_open = λ before is. let ready = before is in record { sound = ready.sound; pages = ready.pages; once = ready.once; placed = ready.placed };
   agrees = λ disk agrees.
-      let pages = pages_in disk.present c.args.self.now.volume.table.items in
+      let pages = pages_in disk.present c.args.self.now.volume.table in
       let changed = changed_pages c.args.self.now.changes.items in
       record {
         committed = agrees.committed;

@@ -11,7 +11,7 @@ use Rattle.pages.proofs.page_map.PageMap.rewrite.Goals as goal
 
 pub returns-clause-keeps : goal.returns-clause-keeps
 returns-clause-keeps c =
-    let table = c.args.self.now.volume.table.items in
+    let table = c.args.self.now.volume.table in
     let before : List Change = c.args.self.now.changes.items in
     let same = c.reserve_change.ensures.items in
     record {

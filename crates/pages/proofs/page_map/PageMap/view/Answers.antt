@@ -15,7 +15,7 @@ changed_page : (c : goal.After-view) (image : List Sector) → option_copied c.v
 changed_page c image =
     let ready = c.requires c.if-self.false in
     let changes = c.args.self.now.changes.items in
-    let table = c.args.self.now.volume.table.items in
+    let table = c.args.self.now.volume.table in
     let i = c.in-Some.i in
     let low : i < length changes = subst (λ (l : List Change). i < length l) c.deref.ensures.value c.in-Some.ensures.found.0 in
     let here : HoldsAt (λ (x : Change). x.page ≡ c.args.page) changes i = subst (λ (l : List Change). HoldsAt (λ (x : Change). x.page ≡ c.args.page) l i) c.deref.ensures.value c.in-Some.ensures.found.1 in
@@ -32,7 +32,7 @@ returns-in-Some-clause-page c = λ disk agrees. viewed c.view.result (page_of (m
 
 pub returns-in-None-clause-page : goal.returns-in-None-clause-page
 returns-in-None-clause-page c = λ disk agrees.
-    let table = c.args.self.now.volume.table.items in
+    let table = c.args.self.now.volume.table in
     let changes = c.args.self.now.changes.items in
     let away : Away c.args.page changes = subst (Away c.args.page) c.deref.ensures.value c.in-None.ensures.absent in
     held_page (pages_in disk.present table) (changed_pages changes) c.args.self.now.cache.entries c.args.page (page_of (map_now c.args.self.now disk.present) c.args.page) c.seen_page.result agrees.cache c.seen_page.ensures

@@ -1,5 +1,5 @@
 use Rattle.std.proofs.Common.{◌≡◌, ◌*◌, ◌+◌, ◌-◌, ℕ, take, drop, ap, arith}
-use Rattle.pages.proofs.stage.map_entries.Goals as goal
+use Rattle.pages.proofs.table.map_entries.Goals as goal
 
 pub returns-clause-entries : goal.returns-clause-entries
 returns-clause-entries c = ap (λ (n : ℕ). take n (drop (1024 * c.args.map) c.args.table.now)) width
