@@ -54,6 +54,63 @@ fn copy_node(bytes: &[u8; 4096], layout: RowLayout) -> Result<TreePage, PagesErr
     Ok(view_node(bytes, layout)?.to_page())
 }
 
+/// The page of that number, read from the device past the cache, where memory has no place for it. Refusals are those of `read_node`.
+fn node_read<D: Device>(
+    pages: &mut PageMap,
+    device: &mut D,
+    layout: RowLayout,
+    page: u32,
+) -> Result<TreePage, PagesError>
+    requires open { IsOpen pages.old }
+    requires sectors { sectors_of pages.old ≤ D.sectors device.old }
+    requires layout { IsRowLayout layout }
+    ensures only { OnlyReads D.Device (result ≡ Err PagesError.Device) device.old device.new }
+    ensures unchanged { Unchanged pages.old pages.new }
+    ensures agrees { Agreed D.Device pages.old device.old (Agrees pages.new (D.state device.new).disk) }
+    ensures open { IsOpen pages.new }
+    ensures node { OnPages D.Device pages.old device.old (λ before. IfOk result (λ node. node_at layout before page ≡ Some node)) }
+    ensures shape { IfOk result (HasShape layout) }
+    ensures is_node { IfOk result IsNode }
+    ensures damaged { OnPages D.Device pages.old device.old (NoneStands layout page (TellsDamaged result)) }
+    ensures spent { ExactlyIfSpent pages.old result }
+    ensures cause { IfErr result IsReadRefusal }
+{
+    match pages.read(device, page)? {
+        Some(bytes) => copy_node(&bytes, layout),
+        None => Err(PagesError::Damaged),
+    }
+}
+
+/// A page that isn't in memory, and is brought there. Refusals are those of `read_node`.
+#[cold]
+#[inline(never)]
+fn node_loaded<D: Device>(
+    pages: &mut PageMap,
+    device: &mut D,
+    layout: RowLayout,
+    page: u32,
+) -> Result<TreePage, PagesError>
+    requires open { IsOpen pages.old }
+    requires sectors { sectors_of pages.old ≤ D.sectors device.old }
+    requires layout { IsRowLayout layout }
+    ensures only { OnlyReads D.Device (result ≡ Err PagesError.Device) device.old device.new }
+    ensures unchanged { Unchanged pages.old pages.new }
+    ensures agrees { Agreed D.Device pages.old device.old (Agrees pages.new (D.state device.new).disk) }
+    ensures open { IsOpen pages.new }
+    ensures node { OnPages D.Device pages.old device.old (λ before. IfOk result (λ node. node_at layout before page ≡ Some node)) }
+    ensures shape { IfOk result (HasShape layout) }
+    ensures is_node { IfOk result IsNode }
+    ensures damaged { OnPages D.Device pages.old device.old (NoneStands layout page (TellsDamaged result)) }
+    ensures spent { ExactlyIfSpent pages.old result }
+    ensures cause { IfErr result IsReadRefusal }
+{
+    pages.load(device, page)?;
+    if let Some(bytes) = pages.view(page) {
+        return copy_node(bytes, layout);
+    }
+    node_read(pages, device, layout, page)
+}
+
 /// The page of that number. `Damaged` tells that it is none of a tree, or has too few rows.
 pub fn read_node<D: Device>(
     pages: &mut PageMap,
@@ -79,8 +136,5 @@ pub fn read_node<D: Device>(
     if let Some(bytes) = pages.view(page) {
         return copy_node(bytes, layout);
     }
-    match pages.read(device, page)? {
-        Some(bytes) => copy_node(&bytes, layout),
-        None => Err(PagesError::Damaged),
-    }
+    node_loaded(pages, device, layout, page)
 }

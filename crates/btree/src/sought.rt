@@ -87,7 +87,8 @@ fn look_in(
     Ok(Look::Missing)
 }
 
-/// What the page of that number answers, read from the device. Refusals are those of `look_at`.
+/// What the page of that number answers, read from the device past the cache, where memory has no place for it. Refusals are those of
+/// `look_at`.
 #[cold]
 #[inline(never)]
 fn look_read<D: Device>(
@@ -118,6 +119,38 @@ fn look_read<D: Device>(
     }
 }
 
+/// What a page answers that isn't in memory, and is brought there. Refusals are those of `look_at`.
+#[cold]
+#[inline(never)]
+fn look_loaded<D: Device>(
+    pages: &mut PageMap,
+    device: &mut D,
+    layout: RowLayout,
+    page: u32,
+    key: &[u8],
+    sought: Sought,
+    entry: &mut Entry,
+) -> Result<Look, PagesError>
+    requires open { IsOpen pages.old }
+    requires sectors { sectors_of pages.old ≤ D.sectors device.old }
+    requires layout { IsRowLayout layout }
+    ensures only { OnlyReads D.Device (result ≡ Err PagesError.Device) device.old device.new }
+    ensures unchanged { Unchanged pages.old pages.new }
+    ensures agrees { Agreed D.Device pages.old device.old (Agrees pages.new (D.state device.new).disk) }
+    ensures open { IsOpen pages.new }
+    ensures look { OnPages D.Device pages.old device.old (λ before. IfOk result (LooksAt layout before page key.now sought entry.new)) }
+    ensures lengths { IfOk result (λ look. look ≡ Look.Here → HasLengths layout entry.new) }
+    ensures damaged { OnPages D.Device pages.old device.old (NoneStands layout page (TellsDamaged result)) }
+    ensures spent { ExactlyIfSpent pages.old result }
+    ensures cause { IfErr result IsReadRefusal }
+{
+    pages.load(device, page)?;
+    if let Some(bytes) = pages.view(page) {
+        return look_in(bytes, layout, key, sought, entry);
+    }
+    look_read(pages, device, layout, page, key, sought, entry)
+}
+
 /// What the page of that number answers. The entry is put into `entry`. `Damaged` tells that it is no page of a tree.
 fn look_at<D: Device>(
     pages: &mut PageMap,
@@ -145,7 +178,7 @@ fn look_at<D: Device>(
     if let Some(bytes) = pages.view(page) {
         return look_in(bytes, layout, key, sought, entry);
     }
-    look_read(pages, device, layout, page, key, sought, entry)
+    look_loaded(pages, device, layout, page, key, sought, entry)
 }
 
 /// The entry that is sought, in the leaf of that page number. `Damaged` tells that the page is no leaf of a tree.

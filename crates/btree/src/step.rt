@@ -39,7 +39,8 @@ fn step_in(
     Ok(Some(Child { place, page }))
 }
 
-/// The same on the page of that number, read from the device. Refusals are those of `step_at`.
+/// The same on the page of that number, read from the device past the cache, where memory has no place for it. Refusals are those of
+/// `step_at`.
 #[cold]
 #[inline(never)]
 fn step_read<D: Device>(
@@ -69,6 +70,37 @@ fn step_read<D: Device>(
     }
 }
 
+/// The same on a page that isn't in memory, and is brought there. Refusals are those of `step_at`.
+#[cold]
+#[inline(never)]
+fn step_loaded<D: Device>(
+    alloc: Global,
+    pages: &mut PageMap,
+    device: &mut D,
+    layout: RowLayout,
+    page: u32,
+    key: &[u8],
+    right: &mut Option<Key>,
+) -> Result<Option<Child>, PagesError>
+    requires open { IsOpen pages.old }
+    requires sectors { sectors_of pages.old ≤ D.sectors device.old }
+    requires layout { IsRowLayout layout }
+    ensures only { OnlyReads D.Device (result ≡ Err PagesError.Device) device.old device.new }
+    ensures unchanged { Unchanged pages.old pages.new }
+    ensures agrees { Agreed D.Device pages.old device.old (Agrees pages.new (D.state device.new).disk) }
+    ensures open { IsOpen pages.new }
+    ensures step { OnPages D.Device pages.old device.old (λ before. IfOk result (λ child. StepsAt layout before page key.now right.old right.new child)) }
+    ensures damaged { OnPages D.Device pages.old device.old (NoneStands layout page (TellsDamaged result)) }
+    ensures spent { ExactlyIfSpent pages.old result }
+    ensures cause { IfErr result (IsRefusal layout) }
+{
+    pages.load(device, page)?;
+    if let Some(bytes) = pages.view(page) {
+        return step_in(alloc, bytes, layout, key, right);
+    }
+    step_read(alloc, pages, device, layout, page, key, right)
+}
+
 /// The child that a key leads to on the page of that number, or none where it is a leaf. The next key to the right is noted.
 /// `Damaged` tells that the page is none of a tree. `Memory` comes only where keys are longer than 128 bytes.
 pub(crate) fn step_at<D: Device>(
@@ -96,5 +128,5 @@ pub(crate) fn step_at<D: Device>(
     if let Some(bytes) = pages.view(page) {
         return step_in(alloc, bytes, layout, key, right);
     }
-    step_read(alloc, pages, device, layout, page, key, right)
+    step_loaded(alloc, pages, device, layout, page, key, right)
 }

@@ -1,13 +1,14 @@
-use Rattle.std.proofs.Common.{◌≡◌, List, sym, ap, subst, ◌∙◌, refl}
+use Rattle.std.proofs.Common.{◌≡◌, List, sym, ap, subst, ◌∙◌}
 use Rattle.std.specs.Prelude.{Option, Some, None, Result, IfOk, OnErr, slice_index_or}
 use Rattle.station.specs.Disk.{Sector}
 use Rattle.pages.specs.Image.{Map}
 use Rattle.pages.specs.Pages.{map_now, page_of}
 use Rattle.pages.specs.declared.error.PagesError.{PagesError}
 use Rattle.tree_pages.specs.Node.{Node}
+use Rattle.btree.specs.Tree.{Stands, node_at}
 use Rattle.btree.specs.Reading.{SpellsNoNode}
 use Rattle.btree.proofs.Frames.{unchanged_on}
-use Rattle.btree.proofs.TreeNodes.{node_seen, spells_none, read_none}
+use Rattle.btree.proofs.TreeNodes.{node_seen, spells_none}
 use Rattle.btree.proofs.node.read_node.Goals as goal
 
 pub returns-in-Some-clause-node : goal.returns-in-Some-clause-node
@@ -30,42 +31,20 @@ returns-in-Some-clause-damaged g c = λ honest agrees is kind node same stands.
     let here : slice_index_or pages c.args.page None ≡ Some bytes = sym noted ∙ c.in-Some.ensures.page (g.D.Device.state c.args.device.now).disk kept in
     spells_none c.args.layout pages c.args.page bytes here (subst (λ (r : Result Node PagesError). OnErr r (SpellsNoNode c.args.layout bytes)) is c.copy_node.ensures.damaged) kind node same stands
 
-pub returns-in_err-bytes-clause-unchanged : goal.returns-in_err-bytes-clause-unchanged
-returns-in_err-bytes-clause-unchanged g c =
-    unchanged_on c.args.pages.now c.note_use.new.self c.read.new.self c.note_use.ensures.unchanged c.read.ensures.unchanged
+pub returns-clause-unchanged : goal.returns-clause-unchanged
+returns-clause-unchanged g c =
+    unchanged_on c.args.pages.now c.note_use.new.self c.node_loaded.new.pages c.note_use.ensures.unchanged c.node_loaded.ensures.unchanged
 
-pub returns-in-Some-2-clause-unchanged : goal.returns-in-Some-2-clause-unchanged
-returns-in-Some-2-clause-unchanged g c =
-    unchanged_on c.args.pages.now c.note_use.new.self c.read.new.self c.note_use.ensures.unchanged c.read.ensures.unchanged
-
-pub returns-in-Some-2-clause-node : goal.returns-in-Some-2-clause-node
-returns-in-Some-2-clause-node g c = λ honest agrees.
+pub returns-clause-node : goal.returns-clause-node
+returns-clause-node g c = λ honest agrees.
     let present = (g.D.Device.state c.args.device.now).disk.present in
-    let pages : List (Option Sector) = (map_now c.args.pages.now present).pages in
-    let noted : page_of (map_now c.note_use.new.self present) c.args.page ≡ slice_index_or pages c.args.page None = ap (λ (m : Map). page_of m c.args.page) (c.note_use.ensures.unchanged.map present) in
+    let noted : (map_now c.note_use.new.self present).pages ≡ (map_now c.args.pages.now present).pages = ap (λ (m : Map). m.pages) (c.note_use.ensures.unchanged.map present) in
     let kept = c.note_use.ensures.keeps.agrees (g.D.Device.state c.args.device.now).disk agrees in
-    let bytes = c.in-Some-2.bytes in
-    let here : slice_index_or pages c.args.page None ≡ Some bytes = sym (c.in_ok-bytes.ensures.page honest kept ∙ noted) ∙ c.in-Some-2.is in
-    subst (λ (n : Option Node). IfOk c.copy_node-in-Some-2.result (λ node. n ≡ Some node)) (sym (node_seen c.args.layout pages c.args.page bytes here)) c.copy_node-in-Some-2.ensures.node
+    subst (λ (p : List (Option Sector)). IfOk c.node_loaded.result (λ node. node_at c.args.layout p c.args.page ≡ Some node)) noted (c.node_loaded.ensures.node honest kept)
 
-pub returns-in-Some-2-clause-damaged : goal.returns-in-Some-2-clause-damaged
-returns-in-Some-2-clause-damaged g c = λ honest agrees is kind node same stands.
+pub returns-clause-damaged : goal.returns-clause-damaged
+returns-clause-damaged g c = λ honest agrees is kind node same stands.
     let present = (g.D.Device.state c.args.device.now).disk.present in
-    let pages : List (Option Sector) = (map_now c.args.pages.now present).pages in
-    let noted : page_of (map_now c.note_use.new.self present) c.args.page ≡ slice_index_or pages c.args.page None = ap (λ (m : Map). page_of m c.args.page) (c.note_use.ensures.unchanged.map present) in
+    let noted : (map_now c.note_use.new.self present).pages ≡ (map_now c.args.pages.now present).pages = ap (λ (m : Map). m.pages) (c.note_use.ensures.unchanged.map present) in
     let kept = c.note_use.ensures.keeps.agrees (g.D.Device.state c.args.device.now).disk agrees in
-    let bytes = c.in-Some-2.bytes in
-    let here : slice_index_or pages c.args.page None ≡ Some bytes = sym (c.in_ok-bytes.ensures.page honest kept ∙ noted) ∙ c.in-Some-2.is in
-    spells_none c.args.layout pages c.args.page bytes here (subst (λ (r : Result Node PagesError). OnErr r (SpellsNoNode c.args.layout bytes)) is c.copy_node-in-Some-2.ensures.damaged) kind node same stands
-
-pub returns-in-None-clause-unchanged : goal.returns-in-None-clause-unchanged
-returns-in-None-clause-unchanged g c =
-    unchanged_on c.args.pages.now c.note_use.new.self c.read.new.self c.note_use.ensures.unchanged c.read.ensures.unchanged
-
-pub returns-in-None-clause-damaged : goal.returns-in-None-clause-damaged
-returns-in-None-clause-damaged g c = λ honest agrees is kind node same stands.
-    let present = (g.D.Device.state c.args.device.now).disk.present in
-    let pages : List (Option Sector) = (map_now c.args.pages.now present).pages in
-    let noted : page_of (map_now c.note_use.new.self present) c.args.page ≡ slice_index_or pages c.args.page None = ap (λ (m : Map). page_of m c.args.page) (c.note_use.ensures.unchanged.map present) in
-    let kept = c.note_use.ensures.keeps.agrees (g.D.Device.state c.args.device.now).disk agrees in
-    read_none c.args.layout pages c.args.page None kind node (sym c.in-None.is ∙ c.in_ok-bytes.ensures.page honest kept ∙ noted) refl same stands
+    c.node_loaded.ensures.damaged honest kept is kind node same (subst (λ (p : List (Option Sector)). Stands c.args.layout p kind node) (sym noted) stands)

@@ -34,18 +34,18 @@ returns-in-Some-clause-damaged g c = λ honest agrees is kind node same stands.
 
 pub returns-clause-unchanged : goal.returns-clause-unchanged
 returns-clause-unchanged g c =
-    unchanged_on c.args.pages.now c.note_use.new.self c.look_read.new.pages c.note_use.ensures.unchanged c.look_read.ensures.unchanged
+    unchanged_on c.args.pages.now c.note_use.new.self c.look_loaded.new.pages c.note_use.ensures.unchanged c.look_loaded.ensures.unchanged
 
 pub returns-clause-look : goal.returns-clause-look
 returns-clause-look g c = λ honest agrees.
     let present = (g.D.Device.state c.args.device.now).disk.present in
     let noted : (map_now c.note_use.new.self present).pages ≡ (map_now c.args.pages.now present).pages = ap (λ (m : Map). m.pages) (c.note_use.ensures.unchanged.map present) in
     let kept = c.note_use.ensures.keeps.agrees (g.D.Device.state c.args.device.now).disk agrees in
-    subst (λ (p : List (Option Sector)). IfOk c.look_read.result (LooksAt c.args.layout p c.args.page c.args.key.now c.args.sought c.look_read.new.entry)) noted (c.look_read.ensures.look honest kept)
+    subst (λ (p : List (Option Sector)). IfOk c.look_loaded.result (LooksAt c.args.layout p c.args.page c.args.key.now c.args.sought c.look_loaded.new.entry)) noted (c.look_loaded.ensures.look honest kept)
 
 pub returns-clause-damaged : goal.returns-clause-damaged
 returns-clause-damaged g c = λ honest agrees is kind node same stands.
     let present = (g.D.Device.state c.args.device.now).disk.present in
     let noted : (map_now c.note_use.new.self present).pages ≡ (map_now c.args.pages.now present).pages = ap (λ (m : Map). m.pages) (c.note_use.ensures.unchanged.map present) in
     let kept = c.note_use.ensures.keeps.agrees (g.D.Device.state c.args.device.now).disk agrees in
-    c.look_read.ensures.damaged honest kept is kind node same (subst (λ (p : List (Option Sector)). Stands c.args.layout p kind node) (sym noted) stands)
+    c.look_loaded.ensures.damaged honest kept is kind node same (subst (λ (p : List (Option Sector)). Stands c.args.layout p kind node) (sym noted) stands)

@@ -33,18 +33,18 @@ returns-in-Some-clause-damaged g c = λ honest agrees is kind node same stands.
 
 pub returns-clause-unchanged : goal.returns-clause-unchanged
 returns-clause-unchanged g c =
-    unchanged_on c.args.pages.now c.note_use.new.self c.step_read.new.pages c.note_use.ensures.unchanged c.step_read.ensures.unchanged
+    unchanged_on c.args.pages.now c.note_use.new.self c.step_loaded.new.pages c.note_use.ensures.unchanged c.step_loaded.ensures.unchanged
 
 pub returns-clause-step : goal.returns-clause-step
 returns-clause-step g c = λ honest agrees.
     let present = (g.D.Device.state c.args.device.now).disk.present in
     let noted : (map_now c.note_use.new.self present).pages ≡ (map_now c.args.pages.now present).pages = ap (λ (m : Map). m.pages) (c.note_use.ensures.unchanged.map present) in
     let kept = c.note_use.ensures.keeps.agrees (g.D.Device.state c.args.device.now).disk agrees in
-    subst (λ (p : List (Option Sector)). IfOk c.step_read.result (λ child. StepsAt c.args.layout p c.args.page c.args.key.now c.args.right.now c.step_read.new.right child)) noted (c.step_read.ensures.step honest kept)
+    subst (λ (p : List (Option Sector)). IfOk c.step_loaded.result (λ child. StepsAt c.args.layout p c.args.page c.args.key.now c.args.right.now c.step_loaded.new.right child)) noted (c.step_loaded.ensures.step honest kept)
 
 pub returns-clause-damaged : goal.returns-clause-damaged
 returns-clause-damaged g c = λ honest agrees is kind node same stands.
     let present = (g.D.Device.state c.args.device.now).disk.present in
     let noted : (map_now c.note_use.new.self present).pages ≡ (map_now c.args.pages.now present).pages = ap (λ (m : Map). m.pages) (c.note_use.ensures.unchanged.map present) in
     let kept = c.note_use.ensures.keeps.agrees (g.D.Device.state c.args.device.now).disk agrees in
-    c.step_read.ensures.damaged honest kept is kind node same (subst (λ (p : List (Option Sector)). Stands c.args.layout p kind node) (sym noted) stands)
+    c.step_loaded.ensures.damaged honest kept is kind node same (subst (λ (p : List (Option Sector)). Stands c.args.layout p kind node) (sym noted) stands)

@@ -1,0 +1,50 @@
+use Rattle.std.proofs.Common.{◌≡◌, List, sym, ap, subst, ◌∙◌}
+use Rattle.std.specs.Prelude.{Option, Some, None, slice_index_or, IfOk}
+use Rattle.station.specs.Disk.{Sector}
+use Rattle.pages.specs.Pages.{map_now}
+use Rattle.btree.specs.Tree.{Stands}
+use Rattle.btree.specs.Steps.{StepsIn, StepsAt}
+use Rattle.btree.proofs.Frames.{unchanged_on, same_pages}
+use Rattle.btree.proofs.TreeNodes.{spells_none}
+use Rattle.btree.proofs.Stepping.{if_ok, step_there}
+use Rattle.btree.proofs.step.step_loaded.Goals as goal
+
+pub returns-in-Some-clause-step : goal.returns-in-Some-clause-step
+returns-in-Some-clause-step g c = λ honest agrees.
+    let before = g.D.Device.state c.args.device.now in
+    let after = g.D.Device.state c.load.new.device in
+    let pages : List (Option Sector) = (map_now c.args.pages.now before.disk.present).pages in
+    let same : (map_now c.load.new.self after.disk.present).pages ≡ pages = same_pages c.args.pages.now c.load.new.self before after c.in_ok-load.ensures.unchanged (c.in_ok-load.ensures.only.state honest) in
+    let bytes = c.in-Some.bytes.now in
+    let here : slice_index_or pages c.args.page None ≡ Some bytes = sym (ap (λ (p : List (Option Sector)). slice_index_or p c.args.page None) same) ∙ c.in-Some.ensures.page after.disk (c.in_ok-load.ensures.agrees honest agrees) in
+    if_ok (λ child. StepsIn c.args.layout bytes c.args.key.now c.args.right.now c.step_in.new.right child) (λ child. StepsAt c.args.layout pages c.args.page c.args.key.now c.args.right.now c.step_in.new.right child) c.step_in.result
+    (λ child step. step_there c.args.layout pages c.args.page bytes c.args.key.now c.args.right.now c.step_in.new.right child here step) c.step_in.ensures.step
+
+pub returns-in-Some-clause-damaged : goal.returns-in-Some-clause-damaged
+returns-in-Some-clause-damaged g c = λ honest agrees is kind node at stands.
+    let before = g.D.Device.state c.args.device.now in
+    let after = g.D.Device.state c.load.new.device in
+    let pages : List (Option Sector) = (map_now c.args.pages.now before.disk.present).pages in
+    let same : (map_now c.load.new.self after.disk.present).pages ≡ pages = same_pages c.args.pages.now c.load.new.self before after c.in_ok-load.ensures.unchanged (c.in_ok-load.ensures.only.state honest) in
+    let bytes = c.in-Some.bytes.now in
+    let here : slice_index_or pages c.args.page None ≡ Some bytes = sym (ap (λ (p : List (Option Sector)). slice_index_or p c.args.page None) same) ∙ c.in-Some.ensures.page after.disk (c.in_ok-load.ensures.agrees honest agrees) in
+    spells_none c.args.layout pages c.args.page bytes here (c.step_in.ensures.damaged is) kind node at stands
+
+pub returns-clause-unchanged : goal.returns-clause-unchanged
+returns-clause-unchanged g c =
+    unchanged_on c.args.pages.now c.load.new.self c.step_read.new.pages c.in_ok-load.ensures.unchanged c.step_read.ensures.unchanged
+
+pub returns-clause-step : goal.returns-clause-step
+returns-clause-step g c = λ honest agrees.
+    let before = g.D.Device.state c.args.device.now in
+    let after = g.D.Device.state c.load.new.device in
+    let same = same_pages c.args.pages.now c.load.new.self before after c.in_ok-load.ensures.unchanged (c.in_ok-load.ensures.only.state honest) in
+    subst (λ (p : List (Option Sector)). IfOk c.step_read.result (λ child. StepsAt c.args.layout p c.args.page c.args.key.now c.args.right.now c.step_read.new.right child)) same
+    (c.step_read.ensures.step (c.in_ok-load.ensures.only.honest.0 honest) (c.in_ok-load.ensures.agrees honest agrees))
+
+pub returns-clause-damaged : goal.returns-clause-damaged
+returns-clause-damaged g c = λ honest agrees is kind node at stands.
+    let before = g.D.Device.state c.args.device.now in
+    let after = g.D.Device.state c.load.new.device in
+    let same = same_pages c.args.pages.now c.load.new.self before after c.in_ok-load.ensures.unchanged (c.in_ok-load.ensures.only.state honest) in
+    c.step_read.ensures.damaged (c.in_ok-load.ensures.only.honest.0 honest) (c.in_ok-load.ensures.agrees honest agrees) is kind node at (subst (λ (p : List (Option Sector)). Stands c.args.layout p kind node) (sym same) stands)
