@@ -1,12 +1,12 @@
 -- What stays, from call to call.
-use Rattle.std.proofs.Common.{◌≡◌, ◌<◌, ℕ, length, Bool, true, false, List, [], ◌∷◌, refl, ap, subst, ◌∙◌, arith, inl, inr}
-use Rattle.std.specs.Prelude.{Option, Ok, Err}
+use Rattle.std.proofs.Common.{◌≡◌, ◌<◌, ℕ, length, Bool, true, false, List, [], ◌∷◌, refl, sym, ap, subst, ◌∙◌, arith, inl, inr}
+use Rattle.std.specs.Prelude.{Option, Some, None, Ok, Err, slice_index_or}
 use Rattle.std.specs.List.{All}
 use Rattle.std.proofs.lemmas.List.Elements.{All-head}
 use Rattle.station.specs.Disk.{Sector}
 use Rattle.station.specs.State.{State}
 use Rattle.pages.specs.Image.{Map}
-use Rattle.pages.specs.Pages.{map_now, Unchanged}
+use Rattle.pages.specs.Pages.{map_now, page_of, Unchanged}
 use Rattle.pages.specs.declared.page_map.PageMap.{PageMap}
 use Rattle.tree_pages.specs.declared.row_layout.RowLayout.{RowLayout}
 use Rattle.btree.specs.Tree.{TreeNode, IsTree, Holds, pages_of}
@@ -25,6 +25,10 @@ unchanged_on one two three first second = record {
 pub same_pages : (old new : PageMap) (before after : State) → Unchanged old new → after ≡ before → (map_now new after.disk.present).pages ≡ (map_now old before.disk.present).pages
 same_pages old new before after unchanged same =
     ap (λ (state : State). (map_now new state.disk.present).pages) same ∙ ap (λ (map : Map). map.pages) (unchanged.map before.disk.present)
+
+-- a page that is seen after a call that only reads is the page from before
+pub seen_before : (old new : PageMap) (before after : State) (page : ℕ) (bytes : Sector) → Unchanged old new → after ≡ before → page_of (map_now new after.disk.present) page ≡ Some bytes → slice_index_or (map_now old before.disk.present).pages page None ≡ Some bytes
+seen_before old new before after page bytes unchanged same seen = sym (ap (λ (p : List (Option Sector)). slice_index_or p page None) (same_pages old new before after unchanged same)) ∙ seen
 
 -- the pages where nothing was done yet
 pub pages_yet : (one two three : PageMap) (before after : State) → Unchanged one two → three ≡ two → after ≡ before → (map_now three after.disk.present).pages ≡ (map_now one before.disk.present).pages

@@ -1,12 +1,12 @@
-use Rattle.std.proofs.Common.{◌≡◌, List, sym, ap, subst, ◌∙◌}
-use Rattle.std.specs.Prelude.{Option, Some, None, Result, IfOk, OnErr, slice_index_or}
+use Rattle.std.proofs.Common.{◌≡◌, List, sym, subst}
+use Rattle.std.specs.Prelude.{Option, Some, Result, IfOk, OnErr}
 use Rattle.station.specs.Disk.{Sector}
 use Rattle.pages.specs.Pages.{map_now}
 use Rattle.pages.specs.declared.error.PagesError.{PagesError}
 use Rattle.tree_pages.specs.Node.{Node}
 use Rattle.btree.specs.Tree.{Stands, node_at}
 use Rattle.btree.specs.Reading.{SpellsNoNode}
-use Rattle.btree.proofs.Frames.{unchanged_on, same_pages}
+use Rattle.btree.proofs.Frames.{unchanged_on, same_pages, seen_before}
 use Rattle.btree.proofs.TreeNodes.{node_seen, spells_none}
 use Rattle.btree.proofs.node.node_loaded.Goals as goal
 
@@ -15,9 +15,9 @@ returns-in-Some-clause-node g c = λ honest agrees.
     let before = g.D.Device.state c.args.device.now in
     let after = g.D.Device.state c.load.new.device in
     let pages : List (Option Sector) = (map_now c.args.pages.now before.disk.present).pages in
-    let same : (map_now c.load.new.self after.disk.present).pages ≡ pages = same_pages c.args.pages.now c.load.new.self before after c.in_ok-load.ensures.unchanged (c.in_ok-load.ensures.only.state honest) in
     let bytes = c.in-Some.bytes.now in
-    let here : slice_index_or pages c.args.page None ≡ Some bytes = sym (ap (λ (p : List (Option Sector)). slice_index_or p c.args.page None) same) ∙ c.in-Some.ensures.page after.disk (c.in_ok-load.ensures.agrees honest agrees) in
+    let seen = c.in-Some.ensures.page after.disk (c.in_ok-load.ensures.agrees honest agrees) in
+    let here = seen_before c.args.pages.now c.load.new.self before after c.args.page bytes c.in_ok-load.ensures.unchanged (c.in_ok-load.ensures.only.state honest) seen in
     subst (λ (n : Option Node). IfOk c.copy_node.result (λ node. n ≡ Some node)) (sym (node_seen c.args.layout pages c.args.page bytes here)) c.copy_node.ensures.node
 
 pub returns-in-Some-clause-damaged : goal.returns-in-Some-clause-damaged
@@ -25,9 +25,9 @@ returns-in-Some-clause-damaged g c = λ honest agrees is kind node at stands.
     let before = g.D.Device.state c.args.device.now in
     let after = g.D.Device.state c.load.new.device in
     let pages : List (Option Sector) = (map_now c.args.pages.now before.disk.present).pages in
-    let same : (map_now c.load.new.self after.disk.present).pages ≡ pages = same_pages c.args.pages.now c.load.new.self before after c.in_ok-load.ensures.unchanged (c.in_ok-load.ensures.only.state honest) in
     let bytes = c.in-Some.bytes.now in
-    let here : slice_index_or pages c.args.page None ≡ Some bytes = sym (ap (λ (p : List (Option Sector)). slice_index_or p c.args.page None) same) ∙ c.in-Some.ensures.page after.disk (c.in_ok-load.ensures.agrees honest agrees) in
+    let seen = c.in-Some.ensures.page after.disk (c.in_ok-load.ensures.agrees honest agrees) in
+    let here = seen_before c.args.pages.now c.load.new.self before after c.args.page bytes c.in_ok-load.ensures.unchanged (c.in_ok-load.ensures.only.state honest) seen in
     spells_none c.args.layout pages c.args.page bytes here (subst (λ (r : Result Node PagesError). OnErr r (SpellsNoNode c.args.layout bytes)) is c.copy_node.ensures.damaged) kind node at stands
 
 pub returns-clause-unchanged : goal.returns-clause-unchanged

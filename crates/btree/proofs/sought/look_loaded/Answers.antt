@@ -1,10 +1,10 @@
-use Rattle.std.proofs.Common.{◌≡◌, List, sym, ap, subst, ◌∙◌}
-use Rattle.std.specs.Prelude.{Option, Some, None, slice_index_or, IfOk}
+use Rattle.std.proofs.Common.{List, sym, subst}
+use Rattle.std.specs.Prelude.{Option, IfOk}
 use Rattle.station.specs.Disk.{Sector}
 use Rattle.pages.specs.Pages.{map_now}
 use Rattle.btree.specs.Tree.{Stands}
 use Rattle.btree.specs.Sought.{LooksIn, LooksAt}
-use Rattle.btree.proofs.Frames.{unchanged_on, same_pages}
+use Rattle.btree.proofs.Frames.{unchanged_on, same_pages, seen_before}
 use Rattle.btree.proofs.TreeNodes.{spells_none}
 use Rattle.btree.proofs.Stepping.{if_ok}
 use Rattle.btree.proofs.Answering.{looks_there}
@@ -15,9 +15,9 @@ returns-in-Some-clause-look g c = λ honest agrees.
     let before = g.D.Device.state c.args.device.now in
     let after = g.D.Device.state c.load.new.device in
     let pages : List (Option Sector) = (map_now c.args.pages.now before.disk.present).pages in
-    let same : (map_now c.load.new.self after.disk.present).pages ≡ pages = same_pages c.args.pages.now c.load.new.self before after c.in_ok-load.ensures.unchanged (c.in_ok-load.ensures.only.state honest) in
     let bytes = c.in-Some.bytes.now in
-    let here : slice_index_or pages c.args.page None ≡ Some bytes = sym (ap (λ (p : List (Option Sector)). slice_index_or p c.args.page None) same) ∙ c.in-Some.ensures.page after.disk (c.in_ok-load.ensures.agrees honest agrees) in
+    let seen = c.in-Some.ensures.page after.disk (c.in_ok-load.ensures.agrees honest agrees) in
+    let here = seen_before c.args.pages.now c.load.new.self before after c.args.page bytes c.in_ok-load.ensures.unchanged (c.in_ok-load.ensures.only.state honest) seen in
     if_ok (LooksIn c.args.layout bytes c.args.key.now c.args.sought c.look_in.new.entry) (LooksAt c.args.layout pages c.args.page c.args.key.now c.args.sought c.look_in.new.entry) c.look_in.result
     (λ look looks. looks_there c.args.layout pages c.args.page bytes c.args.key.now c.args.sought c.look_in.new.entry look here looks) c.look_in.ensures.look
 
@@ -26,9 +26,9 @@ returns-in-Some-clause-damaged g c = λ honest agrees is kind node at stands.
     let before = g.D.Device.state c.args.device.now in
     let after = g.D.Device.state c.load.new.device in
     let pages : List (Option Sector) = (map_now c.args.pages.now before.disk.present).pages in
-    let same : (map_now c.load.new.self after.disk.present).pages ≡ pages = same_pages c.args.pages.now c.load.new.self before after c.in_ok-load.ensures.unchanged (c.in_ok-load.ensures.only.state honest) in
     let bytes = c.in-Some.bytes.now in
-    let here : slice_index_or pages c.args.page None ≡ Some bytes = sym (ap (λ (p : List (Option Sector)). slice_index_or p c.args.page None) same) ∙ c.in-Some.ensures.page after.disk (c.in_ok-load.ensures.agrees honest agrees) in
+    let seen = c.in-Some.ensures.page after.disk (c.in_ok-load.ensures.agrees honest agrees) in
+    let here = seen_before c.args.pages.now c.load.new.self before after c.args.page bytes c.in_ok-load.ensures.unchanged (c.in_ok-load.ensures.only.state honest) seen in
     spells_none c.args.layout pages c.args.page bytes here (c.look_in.ensures.damaged is) kind node at stands
 
 pub returns-clause-unchanged : goal.returns-clause-unchanged

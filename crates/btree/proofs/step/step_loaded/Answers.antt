@@ -1,10 +1,10 @@
-use Rattle.std.proofs.Common.{◌≡◌, List, sym, ap, subst, ◌∙◌}
-use Rattle.std.specs.Prelude.{Option, Some, None, slice_index_or, IfOk}
+use Rattle.std.proofs.Common.{List, sym, subst}
+use Rattle.std.specs.Prelude.{Option, IfOk}
 use Rattle.station.specs.Disk.{Sector}
 use Rattle.pages.specs.Pages.{map_now}
 use Rattle.btree.specs.Tree.{Stands}
 use Rattle.btree.specs.Steps.{StepsIn, StepsAt}
-use Rattle.btree.proofs.Frames.{unchanged_on, same_pages}
+use Rattle.btree.proofs.Frames.{unchanged_on, same_pages, seen_before}
 use Rattle.btree.proofs.TreeNodes.{spells_none}
 use Rattle.btree.proofs.Stepping.{if_ok, step_there}
 use Rattle.btree.proofs.step.step_loaded.Goals as goal
@@ -14,9 +14,9 @@ returns-in-Some-clause-step g c = λ honest agrees.
     let before = g.D.Device.state c.args.device.now in
     let after = g.D.Device.state c.load.new.device in
     let pages : List (Option Sector) = (map_now c.args.pages.now before.disk.present).pages in
-    let same : (map_now c.load.new.self after.disk.present).pages ≡ pages = same_pages c.args.pages.now c.load.new.self before after c.in_ok-load.ensures.unchanged (c.in_ok-load.ensures.only.state honest) in
     let bytes = c.in-Some.bytes.now in
-    let here : slice_index_or pages c.args.page None ≡ Some bytes = sym (ap (λ (p : List (Option Sector)). slice_index_or p c.args.page None) same) ∙ c.in-Some.ensures.page after.disk (c.in_ok-load.ensures.agrees honest agrees) in
+    let seen = c.in-Some.ensures.page after.disk (c.in_ok-load.ensures.agrees honest agrees) in
+    let here = seen_before c.args.pages.now c.load.new.self before after c.args.page bytes c.in_ok-load.ensures.unchanged (c.in_ok-load.ensures.only.state honest) seen in
     if_ok (λ child. StepsIn c.args.layout bytes c.args.key.now c.args.right.now c.step_in.new.right child) (λ child. StepsAt c.args.layout pages c.args.page c.args.key.now c.args.right.now c.step_in.new.right child) c.step_in.result
     (λ child step. step_there c.args.layout pages c.args.page bytes c.args.key.now c.args.right.now c.step_in.new.right child here step) c.step_in.ensures.step
 
@@ -25,9 +25,9 @@ returns-in-Some-clause-damaged g c = λ honest agrees is kind node at stands.
     let before = g.D.Device.state c.args.device.now in
     let after = g.D.Device.state c.load.new.device in
     let pages : List (Option Sector) = (map_now c.args.pages.now before.disk.present).pages in
-    let same : (map_now c.load.new.self after.disk.present).pages ≡ pages = same_pages c.args.pages.now c.load.new.self before after c.in_ok-load.ensures.unchanged (c.in_ok-load.ensures.only.state honest) in
     let bytes = c.in-Some.bytes.now in
-    let here : slice_index_or pages c.args.page None ≡ Some bytes = sym (ap (λ (p : List (Option Sector)). slice_index_or p c.args.page None) same) ∙ c.in-Some.ensures.page after.disk (c.in_ok-load.ensures.agrees honest agrees) in
+    let seen = c.in-Some.ensures.page after.disk (c.in_ok-load.ensures.agrees honest agrees) in
+    let here = seen_before c.args.pages.now c.load.new.self before after c.args.page bytes c.in_ok-load.ensures.unchanged (c.in_ok-load.ensures.only.state honest) seen in
     spells_none c.args.layout pages c.args.page bytes here (c.step_in.ensures.damaged is) kind node at stands
 
 pub returns-clause-unchanged : goal.returns-clause-unchanged
