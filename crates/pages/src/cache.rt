@@ -130,10 +130,7 @@ fn push_page(cache: &mut LruCache<u32, PageBytes>, page: u32, bytes: PageBytes) 
 fn take_spare(alloc: Global, spare: &mut Option<PageBytes>) -> Option<PageBytes> {
     match spare.take() {
         Some(bytes) => Some(bytes),
-        None => match PageBytes::new(alloc, [0; 4096]) {
-            Ok(bytes) => Some(bytes),
-            Err(_) => None,
-        },
+        None => PageBytes::new(alloc, [0; 4096]).ok(),
     }
 }
 

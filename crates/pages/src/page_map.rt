@@ -265,10 +265,10 @@ impl PageMap {
         ensures open { IsOpen self.new }
         ensures err { OnErr result (cache_of self.new ≡ cache_of self.old) }
 
-        // What is in memory stays as it is, and the device isn't asked. Nor is it for a page that the map hasn't.
+        // What is in memory stays as it is, and the device isn't asked. Nor is it for a page that the map hasn't, and the cache stays.
         ensures changed { Contains (changed_pages_of self.old) page → (device.new ≡ device.old) × (self.new ≡ self.old) }
         ensures hit { IsSome (lookup (nat_eq page) (cache_of self.old).entries) → (device.new ≡ device.old) × (self.new ≡ self.old) }
-        ensures absent { (image : List Sector) → page_of (map_now self.old image) page ≡ None → device.new ≡ device.old }
+        ensures absent { (image : List Sector) → page_of (map_now self.old image) page ≡ None → (device.new ≡ device.old) × (cache_of self.new ≡ cache_of self.old) }
         ensures loads { Loads page (cache_of self.old) (cache_of self.new) }
 
         // `Spent` comes exactly where the value is spent, and otherwise the device alone refuses.

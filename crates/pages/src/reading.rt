@@ -50,8 +50,7 @@ pub(crate) fn read_table<D: Device>(
 pub(crate) fn sector_of(table: &[u32], page: u32) -> u32
     ensures { result ≡ slice_index_or table.now page 0 }
 {
-    let place = page as usize;
-    if place < table.len() { table[place] } else { 0 }
+    table.get(page as usize).copied().unwrap_or(0)
 }
 
 /// The page of a number in a table, or none.

@@ -51,4 +51,4 @@ returns-clause-absent g c = λ image none.
     let table = c.args.self.now.volume.table in
     let changes = c.args.self.now.changes.items in
     let zero_there : get_or table c.args.page 0 ≡ 0 = unnamed_page image table c.args.page (sym (away_same (λ (o : Option Sector). o) (pages_in image table) changes c.args.page None (away g c)) ∙ none) in
-    (c.load_page.ensures.absent (ap (λ (l : List ℕ). get_or l c.args.page 0) c.entries.ensures ∙ zero_there)).0
+    c.load_page.ensures.absent (ap (λ (l : List ℕ). get_or l c.args.page 0) c.entries.ensures ∙ zero_there)
