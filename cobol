@@ -1,16 +1,16 @@
 #!/bin/sh
-# Runs the program `cobol` with these arguments. Where it isn't built yet, or is older than its text, it is built first;
-# a build that fails has exit status 70, which the program never has.
+# Runs the program `cobol` with these arguments: the proved program if ./prove has built it, or else one that is built without proof.
+# Its exit status is the program's, or 70 if no program can be built.
 set -eu
 root=$(dirname "$(readlink -f "$0")")
-program=$root/crates/cobol/out/cobol
-mark=$root/crates/cobol/out/built
-
-# The mark names the folders that the program is made of.
-is_built() {
-    [ -x "$program" ] && [ -f "$mark" ] || return 1
-    (cd "$root" && [ -z "$(find crates.txt $(cat "$mark") -newer "$mark" -print 2>&1 | head -n 1)" ])
-}
-
-is_built || "$root/tools/build-program" || exit 70
-exec "$program" "$@"
+program=$("$root/tools/find-program") || exit 70
+case ${1-} in
+--version | -V)
+    "$program" "$@"
+    case $program in
+    */.quick/*) echo "built without proof" ;;
+    *) echo "proved" ;;
+    esac
+    ;;
+*) exec "$program" "$@" ;;
+esac

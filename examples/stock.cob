@@ -1,13 +1,14 @@
       * A stock in an indexed file, with the shelf as an alternate key.
       * Each line of the console is a movement: R receives pieces of an
       * article, S sells some, D drops the article. Then the stock is
-      * listed by articles, and the articles of one shelf.
+      * listed by articles, and the articles of one shelf. The first
+      * run makes the file; each later run finds the stock in it.
        IDENTIFICATION DIVISION.
        PROGRAM-ID. STOCK.
        ENVIRONMENT DIVISION.
        INPUT-OUTPUT SECTION.
        FILE-CONTROL.
-           SELECT STOCK-FILE ASSIGN TO "STOCK"
+           SELECT OPTIONAL STOCK-FILE ASSIGN TO "STOCK"
                ORGANIZATION IS INDEXED
                ACCESS MODE IS DYNAMIC
                RECORD KEY IS ARTICLE
@@ -46,8 +47,6 @@
        PROCEDURE DIVISION.
        MAIN SECTION.
        BEGIN.
-           OPEN OUTPUT STOCK-FILE.
-           CLOSE STOCK-FILE.
            OPEN I-O STOCK-FILE.
            ACCEPT MOVEMENT.
            PERFORM MOVE-STOCK UNTIL IS-LAST.

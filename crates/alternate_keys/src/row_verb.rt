@@ -1,7 +1,7 @@
 //! What is done to a row.
 
 /// A change of a row of a file.
-#[derive(Clone, Copy, Debug, PartialEq, Eq)]
+#[derive(Clone, Copy, PartialEq, Eq)]
 pub enum RowVerb {
     /// A new row.
     Insert,

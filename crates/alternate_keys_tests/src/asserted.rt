@@ -8,16 +8,11 @@ pub fn holds(rt: &impl Abort, fact: bool) {
 }
 
 /// Asserts that what was told is what is expected.
-pub fn same<T: PartialEq + Debug + Drop>(rt: &impl Abort, told: T, expected: T) {
-    assert_eq!(rt; told, expected);
+pub fn same<T: PartialEq + Drop>(rt: &impl Abort, told: T, expected: T) {
+    assert!(rt; told == expected);
 }
 
 /// Asserts that what was told of a case is what is expected.
-pub fn same_in<T: PartialEq + Debug + Drop>(
-    rt: &impl Abort,
-    case: &impl Debug,
-    told: T,
-    expected: T,
-) {
-    assert_eq!(rt; told, expected, "{case:?}");
+pub fn same_in<T: PartialEq + Drop>(rt: &impl Abort, case: &impl Debug, told: T, expected: T) {
+    assert!(rt; told == expected, "{case:?}");
 }

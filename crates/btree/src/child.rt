@@ -8,7 +8,7 @@ use std::alloc::{AllocError, Global};
 use tree_pages::NodeView;
 
 /// The child that a row of an inner page names: the row's place, and the child's page.
-#[derive(Clone, Copy, Debug, PartialEq, Eq)]
+#[derive(Clone, Copy, PartialEq, Eq)]
 pub(crate) struct Child {
     pub place: usize,
     pub page: u32,

@@ -20,7 +20,7 @@ use station::Device;
 use tree_pages::{Kind, NodeView, RowLayout};
 
 /// Which entry a search is for.
-#[derive(Clone, Copy, Debug, PartialEq, Eq)]
+#[derive(Clone, Copy, PartialEq, Eq)]
 pub(crate) enum Sought {
     /// The entry of the key.
     With,
@@ -31,7 +31,7 @@ pub(crate) enum Sought {
 }
 
 /// What a page answers a search.
-#[derive(Clone, Copy, Debug, PartialEq, Eq)]
+#[derive(Clone, Copy, PartialEq, Eq)]
 pub(crate) enum Look {
     /// A leaf that has the entry.
     Here,

@@ -171,7 +171,7 @@ fn full_pages(rt: HostRuntime) {
         (layout_of(1356, 4), Kind::Inner, 3),
     ] {
         let told = rows_until_full(&rt, layout, kind);
-        same_in(&rt, &(layout, kind), told, rows);
+        same_in(&rt, &rows, told, rows);
     }
 }
 

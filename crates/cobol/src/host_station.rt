@@ -1,9 +1,13 @@
-//! A station on the host: console lines come from a reader, shown bytes go to a writer, and its sectors stand in memory.
+//! A station on the host: console lines come from a reader, shown bytes go to a writer, and the sectors are those of a device.
 //!
-//! It is claimed of it that it counts its failures, and nothing more.
+//! It counts its failures and claims nothing more.
 
-ghost use Rattle.std.specs.Prelude.{◌≡◌, ◌≤◌, [], IsErr, IfOk};
+ghost use Rattle.std.specs.Prelude.{◌≡◌, ◌<◌, ◌≤◌, [], length, IfOk, IfSome, OnOk};
+ghost use Rattle.std.specs.Io.Buffered.{writer_buffer, writer_contents};
+ghost use Rattle.std.specs.Io.KnownBytes.{Appends, Keeps};
+ghost use Rattle.station.specs.Disk.{sector_at};
 ghost use Rattle.station.specs.Failures.{CountsFailure};
+ghost use Rattle.station.specs.State.{wrote, synced};
 ghost use Rattle.cobol.specs.Host.{nothing_known};
 
 use crate::console::take_line;
@@ -12,62 +16,67 @@ use std::alloc::Global;
 use std::io;
 use std::io::{BufRead, BufWriter, Write};
 
-/// What a program shows may wait in `out`, up to the next console line, note or sync, and the end of the run.
+/// What a program shows may wait in `out` until the next console line, note, write or sync, or the end of the run.
 #[derive(Drop)]
-pub struct HostStation<R, W: Write + Drop> {
-    console: R,
-    out: BufWriter<W>,
+pub struct HostStation<C, O: Write + Drop, D> {
+    console: C,
+    out: BufWriter<O>,
     failures: u64,
-    /// How many sectors it has.
-    sectors: u32,
-    volume: Vec<[u8; 4096]>,
+    volume: D,
 }
 
-impl<R: BufRead + Drop, W: Write + Drop> HostStation<R, W> {
-    /// A station with so many sectors of zeros.
-    pub fn new(alloc: Global, console: R, out: W, sectors: u32) -> io::Result<HostStation<R, W>>
-        ensures { IfOk result (λ station. station.sectors ≡ sectors) }
+impl<C: BufRead + Drop, O: Write + Drop, D: Device + Drop> HostStation<C, O, D> {
+    /// A station over this volume, which hasn't failed yet.
+    pub fn new(alloc: Global, console: C, out: O, volume: D) -> io::Result<HostStation<C, O, D>>
+        ensures { IfOk result (λ station. station.volume ≡ volume) }
     {
         Ok(HostStation {
             console,
             out: BufWriter::new(alloc, out)?,
             failures: 0,
-            sectors,
-            volume: vec![in alloc; [0; 4096]; sectors as usize]?,
+            volume,
         })
     }
 
-    /// What was shown reaches the writer's end.
+    /// Hands what was shown on to the writer, and flushes that.
     pub fn flush(&mut self) -> Result<(), DeviceError>
         ensures failures { CountsFailure result self.old.failures self.new.failures }
-        ensures sectors { self.new.sectors ≡ self.old.sectors }
+        ensures volume { self.new.volume ≡ self.old.volume }
+        ensures shown { OnOk result (writer_buffer self.new.out ≡ []) }
+        ensures kept { let contents = writer_contents O.contents in
+            Keeps (contents self.old.out) (contents self.new.out) }
     {
-        if self.out.flush().is_err() {
-            return self.fail();
-        }
-        Ok(())
+        let done = self.out.flush();
+        self.count_failure(done)
     }
 
-    fn fail<T>(&mut self) -> Result<T, DeviceError>
-        ensures err { IsErr result }
+    /// Counts a call that failed.
+    fn count_failure<T: Drop, E: Drop>(&mut self, done: Result<T, E>) -> Result<T, DeviceError>
         ensures failures { CountsFailure result self.old.failures self.new.failures }
-        ensures sectors { self.new.sectors ≡ self.old.sectors }
+        ensures volume { self.new.volume ≡ self.old.volume }
+        ensures out { self.new.out ≡ self.old.out }
+        ensures value { IfOk result (λ value. done ≡ Ok value) }
     {
-        self.failures = self.failures.saturating_add(1);
-        Err(DeviceError::Failed)
+        match done {
+            Ok(value) => Ok(value),
+            Err(_) => {
+                self.failures = self.failures.saturating_add(1);
+                Err(DeviceError::Failed)
+            }
+        }
     }
 }
 
-impl<R: BufRead + Drop, W: Write + Drop> Device for HostStation<R, W> {
+impl<C: BufRead + Drop, O: Write + Drop, D: Device + Drop> Device for HostStation<C, O, D> {
     ghost is_honest = { λ _. ⊥ };
 
     ghost state = { λ _. nothing_known };
 
     ghost history = { λ _. [] };
 
-    ghost failures = { λ s. s.failures };
+    ghost failures = { λ station. station.failures };
 
-    ghost sectors = { λ s. s.sectors };
+    ghost sectors = { λ station. D.sectors station.volume };
 
     ghost all_present = { λ _ honest. absurd honest };
 
@@ -78,52 +87,73 @@ impl<R: BufRead + Drop, W: Write + Drop> Device for HostStation<R, W> {
     ghost possible = { λ _ honest. absurd honest };
 
     fn count(&self) -> u32 {
-        self.sectors
+        self.volume.count()
     }
 
-    fn read(&mut self, sector: u32, bytes: &mut [u8; 4096]) -> Result<(), DeviceError> {
-        match self.volume.get(sector as usize) {
-            Some(there) => {
-                *bytes = *there;
-                Ok(())
-            }
-            None => self.fail(),
-        }
+    fn read(&mut self, sector: u32, bytes: &mut [u8; 4096]) -> Result<(), DeviceError>
+        requires { sector < D.sectors self.old.volume }
+        ensures sectors { D.sectors self.new.volume ≡ D.sectors self.old.volume }
+        ensures failures { CountsFailure result self.old.failures self.new.failures }
+        ensures bytes { D.is_honest self.old.volume →
+            OnOk result (bytes.new ≡ sector_at (D.state self.old.volume).disk.present sector) }
+    {
+        let done = self.volume.read(sector, bytes);
+        self.count_failure(done)
     }
 
-    fn write(&mut self, sector: u32, bytes: &[u8; 4096]) -> Result<(), DeviceError> {
+    fn write(&mut self, sector: u32, bytes: &[u8; 4096]) -> Result<(), DeviceError>
+        requires { sector < D.sectors self.old.volume }
+        ensures sectors { D.sectors self.new.volume ≡ D.sectors self.old.volume }
+        ensures failures { CountsFailure result self.old.failures self.new.failures }
+        ensures shown { OnOk result (writer_buffer self.new.out ≡ []) }
+        ensures wrote { D.is_honest self.old.volume →
+            OnOk result (D.state self.new.volume ≡ wrote (D.state self.old.volume) sector bytes.now) }
+    {
         self.flush()?;
-        match self.volume.get_mut(sector as usize) {
-            Some(there) => {
-                *there = *bytes;
-                Ok(())
-            }
-            None => self.fail(),
-        }
+        let done = self.volume.write(sector, bytes);
+        self.count_failure(done)
     }
 
-    fn sync(&mut self) -> Result<(), DeviceError> {
-        self.flush()
+    fn sync(&mut self) -> Result<(), DeviceError>
+        ensures sectors { D.sectors self.new.volume ≡ D.sectors self.old.volume }
+        ensures failures { CountsFailure result self.old.failures self.new.failures }
+        ensures shown { OnOk result (writer_buffer self.new.out ≡ []) }
+        ensures synced { D.is_honest self.old.volume →
+            OnOk result (D.state self.new.volume ≡ synced (D.state self.old.volume)) }
+    {
+        self.flush()?;
+        let done = self.volume.sync();
+        self.count_failure(done)
     }
 }
 
-impl<R: BufRead + Drop, W: Write + Drop> Station for HostStation<R, W> {
-    fn line(&mut self, into: &mut [u8]) -> Result<Option<usize>, DeviceError> {
+impl<C: BufRead + Drop, O: Write + Drop, D: Device + Drop> Station for HostStation<C, O, D> {
+    fn line(&mut self, into: &mut [u8]) -> Result<Option<usize>, DeviceError>
+        ensures volume { self.new.volume ≡ self.old.volume }
+        ensures failures { CountsFailure result self.old.failures self.new.failures }
+        ensures shown { OnOk result (writer_buffer self.new.out ≡ []) }
+        ensures bound { IfOk result (λ taken. IfSome taken (λ n. n ≤ length into.old)) }
+    {
         self.flush()?;
-        match take_line(&mut self.console, into) {
-            Ok(taken) => Ok(taken),
-            Err(_) => self.fail(),
-        }
+        let taken = take_line(&mut self.console, into);
+        self.count_failure(taken)
     }
 
-    fn show(&mut self, bytes: &[u8]) -> Result<(), DeviceError> {
-        if self.out.write_all(bytes).is_err() {
-            return self.fail();
-        }
-        Ok(())
+    fn show(&mut self, bytes: &[u8]) -> Result<(), DeviceError>
+        ensures volume { self.new.volume ≡ self.old.volume }
+        ensures failures { CountsFailure result self.old.failures self.new.failures }
+        ensures appended { let contents = writer_contents O.contents in
+            OnOk result (Appends (contents self.old.out) (contents self.new.out) bytes.now) }
+    {
+        let done = self.out.write_all(bytes);
+        self.count_failure(done)
     }
 
-    fn note(&mut self, _note: Note) -> Result<(), DeviceError> {
+    fn note(&mut self, _note: Note) -> Result<(), DeviceError>
+        ensures volume { self.new.volume ≡ self.old.volume }
+        ensures failures { CountsFailure result self.old.failures self.new.failures }
+        ensures shown { OnOk result (writer_buffer self.new.out ≡ []) }
+    {
         self.flush()
     }
 }

@@ -1,11 +1,19 @@
-//! The program `cobol`: it compiles a COBOL source and runs it.
+//! The program `cobol`: it makes volumes, compiles COBOL sources, runs their images over volumes, and prints what volumes hold.
 #![tactic(auto)]
 
 mod command;
+mod command_line;
+mod compile_command;
 mod console;
 mod descriptors;
+mod dump_command;
+mod format_command;
+mod host_file;
 mod host_station;
-mod source_file;
+mod list_command;
+mod numbers;
+mod progress;
+mod run_command;
 #[cfg(test)]
 mod tests;
 mod verdict;
@@ -13,7 +21,6 @@ mod words;
 
 use command::{command, explain};
 use descriptors::hold;
-use source_file::HOST_FILE;
 use std::io;
 use std::process::ExitCode;
 use verdict::Verdict;
@@ -28,7 +35,7 @@ fn words_of(rt: &HostRuntime) -> Result<Vec<String>, Verdict> {
 
 fn main(rt: HostRuntime) -> ExitCode {
     let Ok(_held) = hold(&rt) else {
-        let verdict = Verdict::Refused(HOST_FILE);
+        let verdict = Verdict::host_file();
         explain(&mut rt.stderr(), verdict);
         return ExitCode::from(verdict.status());
     };

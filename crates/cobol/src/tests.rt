@@ -1,210 +1,556 @@
-//! Rows of the command: what it shows, what it says, and its exit status.
+//! Rows of the commands: exit statuses, what is written, and what files of the host hold afterwards. Each test has a folder of
+//! its own.
 
-use crate::command::{command, run_on_host};
-use run_unit::compile;
-use std::alloc::{AllocError, Global};
+mod failing;
+mod seen;
+mod sources;
+
+use crate::command::command;
+use failing::{FailsAtFlush, Full};
+use host_volume::{Access, HostDevice, HostVolume, NewVolume};
+use seen::{Row, WORDS, expect, see, words_of};
+use sources::{BYTES, FAULTY, HELLO, MANY, READS_ON, SALES, TODAY};
+use std::fs::{OpenOptions, Permissions};
 use std::io::Write;
+use std::os::unix::fs::{FileExt, PermissionsExt};
 use std::test::Fail;
 use std::{fs, io};
 
-/// What can be seen of a command.
-#[derive(Drop)]
-struct Seen {
-    status: u8,
-    out: Vec<u8>,
-    err: Vec<u8>,
-}
+/// What a word that is no size of a volume is told.
+const SIZES: &str = "error: a volume has 1024 to 921600 sectors\n";
 
-fn words_of(alloc: Global, words: &[&str]) -> Result<Vec<String>, AllocError> {
-    let mut all = Vec::new(alloc);
-    all.push("cobol".to_string(alloc)?)?;
-    for word in words {
-        all.push(word.to_string(alloc)?)?;
+const DATES: &str = "error: a date has six digits\n";
+
+const BUDGETS: &str = "error: a budget has digits alone, and at most 18446744073709551615\n";
+
+/// Makes a folder with a source in it, and an image of that.
+fn prepare(rt: &HostRuntime, folder: &str, source: &str) -> Result<(), Fail> {
+    fs::create_dir(rt, folder)?;
+    fs::write(rt, format!(in rt.alloc(); "{folder}/S")?.as_str(), source)?;
+    let line = format!(in rt.alloc(); "compile {folder}/S {folder}/I")?;
+    let seen = see(rt, line.as_str(), "")?;
+    if seen.status != 0 {
+        return Err(Fail::new("the source has a fault"));
     }
-    Ok(all)
+    Ok(())
 }
 
-fn see(rt: &HostRuntime, words: &[&str]) -> Result<Seen, Fail> {
-    let alloc = rt.alloc();
-    let mut out = Vec::new(alloc);
-    let mut err = Vec::new(alloc);
-    let words = words_of(alloc, words)?;
-    let status = command(rt, words.as_slice(), io::empty(), &mut out, &mut err);
-    Ok(Seen { status, out, err })
+/// Whether two files hold the same bytes.
+fn are_same(rt: &HostRuntime, one: &str, other: &str) -> io::Result<bool> {
+    Ok(fs::read(rt, one)?.as_slice() == fs::read(rt, other)?.as_slice())
 }
 
-/// A program of this many DISPLAY statements.
-fn displays(alloc: Global, count: u32) -> Result<String, AllocError> {
-    let mut source = String::new(alloc);
-    source.push_str(
-        "       IDENTIFICATION DIVISION.\n       PROGRAM-ID. MANY.\n       PROCEDURE DIVISION.\n",
+/// Writes bytes at a place of a file.
+fn change(rt: &HostRuntime, path: &str, place: u64, bytes: &[u8]) -> io::Result<()> {
+    OpenOptions::new()
+        .write(true)
+        .open(rt, path)?
+        .write_all_at(bytes, place)
+}
+
+/// Cuts a file, or makes it longer.
+fn set_len(rt: &HostRuntime, path: &str, bytes: u64) -> io::Result<()> {
+    OpenOptions::new()
+        .write(true)
+        .open(rt, path)?
+        .set_len(bytes)
+}
+
+#[test]
+fn words(rt: HostRuntime) -> Result<(), Fail> {
+    expect(
+        &rt,
+        "",
+        &[
+            ("", 2, "", WORDS),
+            ("examples/hello.cob", 2, "", WORDS),
+            ("compile words.cob", 2, "", WORDS),
+            ("run words.image", 2, "", WORDS),
+            ("dump words.volume", 2, "", WORDS),
+            ("list words.volume NAME", 2, "", WORDS),
+            ("--version", 0, "cobol 0.1.0\n", ""),
+        ],
     )?;
-    for _ in 0..count {
-        source.push_str("           DISPLAY \"A\" NO ADVANCING.\n")?;
+    for line in ["--help", "help", "format --help", "help run"] {
+        let help = see(&rt, line, "")?;
+        assert_eq!(rt; help.status, 0);
+        assert!(rt; !help.out.is_empty() && help.err.is_empty());
     }
-    Ok(source)
-}
-
-#[test]
-fn a_file_that_is_not_there(rt: HostRuntime) -> Result<(), Fail> {
-    let seen = see(&rt, &["nothing.cob"])?;
-    assert_eq!(rt; seen.status, 4);
-    assert_eq!(rt; seen.err.as_slice(), b"refused 85\n".as_slice());
     Ok(())
 }
 
 #[test]
-fn no_argument(rt: HostRuntime) -> Result<(), Fail> {
-    let seen = see(&rt, &[])?;
-    assert_eq!(rt; seen.status, 2);
-    assert!(rt; !seen.err.is_empty());
+fn sizes(rt: HostRuntime) -> Result<(), Fail> {
+    fs::create_dir(&rt, "sizes")?;
+    expect(
+        &rt,
+        "",
+        &[
+            ("format sizes/V 1023", 2, "", SIZES),
+            ("format sizes/V 921601", 2, "", SIZES),
+            ("format sizes/V 1000", 2, "", SIZES),
+            ("format sizes/V x", 2, "", SIZES),
+            ("format sizes/V -5", 2, "", WORDS),
+            ("format sizes/V +1024", 2, "", SIZES),
+            ("format sizes/V 4294967296", 2, "", SIZES),
+            ("format sizes/V 18446744073709552640", 2, "", SIZES),
+            ("format sizes/V", 2, "", WORDS),
+        ],
+    )?;
+    assert!(rt; !fs::exists(&rt, "sizes/V")?);
+    expect(
+        &rt,
+        "",
+        &[
+            ("format sizes/V 1024", 0, "", ""),
+            ("list sizes/V", 0, "", ""),
+        ],
+    )?;
+    let volume = fs::read(&rt, "sizes/V")?;
+    assert_eq!(rt; volume.len(), 4_194_304);
+    assert!(rt; volume.as_slice().starts_with(b"COBVOL01".as_slice()));
+    assert!(rt; volume.as_slice()[4096..].iter().all(|byte| *byte == 0));
+    fs::remove_dir_all(&rt, "sizes")?;
     Ok(())
 }
 
 #[test]
-fn help_and_version(rt: HostRuntime) -> Result<(), Fail> {
-    let version = see(&rt, &["--version"])?;
-    assert_eq!(rt; version.status, 0);
-    assert_eq!(rt; version.out.as_slice(), b"cobol 0.1.0\n".as_slice());
-    let help = see(&rt, &["--help"])?;
-    assert_eq!(rt; help.status, 0);
-    assert!(rt;
-        help.out
-            .as_slice()
-            .starts_with(b"Compiles a COBOL-85 program and runs it\n".as_slice())
-    );
+fn budgets(rt: HostRuntime) -> Result<(), Fail> {
+    prepare(&rt, "budgets", HELLO)?;
+    expect(
+        &rt,
+        "",
+        &[
+            ("format budgets/V 1024", 0, "", ""),
+            ("format budgets/W 1024", 0, "", ""),
+        ],
+    )?;
+    expect(
+        &rt,
+        "",
+        &[
+            ("run budgets/I budgets/V", 0, "HELLO\n", ""),
+            ("run budgets/I budgets/V --budget 2", 0, "HELLO\n", ""),
+            (
+                "run --budget 1 budgets/I budgets/V",
+                5,
+                "HELLO\n",
+                "budget\n",
+            ),
+            ("run budgets/I budgets/V --budget=0", 5, "", "budget\n"),
+            (
+                "run budgets/I budgets/V --budget 18446744073709551615",
+                0,
+                "HELLO\n",
+                "",
+            ),
+            (
+                "run budgets/I budgets/V --budget 18446744073709551616",
+                2,
+                "",
+                BUDGETS,
+            ),
+            ("run budgets/I budgets/V --budget +2", 2, "", BUDGETS),
+            ("run budgets/I budgets/V --budget x", 2, "", BUDGETS),
+            ("run budgets/I budgets/V --budget -2", 2, "", WORDS),
+            ("run budgets/I budgets/V --budget", 2, "", WORDS),
+        ],
+    )?;
+    assert!(rt; are_same(&rt, "budgets/V", "budgets/W")?);
+    fs::remove_dir_all(&rt, "budgets")?;
     Ok(())
 }
 
 #[test]
-fn a_source_with_a_fault(rt: HostRuntime) -> Result<(), Fail> {
-    let head =
-        "       IDENTIFICATION DIVISION.\n       PROGRAM-ID. ROW.\n       PROCEDURE DIVISION.\n       MAIN.\n";
-    let mut source = head.as_bytes().to_vec(rt.alloc())?;
-    source.extend_from_slice(b"           DISPLAY \xe9.\n")?;
-    fs::write(&rt, "fault.cob", source.as_slice())?;
-    let seen = see(&rt, &["fault.cob"])?;
-    fs::remove_file(&rt, "fault.cob")?;
-    assert_eq!(rt; seen.status, 1);
-    assert_eq!(rt; seen.err.as_slice(), b"5:20: fault 10\n".as_slice());
+fn dates(rt: HostRuntime) -> Result<(), Fail> {
+    prepare(&rt, "dates", TODAY)?;
+    expect(
+        &rt,
+        "",
+        &[
+            ("format dates/V 1024", 0, "", ""),
+            ("run dates/I dates/V", 0, "000000\n", ""),
+            ("run dates/I dates/V --date 850917", 0, "850917\n", ""),
+            ("run dates/I dates/V --date 999999", 0, "999999\n", ""),
+            ("run dates/I dates/V --date 8509", 2, "", DATES),
+            ("run dates/I dates/V --date 8509170", 2, "", DATES),
+            ("run dates/I dates/V --date 85o917", 2, "", DATES),
+            ("run dates/I dates/V --date +85091", 2, "", DATES),
+        ],
+    )?;
+    fs::remove_dir_all(&rt, "dates")?;
     Ok(())
 }
 
 #[test]
-fn ten_thousand_statements(rt: HostRuntime) -> Result<(), Fail> {
-    fs::write(&rt, "many.cob", displays(rt.alloc(), 10_000)?)?;
-    let seen = see(&rt, &["many.cob"])?;
-    fs::remove_file(&rt, "many.cob")?;
-    assert_eq!(rt; seen.status, 0);
-    assert_eq!(rt; seen.out.len(), 10_000);
-    assert!(rt; seen.out.iter().all(|byte| *byte == b'A'));
+fn sources_that_are_refused(rt: HostRuntime) -> Result<(), Fail> {
+    prepare(&rt, "refused", HELLO)?;
+    fs::copy(&rt, "refused/I", "refused/J")?;
+    fs::write(&rt, "refused/F", FAULTY)?;
+    fs::write(&rt, "refused/E", "")?;
+    fs::write(&rt, "refused/L", vec![in rt.alloc(); b' '; 8_000_001]?)?;
+    expect(
+        &rt,
+        "",
+        &[
+            ("compile refused/F refused/I", 1, "", "5:20: fault 10\n"),
+            ("compile refused/E refused/I", 1, "", "1:1: fault 30\n"),
+            ("compile refused/L refused/I", 1, "", "1:1: fault 13\n"),
+            ("compile refused/N refused/I", 4, "", "refused 85\n"),
+            ("compile refused refused/I", 4, "", "refused 85\n"),
+            ("compile refused/F refused", 1, "", "5:20: fault 10\n"),
+            ("compile refused/S refused", 4, "", "refused 85\n"),
+            ("compile refused/S refused/N/I", 4, "", "refused 85\n"),
+            ("compile refused/S /dev/full", 4, "", "refused 85\n"),
+        ],
+    )?;
+    assert!(rt; are_same(&rt, "refused/I", "refused/J")?);
+    fs::remove_dir_all(&rt, "refused")?;
     Ok(())
 }
 
-/// Writes a row and reads it again; then a READ behind the end, which nothing takes.
-const FILES: &str = "       IDENTIFICATION DIVISION.
-       PROGRAM-ID. FILES.
-       ENVIRONMENT DIVISION.
-       INPUT-OUTPUT SECTION.
-       FILE-CONTROL.
-           SELECT F ASSIGN TO \"ROWS\".
-       DATA DIVISION.
-       FILE SECTION.
-       FD F.
-       01 R PIC X(4).
-       PROCEDURE DIVISION.
-       MAIN.
-           OPEN OUTPUT F.
-           MOVE \"ROW1\" TO R. WRITE R.
-           CLOSE F.
-           OPEN INPUT F.
-           MOVE SPACES TO R. READ F. DISPLAY R.
-           READ F.
-           DISPLAY R.
+#[test]
+fn volumes_that_are_missing(rt: HostRuntime) -> Result<(), Fail> {
+    prepare(&rt, "missing", HELLO)?;
+    expect(
+        &rt,
+        "",
+        &[
+            ("run missing/I missing/V", 4, "", "refused 85\n"),
+            ("run missing/I missing", 4, "", "refused 85\n"),
+            ("run missing/I /dev/null", 4, "", "refused 85\n"),
+            // A regular file that the host can't sync: an opening to write fails at its first sync, a listing at its own.
+            ("run missing/I /proc/self/comm", 4, "", "refused 85\n"),
+            ("list /proc/self/comm", 4, "", "refused 80\n"),
+            ("run missing/S missing/V", 4, "", "refused 85\n"),
+            ("run missing/N missing/V", 4, "", "refused 85\n"),
+            ("run missing missing/V", 4, "", "refused 85\n"),
+            ("list missing/V", 4, "", "refused 85\n"),
+            ("list missing", 4, "", "refused 85\n"),
+            ("list /dev/zero", 4, "", "refused 85\n"),
+            ("dump missing/V NAME", 4, "", "refused 85\n"),
+            ("dump missing NAME", 4, "", "refused 85\n"),
+            ("format missing 1024", 4, "", "refused 85\n"),
+            ("format missing/N/V 1024", 4, "", "refused 85\n"),
+            ("format /dev/null 1024", 4, "", "refused 85\n"),
+        ],
+    )?;
+    assert!(rt; !fs::exists(&rt, "missing/V")?);
+    fs::remove_dir_all(&rt, "missing")?;
+    Ok(())
+}
+
+#[test]
+fn images_that_are_refused(rt: HostRuntime) -> Result<(), Fail> {
+    prepare(&rt, "images", HELLO)?;
+    let image = fs::read(&rt, "images/I")?;
+    let bytes = image.as_slice();
+    assert!(rt; bytes.len() > 8);
+    fs::write(&rt, "images/CUT", &bytes[..bytes.len() - 1])?;
+    fs::write(&rt, "images/SEVEN", &bytes[..7])?;
+    fs::copy(&rt, "images/I", "images/MARK")?;
+    change(&rt, "images/MARK", 0, b"D")?;
+    fs::copy(&rt, "images/I", "images/MORE")?;
+    set_len(&rt, "images/MORE", bytes.len() as u64 + 1)?;
+    fs::write(&rt, "images/DAMAGED", "")?;
+    expect(
+        &rt,
+        "",
+        &[
+            ("run images/MARK images/V", 4, "", "refused 85\n"),
+            ("run images/MARK images/DAMAGED", 4, "", "refused 70\n"),
+            ("run images/SEVEN images/DAMAGED", 4, "", "refused 70\n"),
+            ("run images/DAMAGED images/DAMAGED", 4, "", "refused 70\n"),
+            ("run /dev/zero images/DAMAGED", 4, "", "refused 70\n"),
+            ("run images/CUT images/DAMAGED", 4, "", "refused 71\n"),
+            ("run images/MORE images/DAMAGED", 4, "", "refused 71\n"),
+            // An image without files leaves the volume alone.
+            ("run images/I images/DAMAGED", 0, "HELLO\n", ""),
+        ],
+    )?;
+    fs::remove_dir_all(&rt, "images")?;
+    Ok(())
+}
+
+#[test]
+fn sales_in_three_runs(rt: HostRuntime) -> Result<(), Fail> {
+    prepare(&rt, "sales", SALES)?;
+    expect(
+        &rt,
+        "0002NORTH",
+        &[
+            ("format sales/V 1024", 0, "", ""),
+            ("run sales/I sales/V", 0, "00\n", ""),
+        ],
+    )?;
+    expect(&rt, "0001NORTH", &[("run sales/I sales/V", 0, "02\n", "")])?;
+    expect(&rt, "0001SOUTH", &[("run sales/I sales/V", 0, "22\n", "")])?;
+    expect(
+        &rt,
+        "",
+        &[
+            ("list sales/V", 0, "SALES indexed 80 2\n", ""),
+            ("dump sales/V SALES", 0, ROWS_OF_SALES, ""),
+            (
+                "dump sales/V NONE",
+                2,
+                "",
+                "error: the volume has no file NONE\n",
+            ),
+            (
+                "dump sales/V sales",
+                2,
+                "",
+                "error: the volume has no file sales\n",
+            ),
+        ],
+    )?;
+    fs::remove_dir_all(&rt, "sales")?;
+    Ok(())
+}
+
+/// The two rows, which end in spaces.
+const ROWS_OF_SALES: &str = "\
+0001NORTH                                                                       
+0002NORTH                                                                       
 ";
 
 #[test]
-fn a_program_with_files(rt: HostRuntime) -> Result<(), Fail> {
-    fs::write(&rt, "files.cob", FILES)?;
-    let seen = see(&rt, &["files.cob"])?;
-    fs::remove_file(&rt, "files.cob")?;
-    assert_eq!(rt; seen.out.as_slice(), b"ROW1\n".as_slice());
-    assert_eq!(rt; seen.err.as_slice(), b"fault 92 at line 18\n".as_slice());
-    assert_eq!(rt; seen.status, 3);
+fn bytes_of_rows(rt: HostRuntime) -> Result<(), Fail> {
+    prepare(&rt, "bytes", BYTES)?;
+    expect(
+        &rt,
+        "",
+        &[
+            ("format bytes/V 1024", 0, "", ""),
+            ("run bytes/I bytes/V", 0, "", ""),
+            (
+                "list bytes/V",
+                0,
+                "BYTES sequential 4 1\nNUMBERS relative 3 1\n",
+                "",
+            ),
+            ("dump bytes/V BYTES", 0, "AB\\\\\\x00\n", ""),
+            ("dump bytes/V NUMBERS", 0, "007\n", ""),
+        ],
+    )?;
+    fs::remove_dir_all(&rt, "bytes")?;
     Ok(())
 }
 
 #[test]
-fn a_source_that_is_too_large(rt: HostRuntime) -> Result<(), Fail> {
-    fs::write(&rt, "large.cob", vec![in rt.alloc(); b' '; 8_000_001]?)?;
-    let seen = see(&rt, &["large.cob"])?;
-    fs::remove_file(&rt, "large.cob")?;
-    assert_eq!(rt; seen.status, 1);
-    assert_eq!(rt; seen.err.as_slice(), b"1:1: fault 13\n".as_slice());
+fn statuses_that_nothing_takes(rt: HostRuntime) -> Result<(), Fail> {
+    prepare(&rt, "on", READS_ON)?;
+    expect(
+        &rt,
+        "",
+        &[
+            ("format on/V 1024", 0, "", ""),
+            ("run on/I on/V", 3, "ROW1\n", "fault 92 at line 18\n"),
+            ("list on/V", 0, "ROWS sequential 4 1\n", ""),
+            // A volume that is made again is empty.
+            ("format on/V 1025", 0, "", ""),
+            ("list on/V", 0, "", ""),
+        ],
+    )?;
+    fs::remove_dir_all(&rt, "on")?;
     Ok(())
 }
 
-/// A writer that takes nothing.
-#[derive(Drop)]
-struct Full;
+/// What each command says of a damaged volume.
+const DAMAGED: [Row; 3] = [
+    ("run damaged/I damaged/V", 4, "", "refused 82\n"),
+    ("list damaged/V", 4, "", "refused 82\n"),
+    ("dump damaged/V NONE", 4, "", "refused 82\n"),
+];
 
-impl Write for Full {
-    fn write(&mut self, _buf: &[u8]) -> io::Result<usize> {
-        Err(io::Error::from(io::ErrorKind::StorageFull))
-    }
+#[test]
+fn volumes_that_are_damaged(rt: HostRuntime) -> Result<(), Fail> {
+    prepare(&rt, "damaged", SALES)?;
+    expect(
+        &rt,
+        "0001",
+        &[
+            ("format damaged/V 1024", 0, "", ""),
+            ("run damaged/I damaged/V", 0, "00\n", ""),
+        ],
+    )?;
+    // Bytes behind the last whole sector are no part of a volume.
+    set_len(&rt, "damaged/V", 4_194_307)?;
+    expect(
+        &rt,
+        "0001",
+        &[
+            ("list damaged/V", 0, "SALES indexed 80 1\n", ""),
+            ("run damaged/I damaged/V", 0, "22\n", ""),
+        ],
+    )?;
+    set_len(&rt, "damaged/V", 2_097_152)?;
+    expect(&rt, "0001", &DAMAGED)?;
+    set_len(&rt, "damaged/V", 4_194_304)?;
+    change(&rt, "damaged/V", 0, &[0; 8192])?;
+    fs::copy(&rt, "damaged/V", "damaged/W")?;
+    expect(&rt, "0001", &DAMAGED)?;
+    assert!(rt; are_same(&rt, "damaged/V", "damaged/W")?);
+    set_len(&rt, "damaged/V", 0)?;
+    expect(&rt, "0001", &DAMAGED)?;
+    assert_eq!(rt; fs::metadata(&rt, "damaged/V")?.len(), 0);
+    fs::remove_dir_all(&rt, "damaged")?;
+    Ok(())
+}
 
-    fn flush(&mut self) -> io::Result<()> {
-        Ok(())
-    }
+#[test]
+fn volumes_that_are_in_use(rt: HostRuntime) -> Result<(), Fail> {
+    prepare(&rt, "use", HELLO)?;
+    expect(&rt, "", &[("format use/V 1024", 0, "", "")])?;
+    fs::copy(&rt, "use/V", "use/W")?;
+    let writer = HostVolume::open(&rt, "use/V", Access::ReadWrite)?;
+    expect(
+        &rt,
+        "",
+        &[
+            ("run use/I use/V", 4, "", "refused 85\n"),
+            ("list use/V", 4, "", "refused 85\n"),
+            ("dump use/V NONE", 4, "", "refused 85\n"),
+            ("format use/V 1024", 4, "", "refused 85\n"),
+        ],
+    )?;
+    drop(writer);
+    let reader = HostVolume::open(&rt, "use/V", Access::Read)?;
+    expect(
+        &rt,
+        "",
+        &[
+            ("run use/I use/V", 4, "", "refused 85\n"),
+            ("format use/V 1025", 4, "", "refused 85\n"),
+            ("list use/V", 0, "", ""),
+        ],
+    )?;
+    drop(reader);
+    assert!(rt; are_same(&rt, "use/V", "use/W")?);
+    expect(&rt, "", &[("run use/I use/V", 0, "HELLO\n", "")])?;
+    fs::remove_dir_all(&rt, "use")?;
+    Ok(())
+}
+
+#[test]
+fn volume_of_the_first_store(rt: HostRuntime) -> Result<(), Fail> {
+    prepare(&rt, "halves", SALES)?;
+    let volume = NewVolume::open(&rt, "halves/V")?.fill(rt.alloc(), 1024, |_| {})?;
+    let mut device = HostDevice::new(volume);
+    half_store::format(&mut device)?;
+    drop(device);
+    expect(
+        &rt,
+        "0001",
+        &[
+            ("list halves/V", 0, "", ""),
+            ("run halves/I halves/V", 0, "00\n", ""),
+            ("run halves/I halves/V", 0, "22\n", ""),
+            ("list halves/V", 0, "SALES indexed 80 1\n", ""),
+        ],
+    )?;
+    fs::remove_dir_all(&rt, "halves")?;
+    Ok(())
+}
+
+/// `rt` runs tests as a user whom permissions bind.
+#[test]
+fn volume_that_can_only_be_read(rt: HostRuntime) -> Result<(), Fail> {
+    prepare(&rt, "only", HELLO)?;
+    expect(&rt, "", &[("format only/V 1024", 0, "", "")])?;
+    fs::set_permissions(&rt, "only/V", Permissions::from_mode(0o444))?;
+    expect(
+        &rt,
+        "",
+        &[
+            ("list only/V", 0, "", ""),
+            (
+                "dump only/V NONE",
+                2,
+                "",
+                "error: the volume has no file NONE\n",
+            ),
+            ("run only/I only/V", 4, "", "refused 85\n"),
+            ("format only/V 1024", 4, "", "refused 85\n"),
+        ],
+    )?;
+    fs::remove_dir_all(&rt, "only")?;
+    Ok(())
+}
+
+/// Whether the output of a command is refused by 80.
+fn is_refused<O: Write + Drop>(rt: &HostRuntime, line: &str, out: O) -> Result<bool, Fail> {
+    let mut err = Vec::new(rt.alloc());
+    let words = words_of(rt.alloc(), line)?;
+    let status = command(rt, words.as_slice(), "0001".as_bytes(), out, &mut err);
+    Ok(status == 4 && err.as_slice() == b"refused 80\n".as_slice())
 }
 
 #[test]
 fn output_that_fails(rt: HostRuntime) -> Result<(), Fail> {
-    fs::write(&rt, "shown.cob", displays(rt.alloc(), 1)?)?;
-    let mut err = Vec::new(rt.alloc());
-    let words = words_of(rt.alloc(), &["shown.cob"])?;
-    let status = command(&rt, words.as_slice(), io::empty(), Full, &mut err);
-    fs::remove_file(&rt, "shown.cob")?;
-    assert_eq!(rt; status, 4);
-    assert_eq!(rt; err.as_slice(), b"refused 80\n".as_slice());
+    prepare(&rt, "output", SALES)?;
+    expect(
+        &rt,
+        "0001",
+        &[
+            ("format output/V 1024", 0, "", ""),
+            ("run output/I output/V", 0, "00\n", ""),
+        ],
+    )?;
+    for line in [
+        "run output/I output/V",
+        "list output/V",
+        "dump output/V SALES",
+        "--help",
+    ] {
+        assert!(rt; is_refused(&rt, line, Full)?, "{line}");
+        assert!(rt; is_refused(&rt, line, FailsAtFlush)?, "{line}");
+    }
+    fs::remove_dir_all(&rt, "output")?;
     Ok(())
 }
 
-/// A writer that takes all that it is given, and fails only when it is flushed.
-#[derive(Drop)]
-struct FailsAtFlush;
-
-impl Write for FailsAtFlush {
-    fn write(&mut self, buf: &[u8]) -> io::Result<usize> {
-        Ok(buf.len())
+/// The lines of 0000, 0002 and so on, up to 4998.
+fn even_numbers(rt: &HostRuntime) -> Result<String, Fail> {
+    let mut lines = String::new(rt.alloc());
+    for half in 0..2500u32 {
+        let number = half * 2;
+        lines.push_str(format!(in rt.alloc(); "{number:04}\n")?.as_str())?;
     }
-
-    fn flush(&mut self) -> io::Result<()> {
-        Err(io::Error::from(io::ErrorKind::StorageFull))
-    }
+    Ok(lines)
 }
 
-#[test]
-fn output_that_fails_at_the_last_flush(rt: HostRuntime) -> Result<(), Fail> {
-    fs::write(&rt, "flushed.cob", displays(rt.alloc(), 1)?)?;
-    let mut err = Vec::new(rt.alloc());
-    let words = words_of(rt.alloc(), &["flushed.cob"])?;
-    let status = command(&rt, words.as_slice(), io::empty(), FailsAtFlush, &mut err);
-    fs::remove_file(&rt, "flushed.cob")?;
-    assert_eq!(rt; status, 4);
-    assert_eq!(rt; err.as_slice(), b"refused 80\n".as_slice());
-    Ok(())
+/// A command in a folder must end with exit status 0 and write this.
+fn expect_in(
+    rt: &HostRuntime,
+    folder: &str,
+    line: &str,
+    console: &str,
+    out: &str,
+) -> Result<(), Fail> {
+    let line = line.replace(rt.alloc(), "FOLDER", folder)?;
+    let seen = see(rt, line.as_str(), console)?;
+    if seen.status == 0 && seen.out.as_slice() == out.as_bytes() {
+        return Ok(());
+    }
+    Err(Fail::new(format_args!("{line}: {}", seen.status)))
 }
 
-/// Three statements with a budget of two: two are done, and the exit status is 5.
+/// The volume is in memory, where syncs take no time.
 #[test]
-fn a_budget_that_is_used_up(rt: HostRuntime) -> Result<(), Fail> {
-    let alloc = rt.alloc();
-    let mut out = Vec::new(alloc);
-    let source = displays(alloc, 3)?;
-    let image = compile(alloc, source.as_str().as_bytes())?;
-    let verdict = run_on_host(alloc, image.as_slice(), 2, io::empty(), &mut out);
-    assert_eq!(rt; verdict.status(), 5);
-    assert_eq!(rt; out.as_slice(), b"AA".as_slice());
+fn many_rows_in_three_orders(rt: HostRuntime) -> Result<(), Fail> {
+    let process = fs::read_link(&rt, "/proc/self")?;
+    let folder = format!(in rt.alloc(); "/dev/shm/cobol-{}", process.as_str())?;
+    let folder = folder.as_str();
+    prepare(&rt, folder, MANY)?;
+    let lines = even_numbers(&rt)?;
+    for order in ["A", "D", "X"] {
+        expect_in(&rt, folder, "format FOLDER/V 1024", "", "")?;
+        expect_in(&rt, folder, "run FOLDER/I FOLDER/V", order, "")?;
+        expect_in(&rt, folder, "list FOLDER/V", "", "MANY indexed 4 2500\n")?;
+        expect_in(&rt, folder, "dump FOLDER/V MANY", "", lines.as_str())?;
+    }
+    fs::remove_dir_all(&rt, folder)?;
     Ok(())
 }

@@ -1,11 +1,18 @@
 //! What a command answers: a line on standard error, and an exit status.
 
-ghost use Rattle.std.specs.Prelude.{◌≡◌, OnOk, OnErr};
+ghost use Rattle.std.specs.Prelude.{◌≡◌, ◌≢◌, OnOk, OnErr};
+ghost use Rattle.std.specs.IoError.{error_kind};
+ghost use Rattle.volume_commands.specs.Faults.{number_of};
 ghost use Rattle.cobol.specs.Status.{status_of, verdict_after, verdict_refusing};
 
 use run_unit::{CompileError, Ended, Refusal};
 use station::DeviceError;
-use std::fmt;
+use std::io::ErrorKind;
+use std::{fmt, io};
+use volume_commands::VolumeError;
+
+/// The number of a host file that can't be opened, read or written.
+const HOST_FILE: u8 = 85;
 
 /// How a command ended.
 #[derive(Clone, Copy, Debug, PartialEq, Eq)]
@@ -14,7 +21,7 @@ pub enum Verdict {
     Done,
     /// The source is refused at this place. Lines and columns count from 1.
     SourceFault { line: u32, column: u8, number: u8 },
-    /// The words are no command. What is wrong with them was told already.
+    /// The words are no command, for a reason that is already printed.
     WrongCommand,
     /// A word of the command isn't text.
     NotText,
@@ -61,6 +68,42 @@ impl Verdict {
                 }
             }
         }
+    }
+
+    /// A host file can't be opened, read or written.
+    pub fn host_file() -> Verdict
+        ensures { result ≡ Verdict.Refused 85 }
+    {
+        Verdict::Refused(HOST_FILE)
+    }
+
+    /// Why a host file wasn't opened, read or written.
+    pub fn refusing_host_file(error: io::Error) -> Verdict
+        ensures memory { error_kind error ≡ ErrorKind.OutOfMemory → result ≡ Verdict.Refused 83 }
+        ensures other { error_kind error ≢ ErrorKind.OutOfMemory → result ≡ Verdict.Refused 85 }
+    {
+        match error.kind() {
+            ErrorKind::OutOfMemory => Verdict::memory(),
+            _ => Verdict::host_file(),
+        }
+    }
+
+    /// Why a host file that is open wasn't filled.
+    pub fn refusing_device(error: io::Error) -> Verdict
+        ensures memory { error_kind error ≡ ErrorKind.OutOfMemory → result ≡ Verdict.Refused 83 }
+        ensures other { error_kind error ≢ ErrorKind.OutOfMemory → result ≡ Verdict.Refused 80 }
+    {
+        match error.kind() {
+            ErrorKind::OutOfMemory => Verdict::memory(),
+            _ => Verdict::device(),
+        }
+    }
+
+    /// Why a volume wasn't listed or dumped.
+    pub fn refusing_volume(error: VolumeError) -> Verdict
+        ensures { result ≡ Verdict.Refused (number_of error) }
+    {
+        Verdict::Refused(error.number())
     }
 
     /// Output failed.

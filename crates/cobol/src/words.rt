@@ -1,53 +1,160 @@
-//! The words of the command line.
+//! The words of a command.
 
+ghost use Rattle.std.specs.Prelude.{◌≡◌, ◌⊎◌, None, IfOk, OnErr, codes};
+ghost use Rattle.cobol.specs.Words.{IsWithinBounds, AsksToFormat, AsksToCompile, AsksToRun, AsksToList, AsksToDump, IsSectorCount, ReadsBudget, ReadsDate, option_of, word_of};
+
+use crate::command_line::command_line;
+use crate::numbers::{read_budget, read_day, read_sector_count};
 use clap::error::ErrorKind;
-use clap::{Arg, ArgAction, Command, Error};
+use clap::{ArgMatches, Error};
 use std::alloc::{AllocError, Global};
 
-/// The end of the help.
-const EXIT_STATUSES: &str = "Exit status:
-  0  the program ended
-  1  the source has a fault, which is printed with its line and column
-  2  the command was called wrongly
-  3  the program did something wrong
-  4  something was refused: a file, the device or memory
-  5  the budget of statements was used up";
-
-/// What a command line asks for.
+/// What the words ask for.
 #[derive(Drop)]
 pub enum Request<'a> {
-    /// To compile and run this source.
-    Run(&'a str),
+    /// To make a volume of so many sectors.
+    Format { volume: &'a str, sectors: u32 },
+    /// To compile a source to an image.
+    Compile { source: &'a str, image: &'a str },
+    /// To run an image over a volume.
+    Run(RunRequest<'a>),
+    /// To list the files of a volume.
+    List { volume: &'a str },
+    /// To dump the rows of a file.
+    Dump { volume: &'a str, name: &'a str },
     /// To show this text: help, or the version.
-    Tell(String),
-    /// Nothing: the words are no command, and this says why.
+    Show(String),
+    /// Nothing: the words are no command, for this reason.
     Wrong(String),
 }
 
-/// Reads the words after the program's name.
-pub fn read_words<'a>(alloc: Global, words: &'a [String]) -> Result<Request<'a>, AllocError> {
-    match find_source(alloc, words) {
-        Ok(Some(source)) => Ok(Request::Run(source)),
-        Ok(None) => Ok(Request::Wrong(String::new(alloc))),
-        Err(error) => explain(alloc, &error),
+/// What `run` is to do.
+#[derive(Clone, Copy, Drop)]
+pub struct RunRequest<'a> {
+    pub image: &'a str,
+    pub volume: &'a str,
+    /// How many statements may begin.
+    pub budget: u64,
+    /// The date that the program receives, YYMMDD.
+    pub day: [u8; 6],
+}
+
+/// Why words are no request.
+enum Fault {
+    /// These words are no command, as `clap` says it.
+    Words(Error),
+    /// This isn't what a word has to be.
+    Value(&'static str),
+    Memory,
+}
+
+/// Reads the words of a command; the first is the program's name.
+pub fn read_words<'a>(alloc: Global, words: &'a [String]) -> Result<Request<'a>, AllocError>
+    ensures { IfOk result IsWithinBounds }
+{
+    match read_request(alloc, words) {
+        Ok(request) => Ok(request),
+        Err(Fault::Words(error)) => explain(alloc, &error),
+        Err(Fault::Value(text)) => Ok(Request::Wrong(format!(in alloc; "error: {text}\n")?)),
+        Err(Fault::Memory) => Err(AllocError),
     }
 }
 
-fn find_source<'a>(alloc: Global, words: &'a [String]) -> Result<Option<&'a str>, Error> {
-    let source = Arg::new(alloc, "SOURCE")
-        .help("The program's text, in fixed format")
-        .required(true)
-        .action(ArgAction::Set);
-    let command = Command::new(alloc, "cobol")
-        .about("Compiles a COBOL-85 program and runs it")
-        .after_help(EXIT_STATUSES)
-        .version("0.1.0")
-        .arg(source)?;
-    let matches = command.try_get_matches_from(words)?;
-    Ok(matches.get_str("SOURCE"))
+fn read_request<'a>(alloc: Global, words: &'a [String]) -> Result<Request<'a>, Fault>
+    ensures { IfOk result IsWithinBounds }
+{
+    let matches = command_line(alloc)?.try_get_matches_from(words)?;
+    let Some((command, matches)) = matches.subcommand() else {
+        return Ok(Request::Wrong(String::new(alloc)));
+    };
+    match command {
+        "format" => read_format(matches),
+        "compile" => Ok(read_compile(matches)),
+        "run" => read_run(matches),
+        "list" => Ok(read_list(matches)),
+        _ => Ok(read_dump(matches)),
+    }
 }
 
-fn explain<'a>(alloc: Global, error: &Error) -> Result<Request<'a>, AllocError> {
+/// The words of `format VOLUME SECTORS`.
+fn read_format<'a>(matches: &ArgMatches<'a>) -> Result<Request<'a>, Fault>
+    ensures asks { IfOk result (AsksToFormat matches.now) }
+    ensures bounds { IfOk result IsWithinBounds }
+    ensures refused { OnErr result (IsSectorCount (word_of matches.now (codes "SECTORS")) → ⊥) }
+{
+    match read_sector_count(word(matches, "SECTORS")) {
+        Some(sectors) => Ok(Request::Format {
+            volume: word(matches, "VOLUME"),
+            sectors,
+        }),
+        None => Err(Fault::Value("a volume has 1024 to 921600 sectors")),
+    }
+}
+
+/// The words of `compile SOURCE IMAGE`.
+fn read_compile<'a>(matches: &ArgMatches<'a>) -> Request<'a>
+    ensures { AsksToCompile matches.now result }
+{
+    Request::Compile {
+        source: word(matches, "SOURCE"),
+        image: word(matches, "IMAGE"),
+    }
+}
+
+/// The words of `run IMAGE VOLUME [--budget N] [--date YYMMDD]`.
+fn read_run<'a>(matches: &ArgMatches<'a>) -> Result<Request<'a>, Fault>
+    ensures asks { IfOk result (AsksToRun matches.now) }
+    ensures bounds { IfOk result IsWithinBounds }
+    ensures refused { OnErr result (ReadsBudget (option_of matches.now (codes "budget")) None
+        ⊎ ReadsDate (option_of matches.now (codes "date")) None) }
+{
+    let Some(budget) = read_budget(matches.get_str("budget")) else {
+        return Err(Fault::Value("a budget has digits alone, and at most 18446744073709551615"));
+    };
+    let Some(day) = read_day(matches.get_str("date")) else {
+        return Err(Fault::Value("a date has six digits"));
+    };
+    Ok(Request::Run(RunRequest {
+        image: word(matches, "IMAGE"),
+        volume: word(matches, "VOLUME"),
+        budget,
+        day,
+    }))
+}
+
+/// The words of `list VOLUME`.
+fn read_list<'a>(matches: &ArgMatches<'a>) -> Request<'a>
+    ensures { AsksToList matches.now result }
+{
+    Request::List {
+        volume: word(matches, "VOLUME"),
+    }
+}
+
+/// The words of `dump VOLUME NAME`.
+fn read_dump<'a>(matches: &ArgMatches<'a>) -> Request<'a>
+    ensures { AsksToDump matches.now result }
+{
+    Request::Dump {
+        volume: word(matches, "VOLUME"),
+        name: word(matches, "NAME"),
+    }
+}
+
+/// The word of a required argument.
+fn word<'a>(matches: &ArgMatches<'a>, id: &str) -> &'a str
+    ensures { result.now ≡ word_of matches.now id.now }
+{
+    match matches.get_str(id) {
+        Some(word) => word,
+        None => "",
+    }
+}
+
+/// Help and the version are shown; everything else is a reason.
+fn explain<'a>(alloc: Global, error: &Error) -> Result<Request<'a>, AllocError>
+    ensures { IfOk result IsWithinBounds }
+{
     if error.kind() == ErrorKind::OutOfMemory {
         return Err(AllocError);
     }
@@ -55,5 +162,17 @@ fn explain<'a>(alloc: Global, error: &Error) -> Result<Request<'a>, AllocError> 
     if error.use_stderr() {
         return Ok(Request::Wrong(text));
     }
-    Ok(Request::Tell(text))
+    Ok(Request::Show(text))
+}
+
+impl From<Error> for Fault {
+    fn from(error: Error) -> Fault {
+        Fault::Words(error)
+    }
+}
+
+impl From<AllocError> for Fault {
+    fn from(_: AllocError) -> Fault {
+        Fault::Memory
+    }
 }

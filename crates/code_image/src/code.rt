@@ -6,7 +6,7 @@ use file_tables::CodeFile;
 use sqlite_items::Items;
 
 /// The tables of a program, and its instructions, of which the first runs first.
-#[derive(Debug, Drop)]
+#[derive(Drop)]
 pub struct Code {
     /// What instructions on data name.
     pub tables: DataTables,

@@ -20,7 +20,7 @@ use records::Verb;
 use std::alloc::{AllocError, Global};
 
 /// One instruction.
-#[derive(Clone, Copy, Debug, PartialEq, Eq)]
+#[derive(Clone, Copy, PartialEq, Eq)]
 pub enum Instruction {
     /// Uses one of the budget, or ends the run as Budget where none is left. The statement begins in this line of the
     /// source, counted from 1.

@@ -11,7 +11,7 @@ use perform_order::{Order, PerformedRange, order_of};
 use std::alloc::{AllocError, Global};
 
 /// A code paragraph, by its number. It runs from its start to its `back`.
-#[derive(Clone, Copy, Debug, PartialEq, Eq)]
+#[derive(Clone, Copy, PartialEq, Eq)]
 pub struct ParagraphIndex {
     /// Its index in the table of starts.
     pub number: usize,

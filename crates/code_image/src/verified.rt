@@ -18,7 +18,7 @@ use std::alloc::{AllocError, Global};
 use std::marker::Model;
 
 /// Code that meets the demands of a machine.
-#[derive(Debug, Drop)]
+#[derive(Drop)]
 pub struct Verified {
     code: Code,
 }

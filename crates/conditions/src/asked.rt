@@ -10,7 +10,7 @@ use source_tree::{Class, Relation, SignTest};
 use tokens::{Kind, Operator, Reserved, Token};
 
 /// What a word or a symbol asks for.
-#[derive(Clone, Copy, Debug, PartialEq, Eq)]
+#[derive(Clone, Copy, PartialEq, Eq)]
 pub enum Test {
     /// A relation in symbols.
     Symbol(Relation),
@@ -22,7 +22,7 @@ pub enum Test {
 }
 
 /// What is asked of an operand. NOT before a relation gives the opposite one.
-#[derive(Clone, Copy, Debug, PartialEq, Eq)]
+#[derive(Clone, Copy, PartialEq, Eq)]
 pub enum Asked {
     Relation(Relation),
     Sign { negated: bool, sign: SignTest },

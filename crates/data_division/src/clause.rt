@@ -3,7 +3,7 @@
 use source_tree::{Integer, Literal, Name, PictureText, SignClause, UsageClause};
 
 /// Which clause it is.
-#[derive(Clone, Copy, Debug, PartialEq, Eq)]
+#[derive(Clone, Copy, PartialEq, Eq)]
 pub enum ClauseKind {
     Redefines,
     Picture,
@@ -17,7 +17,7 @@ pub enum ClauseKind {
 }
 
 /// A clause as it was written.
-#[derive(Debug, Drop)]
+#[derive(Drop)]
 pub enum Clause {
     Redefines(Name),
     Picture(PictureText),

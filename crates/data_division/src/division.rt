@@ -13,7 +13,7 @@ use std::alloc::Global;
 use tokens::Reserved;
 
 /// What a data division describes.
-#[derive(Debug, Drop)]
+#[derive(Drop)]
 pub struct DataDivision {
     pub files: Items<FileDescription>,
     /// The entries of working storage.

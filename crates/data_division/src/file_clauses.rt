@@ -13,7 +13,7 @@ use std::alloc::Global;
 use tokens::{Kind, Reserved};
 
 /// A clause of an FD.
-#[derive(Clone, Copy, Debug, PartialEq, Eq)]
+#[derive(Clone, Copy, PartialEq, Eq)]
 pub enum FileClause {
     LabelRecords,
     BlockContains,
@@ -22,7 +22,7 @@ pub enum FileClause {
 }
 
 /// Which clauses stand in an FD.
-#[derive(Clone, Copy, Debug, PartialEq, Eq)]
+#[derive(Clone, Copy, PartialEq, Eq)]
 pub struct FileClauses {
     pub label_records: bool,
     pub block_contains: bool,

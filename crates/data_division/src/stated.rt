@@ -12,7 +12,7 @@ use source_tree::{Integer, Literal, Name, PictureText, SignClause, UsageClause};
 use std::alloc::Global;
 
 /// Which clauses stand in an entry.
-#[derive(Debug, Drop)]
+#[derive(Drop)]
 pub struct Stated {
     pub redefines: Option<Name>,
     pub picture: Option<PictureText>,

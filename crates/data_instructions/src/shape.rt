@@ -10,14 +10,14 @@ use std::alloc::{AllocError, Global};
 use std::marker::Model;
 
 /// What is known of a place: its item, and the greatest offset that it can have in the item's area, in bytes.
-#[derive(Clone, Copy, Debug, PartialEq, Eq)]
+#[derive(Clone, Copy, PartialEq, Eq)]
 pub struct PlaceShape {
     pub item: ItemIndex,
     pub reach: usize,
 }
 
 /// What is known of each place on a stack, of the newest first.
-#[derive(Debug, Drop)]
+#[derive(Drop)]
 pub struct PlaceShapes {
     shapes: Vec<PlaceShape>,
 }
@@ -89,14 +89,14 @@ impl PlaceShapes {
 }
 
 /// What is known of the stacks: how many numbers there are, and each place.
-#[derive(Debug, Drop)]
+#[derive(Drop)]
 pub struct Stacks {
     pub numbers: usize,
     pub places: PlaceShapes,
 }
 
 /// What is known at an instruction.
-#[derive(Debug, Drop)]
+#[derive(Drop)]
 pub struct Shape {
     pub stacks: Stacks,
     /// The bytes that the line has at the most.

@@ -7,7 +7,7 @@ use sqlite_items::Items;
 use text_ops::Entry;
 
 /// An item that code names. Its first occurrence begins `offset` bytes behind the start of its area.
-#[derive(Debug, Drop)]
+#[derive(Drop)]
 pub struct DataItem {
     pub item: Item,
     /// The picture by which it is edited, if it is.
@@ -18,14 +18,14 @@ pub struct DataItem {
 }
 
 /// A literal as a sender: what it counts as, and its bytes.
-#[derive(Debug, Drop)]
+#[derive(Drop)]
 pub struct LiteralSender {
     pub taken: Taken,
     pub bytes: Items<u8>,
 }
 
 /// What an INSPECT does with the texts that are joined in the line. Its entries have spans of these.
-#[derive(Debug, Drop)]
+#[derive(Drop)]
 pub struct Inspection {
     /// The size of the texts, in bytes.
     pub size: u32,
@@ -38,7 +38,7 @@ pub struct Inspection {
 }
 
 /// The tables of data that code names.
-#[derive(Debug, Drop)]
+#[derive(Drop)]
 pub struct DataTables {
     /// The bytes of each area at the start of a run. An area keeps its length.
     pub areas: Items<Items<u8>>,

@@ -21,7 +21,7 @@ const HALF_UNIT: i128 = 0x8000_0000_0000_0000;
 /// An exact decimal number, `coefficient / 10^scale`: a coefficient below 10^38 in absolute value, and a scale from 0
 /// to 18. Those limits are this project's own choice. The scale takes 64 bits, so that no byte is padding: copies of padding
 /// cost more than what they stand beside.
-#[derive(Clone, Copy, Debug)]
+#[derive(Clone, Copy)]
 pub struct Dec {
     low: i64,
     high: i64,

@@ -8,7 +8,7 @@ use crate::short_receiver::SHORT_DIGITS;
 use crate::size_error::Size;
 
 /// What becomes of the digits that a receiver has no places for (COBOL-85, Nucleus, the ROUNDED phrase).
-#[derive(Clone, Copy, Debug, PartialEq, Eq)]
+#[derive(Clone, Copy, PartialEq, Eq)]
 pub enum Rounding {
     /// They are dropped.
     Truncated,

@@ -327,13 +327,13 @@ fn row_holds(rt: &impl Abort, row: &Row) {
     let mut bytes = [BEFORE; ROOM];
     let size = (receiver.length as usize).min(ROOM);
     let wrote = moved(rt, receiver, taken, from, &mut bytes[..size]);
-    same_in(rt, row, wrote, expected.is_some());
+    same_in(rt, &from, wrote, expected.is_some());
     match expected {
-        Some(expected) => same_in(rt, row, &bytes[..size], expected),
-        None => same_in(rt, row, bytes, [BEFORE; ROOM]),
+        Some(expected) => same_in(rt, &from, &bytes[..size], expected),
+        None => same_in(rt, &from, bytes, [BEFORE; ROOM]),
     }
     // the bytes outside the receiver stay
-    same_in(rt, row, &bytes[size..], &[BEFORE; ROOM][size..]);
+    same_in(rt, &from, &bytes[size..], &[BEFORE; ROOM][size..]);
 }
 
 #[test]
@@ -520,10 +520,10 @@ fn edited_row_holds(rt: &impl Abort, alloc: Global, row: &EditedRow) {
         length: size as u32,
     };
     let wrote = edited(rt, receiver, &picture, taken, from, &mut bytes[..size]);
-    same_in(rt, row, wrote, expected.is_some());
+    same_in(rt, &text, wrote, expected.is_some());
     match expected {
-        Some(expected) => same_in(rt, row, &bytes[..size], expected),
-        None => same_in(rt, row, bytes, [BEFORE; ROOM]),
+        Some(expected) => same_in(rt, &text, &bytes[..size], expected),
+        None => same_in(rt, &text, bytes, [BEFORE; ROOM]),
     }
 }
 

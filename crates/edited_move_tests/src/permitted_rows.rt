@@ -31,7 +31,7 @@ fn the_table_of_permitted_moves(rt: HostRuntime) {
             is_permitted(*sending, RECEIVING[2]),
             is_permitted(*sending, RECEIVING[3]),
         ];
-        same_in(&rt, sending, told, *expected);
+        same_in(&rt, expected, told, *expected);
     }
 }
 

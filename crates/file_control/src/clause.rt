@@ -3,7 +3,7 @@
 use source_tree::{Access, AlternateKeyClause, OrganizationClause, Reference};
 
 /// Which clause it is.
-#[derive(Clone, Copy, Debug, PartialEq, Eq)]
+#[derive(Clone, Copy, PartialEq, Eq)]
 pub enum ClauseKind {
     Organization,
     Access,
@@ -14,7 +14,7 @@ pub enum ClauseKind {
 }
 
 /// A clause as it was written.
-#[derive(Debug, Drop)]
+#[derive(Drop)]
 pub enum Clause {
     Organization(OrganizationClause),
     Access(Access),

@@ -14,7 +14,7 @@ use sqlite_items::Items;
 use std::alloc::{AllocError, Global};
 
 /// Which clauses stand in a SELECT.
-#[derive(Debug, Drop)]
+#[derive(Drop)]
 pub struct Stated {
     pub organization: Option<OrganizationClause>,
     pub access: Option<Access>,

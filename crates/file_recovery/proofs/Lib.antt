@@ -5,6 +5,8 @@ pub mod Calling
 pub mod Faults
 pub mod Entered
 pub mod Matching
+pub mod Halving
+pub mod PairsOf
 pub mod Placed
 pub mod Strays
 pub mod Marking

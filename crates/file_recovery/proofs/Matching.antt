@@ -1,4 +1,4 @@
--- Entries that are exactly the pairs of rows: each row has its own, and there are as many.
+-- Entries that are exactly the pairs of rows: each is the pair of a row, and there are as many.
 use Rattle.std.proofs.Common.{◌≡◌, ◌≤◌, ◌⊎◌, inl, inr, ⊎_elim, ◌==◌, Bool, true, false, ℕ, suc, List, [], ◌∷◌, length, refl, sym, ap, subst, ◌∙◌, arith}
 use Rattle.std.specs.Prelude.{map, Contains, Option, Some, None, if◌then◌else◌}
 use Rattle.std.specs.List.{AllByRecursion}
@@ -18,7 +18,7 @@ use Rattle.records.specs.declared.file_spec.Organization.{Organization}
 use Rattle.records.specs.declared.file_spec.Organization.TheVariants.{Sequential, Relative, Indexed}
 use Rattle.records.specs.declared.key.KeyOfReference.TheVariants.{Alternate}
 use Rattle.records.specs.Spec.{Spec, is_spec, are_keys}
-use Rattle.records.specs.Rows.{Row, Pair, part, prime_pair, prime_place, pair_cmp}
+use Rattle.records.specs.Rows.{Row, Pair, part, prime_pair, prime_place, pair_cmp, same_bytes}
 use Rattle.records.specs.Laws.{RowsAscend}
 use Rattle.records.specs.Stores.{IsKey}
 use Rattle.records.proofs.Ascending.{pair_total}
@@ -27,7 +27,8 @@ use Rattle.file_trees.specs.Trees.{entry_under, AreOf}
 use Rattle.file_trees.proofs.Comes.{in_cons}
 use Rattle.file_trees.proofs.Places.{spec as spec_with}
 use Rattle.file_trees.proofs.Small.{spec_keys}
-use Rattle.file_recovery.specs.Rows.{HasPairs}
+use Rattle.file_recovery.specs.Rows.{IsPairOf}
+use Rattle.file_recovery.proofs.Entered.{entry_made}
 
 -- no item stands twice
 abbrev pub Distinct : {X : Type 0} → List X → Type 0
@@ -121,7 +122,7 @@ module _ (spec : Spec) (i : ℕ) where
     rows_distinct place_is number_is rows (sorted_tail pair_cmp (prime_pair spec.organization a) (map (prime_pair spec.organization) rows) up),
   )
 
-no_alternates : (n : ℕ) (keys : List AlternateKey) (i : ℕ) {A : Type 0} → (length keys == 0) ≡ true → suc i ≤ length keys → A
+pub no_alternates : (n : ℕ) (keys : List AlternateKey) (i : ℕ) {A : Type 0} → (length keys == 0) ≡ true → suc i ≤ length keys → A
 no_alternates n keys i none lt = absurd (let e : length keys ≡ 0 = eqb-true _ _ none in omega (arith, e, lt))
 
 distinct_by : (n : ℕ) (o : Organization) (keys : List AlternateKey) (i : ℕ) (rows : List Row) → are_keys n o keys ≡ true → IsKey (spec_with n o keys) (Alternate i) → RowsAscend o rows →
@@ -174,29 +175,46 @@ module _ (spec : Spec) (i : ℕ) (rows : List Row) (entries : List Entry) (is : 
   many : length own ≡ length rows
   many = length-map rows (entry_under spec (Alternate i))
 
-  own_there : HasPairs spec i rows entries → (e : Entry) → Contains own e → Contains entries e
-  own_there all e has = let r = row_in spec i rows e has in subst (λ (x : Entry). Contains entries x) r.2 (all r.0 r.1)
+  in_own : ((e : Entry) → Contains entries e → IsPairOf spec i rows e) → (e : Entry) → Contains entries e → Contains own e
+  in_own all e has = let r = all e has in subst (λ (x : Entry). Contains own x) r.2 (entry_in spec i rows r.0 r.1)
 
-  by_found : (found : Option Entry) (e : Entry) → HasPairs spec i rows entries → length entries ≡ length rows → Contains entries e → entry_with own e.key ≡ found → (row : Row) × Contains rows row × (entry_under spec (Alternate i) row ≡ e)
-  by_found None e all count has found =
-      let few = no_more (e ∷ own) entries (λ there. none_there e.key own e found there refl, pairs_distinct spec i rows is within up)
-      (λ y in_both. ⊎_elim (λ (same : y ≡ e). subst (λ (x : Entry). Contains entries x) (sym same) has) (λ later. own_there all y later) (in_cons e own y in_both)) in
-      absurd (let m = many in omega (arith, few, m, count))
-  by_found (Some y) e all count has found =
-      let there = found_there e.key own y found in
-      let one = entry_there entries e ascend has in
-      let two = entry_there entries y ascend (own_there all y there.has) in
-      let key = there.key_is in
-      let same : y ≡ e = let both : Some y ≡ Some e = sym two ∙ ap (entry_with entries) key ∙ one in cc in
-      let r = row_in spec i rows y there.has in
-      (r.0, r.1, r.2 ∙ same)
+  -- a row without an entry is one row too many
+  not_missing : ((e : Entry) → Contains entries e → IsPairOf spec i rows e) → length entries ≡ length rows → (e : Entry) → Contains own e → (Contains entries e → ⊥) → ⊥
+  not_missing all count e has never =
+      let few = no_more (e ∷ entries) own (never, entries_distinct entries ascend)
+      (λ y in_both. ⊎_elim (λ (same : y ≡ e). subst (λ (x : Entry). Contains own x) (sym same) has) (λ later. in_own all y later) (in_cons e entries y in_both)) in
+      let m = many in
+      omega (arith, few, m, count)
 
-  pub are_pairs : HasPairs spec i rows entries → length entries ≡ length rows → AreOf spec (Alternate i) rows entries
-  are_pairs all count = record { each = all; only = λ e has. by_found (entry_with own e.key) e all count has refl }
+  by_value : (b : Bool) (y e : Entry) → same_bytes y.value e.value ≡ b → y.key ≡ e.key → Contains entries y → entry_with entries e.key ≡ Some y →
+      ((Contains entries e → ⊥) → ⊥) → Contains entries e
+  by_value true y e test key has found never = subst (λ (x : Entry). Contains entries x) (entry_made y e key (bytes_same y.value e.value test)) has
+  by_value false y e test key has found never = absurd (never (λ there.
+      let both : Some y ≡ Some e = sym found ∙ entry_there entries e ascend there in
+      let same : y ≡ e = cc in
+      let clash : true ≡ false = sym (same_itself e.value) ∙ ap (λ (x : Entry). same_bytes x.value e.value) (sym same) ∙ test in
+      absurd {0} cc))
+
+  by_found : (found : Option Entry) (e : Entry) → ((Contains entries e → ⊥) → ⊥) → entry_with entries e.key ≡ found → Contains entries e
+  by_found None e never found = absurd (never (λ there. none_there e.key entries e found there refl))
+  by_found (Some y) e never found =
+      let there = found_there e.key entries y found in
+      by_value (same_bytes y.value e.value) y e refl there.key_is there.has found never
+
+  pub are_pairs : ((e : Entry) → Contains entries e → IsPairOf spec i rows e) → length entries ≡ length rows → AreOf spec (Alternate i) rows entries
+  are_pairs all count = record {
+    each = λ row has.
+        let e : Entry = entry_under spec (Alternate i) row in
+        by_found (entry_with entries e.key) e (not_missing all count e (entry_in spec i rows row has)) refl;
+    only = all;
+  }
+
+  own_there : AreOf spec (Alternate i) rows entries → (e : Entry) → Contains own e → Contains entries e
+  own_there are e has = let r = row_in spec i rows e has in subst (λ (x : Entry). Contains entries x) r.2 (are.each r.0 r.1)
 
   pub as_many : AreOf spec (Alternate i) rows entries → length entries ≡ length rows
   as_many are =
-      let one = no_more entries own (entries_distinct entries ascend) (λ e has. let r = are.only e has in subst (λ (x : Entry). Contains own x) r.2 (entry_in spec i rows r.0 r.1)) in
-      let two = no_more own entries (pairs_distinct spec i rows is within up) (own_there are.each) in
+      let one = no_more entries own (entries_distinct entries ascend) (in_own are.only) in
+      let two = no_more own entries (pairs_distinct spec i rows is within up) (own_there are) in
       let m = many in
       omega (arith, one, two, m)

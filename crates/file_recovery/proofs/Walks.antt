@@ -1,6 +1,6 @@
 -- Going through ascending entries.
-use Rattle.std.proofs.Common.{◌≡◌, ◌≤◌, ◌+◌, ◌++◌, ℕ, zero, suc, List, [], ◌∷◌, length, take, refl, sym, ap, ◌∙◌, arith}
-use Rattle.std.specs.Prelude.{Option, Some, None, map, if◌then◌else◌}
+use Rattle.std.proofs.Common.{◌≡◌, ◌≤◌, ◌+◌, ◌++◌, ⊎_elim, ℕ, zero, suc, List, [], ◌∷◌, length, take, refl, sym, ap, subst, ◌∙◌, arith}
+use Rattle.std.specs.Prelude.{Option, Some, None, Contains, map, if◌then◌else◌}
 use Rattle.std.specs.List.{AllByRecursion}
 use Rattle.std.specs.Ordering.{is_gt, ordering_reverse}
 use Rattle.std.specs.declared.cmp.Ordering.{Ordering}
@@ -11,6 +11,9 @@ use Rattle.std.proofs.lemmas.Map.Keys.{sorted_head, sorted_tail}
 use Rattle.tree_pages.specs.Keys.{key_cmp, Ascend}
 use Rattle.btree.specs.Entries.{Entry, first_entry, first_after}
 use Rattle.btree.specs.Laws.{keys_listed}
+use Rattle.btree.proofs.Runs.{in_head, in_tail}
+use Rattle.file_trees.proofs.Comes.{in_cons}
+use Rattle.file_recovery.proofs.Entered.{all_behind as with_last}
 
 -- the entry at a place
 abbrev pub entry_at : ℕ → List Entry → Option Entry
@@ -79,3 +82,20 @@ pub item_at : {X : Type 0} (f : X → Entry) (P : X → Type 0) (items : List X)
 item_at f P [] n e all is = cc
 item_at f P (x ∷ items) zero e all is = record { item = x; is = all.0; of = cc }
 item_at f P (x ∷ items) (suc n) e all is = item_at f P items n e all.1 is
+
+-- what is so of each entry that was passed
+pub entry_in : (entries : List Entry) (n : ℕ) (e : Entry) → entry_at n entries ≡ Some e → Contains entries e
+entry_in [] n e is = cc
+entry_in (a ∷ more) zero e is = let same : a ≡ e = cc in subst (λ (x : Entry). Contains (a ∷ more) x) same (in_head a more)
+entry_in (a ∷ more) (suc n) e is = in_tail a more e (entry_in more n e is)
+
+pub none_passed : (P : Entry → Type 0) (entries : List Entry) → AllByRecursion P (take 0 entries)
+none_passed P [] = tt
+none_passed P (e ∷ more) = tt
+
+pub one_passed : (P : Entry → Type 0) (entries : List Entry) (n : ℕ) (e : Entry) → entry_at n entries ≡ Some e → AllByRecursion P (take n entries) → P e → AllByRecursion P (take (n + 1) entries)
+one_passed P entries n e at all is = subst (λ (l : List Entry). AllByRecursion P l) (sym (taken_more entries n e at)) (with_last P (take n entries) e all is)
+
+pub each_passed : (P : Entry → Type 0) (entries : List Entry) → AllByRecursion P entries → (e : Entry) → Contains entries e → P e
+each_passed P [] all e has = absurd (let low = has.1 in omega (arith, low))
+each_passed P (a ∷ more) all e has = ⊎_elim (λ (same : e ≡ a). subst P (sym same) all.0) (λ later. each_passed P more all.1 e later) (in_cons a more e has)

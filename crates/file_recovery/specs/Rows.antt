@@ -1,13 +1,14 @@
 -- The rows of a file, against the entries of its trees.
-use Rattle.std.specs.Prelude.{◌≡◌, ◌++◌, ℕ, List, [], ◌∷◌, map, length, Contains, ⊤}
+use Rattle.std.specs.Prelude.{◌≡◌, ◌<◌, ◌++◌, ℕ, List, [], ◌∷◌, map, length, slice_index_or, Contains, ⊤}
 use Rattle.std.specs.List.{AllByRecursion}
+use Rattle.std.specs.declared.cmp.Ordering.TheVariants.{Less}
 use Rattle.btree.specs.Entries.{Entry}
 use Rattle.records.specs.declared.fault.StoreFault.{StoreFault}
 use Rattle.records.specs.declared.fault.StoreFault.TheVariants.{Device, Full, Damaged, Memory, Spent, Layout}
 use Rattle.records.specs.declared.key.KeyOfReference.TheVariants.{Prime, Alternate}
 use Rattle.records.specs.Files.{IsRow}
 use Rattle.records.specs.Spec.{Spec}
-use Rattle.records.specs.Rows.{Row}
+use Rattle.records.specs.Rows.{Row, bytes_cmp, part, prime_place}
 use Rattle.file_trees.specs.Trees.{entry_under}
 
 -- memory ran out, or what was looked for isn't there
@@ -40,6 +41,16 @@ NoRows spec next entries = (rows : List Row) → AllByRecursion (IsRow spec next
 abbrev pub IsSized : Spec → Row → Type 0
 IsSized spec row = (length row.bytes ≡ spec.record_length) × (length row.arrivals ≡ length spec.alternates)
 
--- each row has its pair among the entries
-abbrev pub HasPairs : Spec → ℕ → List Row → List Entry → Type 0
-HasPairs spec i rows entries = (row : Row) → Contains rows row → Contains entries (entry_under spec (Alternate i) row)
+-- an entry is the pair of one of the rows
+abbrev pub IsPairOf : Spec → ℕ → List Row → Entry → Type 0
+IsPairOf spec i rows entry = (row : Row) × Contains rows row × (entry_under spec (Alternate i) row ≡ entry)
+
+-- the prime key of the row at a place, and rows whose prime keys ascend
+abbrev pub no_row : Row
+no_row = record { number = 0; bytes = []; arrivals = [] }
+
+abbrev pub prime_at : Spec → List Row → ℕ → List ℕ
+prime_at spec rows k = part (prime_place spec.organization) (slice_index_or rows k no_row).bytes
+
+abbrev pub PrimesAscend : Spec → List Row → Type 0
+PrimesAscend spec rows = (j k : ℕ) → j < k → k < length rows → bytes_cmp (prime_at spec rows j) (prime_at spec rows k) ≡ Less

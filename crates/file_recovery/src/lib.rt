@@ -15,7 +15,9 @@ mod pairs;
 mod reading;
 mod recovering;
 mod row_bytes;
+mod row_search;
 mod rows;
+mod sparse_index;
 mod walking;
 
 pub use half_store::{StoredFile, StoredRow};

@@ -23,7 +23,7 @@ use station::Device;
 use std::alloc::Global;
 
 /// How many pages are kept in memory.
-const CAPACITY: usize = 256;
+const CAPACITY: usize = 64;
 
 /// The files that an opened volume holds. `Damaged` tells that it holds none.
 fn read_volume<D: Device>(

@@ -1,12 +1,13 @@
 //! A row as entries of the trees of its file.
-ghost use Rattle.std.specs.Prelude.{◌≡◌, ◌≤◌, ◌+◌, ◌++◌, length, OnOk, IfOk, IsOkUnless, slice_index_or};
-ghost use Rattle.std.specs.List.{flat_map};
+ghost use Rattle.std.specs.Prelude.{◌≡◌, ◌≤◌, ◌<◌, ◌+◌, ◌++◌, length, OnOk, IfOk, IsOkUnless, slice_index_or};
+ghost use Rattle.std.specs.List.{All, flat_map};
 ghost use Rattle.byteorder.specs.Endian.{big_bytes};
 ghost use Rattle.records.specs.declared.key.KeyOfReference.TheVariants.{Prime, Alternate};
 ghost use Rattle.records.specs.Rows.{part, pair_under, place_of};
 ghost use Rattle.records.specs.Stores.{spec_of, IsKey};
 ghost use Rattle.file_trees.specs.Trees.{key_under};
-ghost use Rattle.file_recovery.specs.Stored.{row_of};
+ghost use Rattle.file_recovery.specs.Rows.{IsSized, prime_at};
+ghost use Rattle.file_recovery.specs.Stored.{row_of, rows_of};
 
 use half_store::StoredRow;
 use records::{FileSpec, KeyOfReference, KeyPlace, Organization, StoreFault};
@@ -88,37 +89,45 @@ pub(crate) fn row_value(alloc: Global, row: &StoredRow) -> Result<Vec<u8>, Store
     ensures value { IfOk result (λ value. value.items ≡ row.now.bytes.items ++ flat_map (big_bytes 8) row.now.arrivals.items) }
     ensures memory { IsOkUnless result StoreFault.Memory }
 {
-    let mut out = copy_of(alloc, &row.bytes)?;
+    let arrivals = row.arrivals.len().saturating_mul(8);
+    let mut out = Vec::with_capacity(alloc, row.bytes.len().saturating_add(arrivals))?;
+    out.extend_from_slice(&row.bytes)?;
     push_numbers(&mut out, &row.arrivals)?;
     Ok(out)
 }
 
-/// The key of a row's pair in the tree of an alternate key.
-pub(crate) fn pair_key(
-    alloc: Global,
-    file: &FileSpec,
-    key: u8,
-    row: &StoredRow,
-) -> Result<Vec<u8>, StoreFault>
+/// The value of an alternate key in a row.
+pub(crate) fn alternate_value<'a>(file: &FileSpec, key: u8, row: &'a StoredRow) -> &'a [u8]
     requires key { IsKey (spec_of file.now) (Alternate key) }
     requires record { length row.now.bytes.items ≡ file.now.record_length }
-    requires arrivals { length row.now.arrivals.items ≡ length file.now.alternates.items }
-    ensures key { IfOk result (λ pair. pair.items ≡ key_under (spec_of file.now) (Alternate key) (pair_under (spec_of file.now) (Alternate key) (row_of row.now))) }
-    ensures memory { IsOkUnless result StoreFault.Memory }
+    ensures { result.now ≡ part (place_of (spec_of file.now) (Alternate key)) row.now.bytes.items }
 {
     let place = file.key_place(KeyOfReference::Alternate(key));
-    pair_bytes(
-        alloc,
-        part_of(place, &row.bytes),
-        row.arrivals[key as usize],
-    )
+    part_of(place, &row.bytes)
 }
 
-/// The value of its prime key, which is the value of its pair in the tree of an alternate key.
-pub(crate) fn prime_value<'a>(file: &FileSpec, row: &'a StoredRow) -> &'a [u8]
+/// The value of the prime key in a row.
+fn prime_value<'a>(file: &FileSpec, row: &'a StoredRow) -> &'a [u8]
     requires { length row.now.bytes.items ≡ file.now.record_length }
     ensures { result.now ≡ part (place_of (spec_of file.now) Prime) row.now.bytes.items }
 {
     let place = file.key_place(KeyOfReference::Prime);
     part_of(place, &row.bytes)
+}
+
+/// The value of the prime key in the row at a place.
+pub(crate) fn prime_value_at<'a>(file: &FileSpec, rows: &'a [StoredRow], place: usize) -> &'a [u8]
+    requires rows { All (IsSized (spec_of file.now)) (rows_of rows.now) }
+    requires place { place < length rows.now }
+    ensures { result.now ≡ prime_at (spec_of file.now) (rows_of rows.now) place }
+{
+    prime_value(file, &rows[place])
+}
+
+/// The arrival of a row at its value of an alternate key.
+pub(crate) fn arrival_of(row: &StoredRow, key: u8) -> u64
+    requires { key < length row.now.arrivals.items }
+    ensures { result ≡ slice_index_or row.now.arrivals.items key 0 }
+{
+    row.arrivals[key as usize]
 }

@@ -34,7 +34,7 @@ fn read_numbers(alloc: Global, bytes: &[u8], count: usize) -> Result<Vec<u64>, S
     ensures numbers { IfOk result (λ numbers. numbers.items ≡ numbers_in count bytes.now) }
     ensures memory { IsOkUnless result StoreFault.Memory }
 {
-    let mut numbers = Vec::new(alloc);
+    let mut numbers = Vec::with_capacity(alloc, count)?;
     for place in 0..count {
         numbers.push(number_at(bytes, ARRIVAL_BYTES * place))?;
     }

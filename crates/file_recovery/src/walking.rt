@@ -2,7 +2,7 @@
 ghost use Rattle.std.specs.Prelude.{◌≡◌, ◌≤◌, false, Err, IfOk, IfErr, IfSome};
 ghost use Rattle.pages.specs.Pages.{is_spent, sectors_of, IsOpen};
 ghost use Rattle.btree.specs.Calls.{OnTree, OnNoTree};
-ghost use Rattle.btree.specs.Entries.{HasLengths, entries_of, entry_with, first_entry, first_after};
+ghost use Rattle.btree.specs.Entries.{HasLengths, entries_of, first_entry, first_after};
 ghost use Rattle.file_recovery.specs.Calls.{LooksAt};
 ghost use Rattle.file_recovery.specs.Faults.{IsReadFault};
 
@@ -51,28 +51,6 @@ pub(crate) fn next_in<D: Device>(
 {
     match tree.next(pages, device, entry.key()) {
         Ok(next) => Ok(next),
-        Err(error) => Err(to_fault(error)),
-    }
-}
-
-/// The entry of a key in a tree.
-pub(crate) fn get_in<D: Device>(
-    tree: &Tree,
-    pages: &mut PageMap,
-    device: &mut D,
-    key: &[u8],
-) -> Result<Option<Entry>, StoreFault>
-    requires open { IsOpen pages.old }
-    requires unspent { is_spent pages.old ≡ false }
-    requires sectors { sectors_of pages.old ≤ D.sectors device.old }
-    ensures looks { LooksAt D.Device (result ≡ Err StoreFault.Device) pages.old device.old pages.new device.new }
-    ensures entry { OnTree D.Device tree.now.layout tree.now.root pages.old device.old (λ levels. IfOk result (λ entry. entry ≡ entry_with (entries_of tree.now.layout levels) key.now)) }
-    ensures damaged { OnNoTree D.Device tree.now.layout tree.now.root pages.old device.old (result ≡ Err StoreFault.Damaged) }
-    ensures lengths { IfOk result (λ entry. IfSome entry (HasLengths tree.now.layout)) }
-    ensures cause { IfErr result IsReadFault }
-{
-    match tree.get(pages, device, key) {
-        Ok(entry) => Ok(entry),
         Err(error) => Err(to_fault(error)),
     }
 }

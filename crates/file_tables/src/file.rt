@@ -5,13 +5,13 @@ use records::{Access, AlternateKey, Organization};
 use sqlite_items::Items;
 
 /// A file of the table, which counts from 0. A status that is received names its file by a byte.
-#[derive(Clone, Copy, Debug, PartialEq, Eq)]
+#[derive(Clone, Copy, PartialEq, Eq)]
 pub struct FileIndex {
     pub number: u8,
 }
 
 /// A file of a program, as its SELECT and its FD say it, and what a file statement works on.
-#[derive(Debug, Drop)]
+#[derive(Drop)]
 pub struct CodeFile {
     /// Its name on the volume.
     pub name: Items<u8>,

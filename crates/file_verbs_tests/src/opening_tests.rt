@@ -181,7 +181,7 @@ fn differs(rt: &impl Abort, alloc: Global, other: Organization, record_length: u
     run.passes(rt, &[plain(OPEN_OUTPUT, b"00"), plain(CLOSE, b"00")]);
     for mode in [OpenMode::Input, OpenMode::InputOutput] {
         let status = run.status(rt, 1, Verb::Open(mode), record_length as usize);
-        assert_eq!(rt; status, *b"39", "{other:?} {record_length}");
+        assert_eq!(rt; status, *b"39", "{record_length}");
         assert_eq!(rt; run.status(rt, 1, CLOSE, record_length as usize), *b"42");
     }
     run.passes(rt, &[plain(OPEN_INPUT, b"00")]);

@@ -49,9 +49,9 @@ fn is_refused(rt: &impl Abort, run: &mut Run, step: Step, fault: StoreFault) {
     let mut record = step.record;
     let mut number = step.number;
     let told = run.does(rt, 0, step.verb, &mut record, &mut number);
-    assert_eq!(rt; told, Err(fault), "{step:?}");
-    assert_eq!(rt; record, step.record, "{step:?}");
-    assert_eq!(rt; number, step.number, "{step:?}");
+    assert!(rt; told == Err(fault), "{fault:?}");
+    assert_eq!(rt; record, step.record, "{fault:?}");
+    assert_eq!(rt; number, step.number, "{fault:?}");
 }
 
 // A statement meets the refusal of one of its calls. Tells whether the store is spent by it; then the connector is as it was: open, or

@@ -56,7 +56,7 @@ fn alternates_of(organization: Organization) -> &'static [AlternateKey] {
 }
 
 /// What a program says of a file: its name, its shape, whether it is OPTIONAL, and the digits of its RELATIVE KEY item.
-#[derive(Clone, Copy, Debug)]
+#[derive(Clone, Copy)]
 pub struct Clauses {
     pub shape: Shape,
     pub is_optional: bool,
@@ -162,11 +162,11 @@ impl Run {
         let mut number = step.number;
         match self.does(rt, file, step.verb, &mut record, &mut number) {
             Ok(status) => {
-                assert_eq!(rt; status.bytes(), step.status, "{step:?}");
-                assert_eq!(rt; record, step.left, "{step:?}");
-                assert_eq!(rt; number, step.number_left, "{step:?}");
+                assert_eq!(rt; status.bytes(), step.status, "{record:?}");
+                assert_eq!(rt; record, step.left);
+                assert_eq!(rt; number, step.number_left, "{record:?}");
             }
-            Err(fault) => panic!(rt; "{fault:?} at {step:?}"),
+            Err(fault) => panic!(rt; "{fault:?} at {record:?}"),
         }
     }
 

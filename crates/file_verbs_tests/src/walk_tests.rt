@@ -272,10 +272,10 @@ impl Walk {
             .run
             .does(rt, number, verb, &mut area.record, &mut area.number)
         {
-            Ok(told) => assert_eq!(rt; told.bytes(), status, "{statement}: {number} {verb:?}"),
+            Ok(told) => assert_eq!(rt; told.bytes(), status, "{statement}: {number}"),
             Err(fault) => panic!(rt; "{statement}: {fault:?}"),
         }
-        assert_eq!(rt; area, left, "{statement}: {number} {verb:?}");
+        assert_eq!(rt; area, left, "{statement}: {number}");
         self.see(status);
     }
 }

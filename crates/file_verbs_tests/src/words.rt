@@ -32,7 +32,7 @@ pub const DELETE: Verb = Verb::Delete;
 pub const START: Verb = Verb::Start(Relation::Equal, KeyOfReference::Prime, 0);
 
 /// How a file is organized, and how a program goes to its rows.
-#[derive(Clone, Copy, Debug)]
+#[derive(Clone, Copy)]
 pub struct Shape {
     pub organization: Organization,
     pub access: Access,
@@ -49,7 +49,7 @@ impl Shape {
 }
 
 /// One statement, with the record area and the number in the RELATIVE KEY item before and after it.
-#[derive(Clone, Copy, Debug)]
+#[derive(Clone, Copy)]
 pub struct Step {
     pub verb: Verb,
     pub record: [u8; 5],

@@ -16,7 +16,7 @@ use std::alloc::Global;
 use tokens::{Reserved, Token};
 
 /// A phrase that has an opposite behind NOT, by its words.
-#[derive(Clone, Copy, Debug, PartialEq, Eq)]
+#[derive(Clone, Copy, PartialEq, Eq)]
 pub enum Phrase {
     /// `[ON] SIZE ERROR`
     SizeError,

@@ -16,7 +16,7 @@ use sqlite_items::Items;
 use std::alloc::{AllocError, Global};
 
 /// Bytes that a statement puts into an item, and where.
-#[derive(Debug, Drop)]
+#[derive(Drop)]
 pub struct NewBytes {
     /// As many as the item has; 0 where one stays.
     pub bytes: Items<u8>,

@@ -28,7 +28,7 @@ pub(crate) const NOTHING_AROUND: Around = Around {
 };
 
 /// What the areas of a program hold at the start of a run.
-#[derive(Debug, Drop)]
+#[derive(Drop)]
 pub struct InitialStorage {
     /// The bytes of each area: those of working storage, in the order of the 01 and 77 that begin them, and then the record area of
     /// each file, in the order of the FDs.

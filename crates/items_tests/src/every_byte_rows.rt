@@ -128,7 +128,7 @@ fn pairs_behind(rt: &impl Abort, usage: Usage, first: u8) {
     for second in 0..=u8::MAX {
         let bytes = [first, second];
         let told = coefficient_in(rt, item(usage), &bytes);
-        same_in(rt, &(usage, bytes), told, expected(usage, bytes));
+        same_in(rt, &bytes, told, expected(usage, bytes));
     }
 }
 
@@ -152,7 +152,7 @@ fn each_byte_at(rt: &impl Abort, sign: OperationalSign, bytes: [u8; 3], place: u
         bytes[place] = byte;
         let told = coefficient_in(rt, item(Usage::Display(sign)), &bytes);
         let sign_first = matches!(sign, OperationalSign::LeadingSeparate);
-        same_in(rt, &(sign, bytes), told, separate(sign_first, bytes));
+        same_in(rt, &bytes, told, separate(sign_first, bytes));
     }
 }
 

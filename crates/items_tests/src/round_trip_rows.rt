@@ -31,11 +31,11 @@ fn there_and_back(rt: &impl Abort, item: Numeric, coefficient: i128) {
     put_coefficient(rt, item, coefficient, &mut bytes[..size]);
     same_in(
         rt,
-        &item,
+        &coefficient,
         coefficient_in(rt, item, &bytes[..size]),
         Some(coefficient),
     );
-    same_in(rt, &item, bytes[size], MARK);
+    same_in(rt, &coefficient, bytes[size], MARK);
 }
 
 /// A number, and its negative where the item can hold it.

@@ -37,7 +37,7 @@ fn starts_as(rt: &impl Abort, kind: Kind, expected: &[u8]) {
     let mut bytes = [0xaa; 8];
     let bytes = &mut bytes[..expected.len()];
     initialize(item, bytes);
-    same_in(rt, &item, &*bytes == expected, true);
+    same_in(rt, &expected, &*bytes == expected, true);
 }
 
 #[test]
@@ -76,7 +76,7 @@ fn value_gives(rt: &impl Abort, kind: Kind, value: Taken, text: &[u8], expected:
     let mut bytes = [0xaa; 8];
     let bytes = &mut bytes[..expected.len()];
     initialize_text(item, value, text, bytes);
-    same_in(rt, &item, &*bytes == expected, true);
+    same_in(rt, &expected, &*bytes == expected, true);
 }
 
 fn literal_gives(rt: &impl Abort, kind: Kind, text: &[u8], expected: &[u8]) {

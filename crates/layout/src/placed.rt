@@ -6,7 +6,7 @@ use source_tree::Dimension;
 use sqlite_items::Items;
 
 /// An item where it stands: its first occurrence begins `offset` bytes behind the start of its area.
-#[derive(Debug, Drop)]
+#[derive(Drop)]
 pub struct PlacedItem {
     pub item: Item,
     /// The picture by which it is edited, if it is.

@@ -15,7 +15,7 @@ use std::alloc::{AllocError, Global};
 
 /// Where the items of a program stand (COBOL-85, Nucleus, "Data description entry"): those of working storage, and then those of the
 /// records of its files.
-#[derive(Debug, Drop)]
+#[derive(Drop)]
 pub struct Layout {
     /// In the order of their entries.
     pub items: Items<PlacedItem>,

@@ -4,7 +4,7 @@ use sqlite_items::Items;
 use std::alloc::{AllocError, Global};
 
 /// The sign that stands directly before a numeric literal.
-#[derive(Clone, Copy, Debug, PartialEq, Eq)]
+#[derive(Clone, Copy, PartialEq, Eq)]
 pub enum Sign {
     Unsigned,
     Plus,
@@ -13,7 +13,7 @@ pub enum Sign {
 
 /// A numeric literal as it was written: ASCII digits before and after the point. Without a point there are no decimals
 /// (COBOL-85, Nucleus, "Literals").
-#[derive(Debug, Drop)]
+#[derive(Drop)]
 pub struct NumericLiteral {
     pub sign: Sign,
     pub whole: Items<u8>,

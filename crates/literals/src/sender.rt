@@ -15,7 +15,7 @@ use std::alloc::{AllocError, Global};
 
 /// What a statement or a VALUE clause has taken of a literal, with its bytes: a nonnumeric literal as an alphanumeric item, a
 /// numeric one as a DISPLAY item of the digits with which it is written.
-#[derive(Debug, Drop)]
+#[derive(Drop)]
 pub struct Sender {
     pub taken: Taken,
     /// None of a figurative constant.

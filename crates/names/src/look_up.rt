@@ -4,7 +4,7 @@ ghost use Rattle.std.specs.Prelude.{◌≡◌};
 ghost use Rattle.names.specs.Positions as spec;
 
 /// What a name names: nothing, one thing, by its number in the order of declaration, or several things.
-#[derive(Clone, Copy, Debug, PartialEq, Eq)]
+#[derive(Clone, Copy, PartialEq, Eq)]
 pub enum LookUp {
     Unknown,
     One(usize),

@@ -13,14 +13,14 @@ use source_tree::{Name, Paragraph, Place, Section};
 use std::alloc::{AllocFailed, Global};
 
 /// Paragraphs from one to another, by their numbers in the order of the program, from 0.
-#[derive(Clone, Copy, Debug, PartialEq, Eq)]
+#[derive(Clone, Copy, PartialEq, Eq)]
 pub struct ParagraphRange {
     pub first: usize,
     pub last: usize,
 }
 
 /// Why the procedures of a program have no table of names.
-#[derive(Clone, Copy, Debug, PartialEq, Eq)]
+#[derive(Clone, Copy, PartialEq, Eq)]
 pub enum ProcedureNamesError {
     Memory,
     /// A name is given to two procedures; it stands at this place for the second time.

@@ -10,7 +10,7 @@ pub const LONGEST: usize = 1000;
 
 /// What a file is: its name, with zeros behind it, and what its SELECT says. A record is told by eight bytes, which stand at these places among dashes: two of the prime key, two of the
 /// alternate key without DUPLICATES, one of the key with them, and three more.
-#[derive(Clone, Copy, Debug)]
+#[derive(Clone, Copy)]
 pub struct Shape {
     pub name: [u8; 16],
     pub organization: Organization,

@@ -46,7 +46,7 @@ pub fn seeks(
     side: Side,
     place: Place,
 ) -> (bool, Option<Place>) {
-    let case = (key, side, place);
+    let case = (key, place);
     let from = match side {
         Side::From => place,
         _ => behind(place),

@@ -296,7 +296,7 @@ fn tells<T: Store + Drop>(
         step.verb,
         step.area,
     );
-    let case = (statement, step.number, step.verb, step.told.0);
+    let case = (statement, step.number);
     match told {
         Ok(told) => {
             same_in(rt, &case, told.0, step.told.0);

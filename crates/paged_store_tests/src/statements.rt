@@ -4,7 +4,7 @@ use records::{Access, KeyOfReference, OpenMode, Organization, Outcome, Relation,
 use std::process::Abort;
 
 /// What a program says of a file, and what is kept between two statements.
-#[derive(Clone, Copy, Debug)]
+#[derive(Clone, Copy)]
 pub struct Link {
     pub file: usize,
     pub organization: Organization,

@@ -11,7 +11,7 @@ use station::{Block, SectorBytes};
 use std::alloc::AllocError;
 
 /// A sector that becomes used, or is used no longer.
-#[derive(Clone, Copy, Debug, PartialEq, Eq)]
+#[derive(Clone, Copy, PartialEq, Eq)]
 pub(crate) struct Turn {
     pub sector: u32,
     pub used: bool,

@@ -12,7 +12,7 @@ use sqlite_items::Items;
 use std::alloc::{AllocError, Global};
 
 /// What is known of paragraphs that perform others.
-#[derive(Debug, Drop)]
+#[derive(Drop)]
 pub enum Order {
     /// A height for each paragraph, below their count: each performs only lower ones.
     Heights(Items<usize>),

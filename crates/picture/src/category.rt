@@ -11,7 +11,7 @@ use crate::run::{Run, occurrences, past, past_one};
 use crate::symbol::Suppression;
 
 /// The category of an item (COBOL-85, Nucleus, the PICTURE clause).
-#[derive(Clone, Copy, Debug, PartialEq, Eq)]
+#[derive(Clone, Copy, PartialEq, Eq)]
 pub enum Category {
     Alphabetic,
     Alphanumeric,

@@ -6,7 +6,7 @@ ghost use Rattle.picture.specs.Symbols as spec;
 use crate::symbol::{Suppression, Symbol};
 
 /// A class of symbols.
-#[derive(Clone, Copy, Debug)]
+#[derive(Clone, Copy)]
 pub enum Class {
     /// `A`.
     Letters,

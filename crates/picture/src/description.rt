@@ -17,7 +17,7 @@ use sqlite_items::Items;
 use std::alloc::{AllocError, Global};
 
 /// What the picture of an item says (COBOL-85, Nucleus, the PICTURE clause).
-#[derive(Debug, Drop)]
+#[derive(Drop)]
 pub struct Description {
     pub category: Category,
     /// The symbols in order, as they are written.

@@ -24,7 +24,7 @@ use std::marker::Model;
 
 /// The picture of an item (COBOL-85, Nucleus, the PICTURE clause). Each value is the picture of some text; contracts see
 /// what it says.
-#[derive(Debug, Drop)]
+#[derive(Drop)]
 pub struct Picture {
     description: Description,
     alloc: Global,

@@ -13,7 +13,7 @@ use sqlite_items::Items;
 use std::alloc::{AllocError, Global};
 
 /// What one character place of an item shows.
-#[derive(Clone, Copy, Debug, PartialEq, Eq)]
+#[derive(Clone, Copy, PartialEq, Eq)]
 pub enum Place {
     /// A digit.
     Digit,
@@ -38,7 +38,7 @@ pub enum Place {
 }
 
 /// The places in which leading zeros are suppressed, counted from 0.
-#[derive(Clone, Copy, Debug, PartialEq, Eq)]
+#[derive(Clone, Copy, PartialEq, Eq)]
 pub struct Region {
     pub by: Suppression,
     /// The first suppressed place.

@@ -8,7 +8,7 @@ use crate::class::Class;
 use crate::symbol::Symbol;
 
 /// A symbol and how often it stands there, one after another, at least once.
-#[derive(Clone, Copy, Debug)]
+#[derive(Clone, Copy)]
 pub struct Run {
     pub symbol: Symbol,
     pub count: u128,

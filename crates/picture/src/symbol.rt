@@ -4,7 +4,7 @@ ghost use Rattle.std.specs.Prelude.{◌≡◌};
 ghost use Rattle.picture.specs.Symbols as spec;
 
 /// A symbol of a picture (COBOL-85, Nucleus, the PICTURE clause). P has no form here.
-#[derive(Clone, Copy, Debug, PartialEq, Eq)]
+#[derive(Clone, Copy, PartialEq, Eq)]
 pub enum Symbol {
     /// `A`, a letter or a space.
     A,
@@ -43,7 +43,7 @@ pub enum Symbol {
 }
 
 /// How leading zeros are suppressed in a numeric edited picture.
-#[derive(Clone, Copy, Debug, PartialEq, Eq)]
+#[derive(Clone, Copy, PartialEq, Eq)]
 pub enum Suppression {
     /// They are shown.
     Nothing,

@@ -2,7 +2,7 @@
 
 use crate::asserted::{same, same_in};
 use crate::changes::others;
-use crate::codes::{DAY, ENOUGH, with_byte};
+use crate::images::{DAY, ENOUGH, with_byte};
 use run_unit::{Ended, Refusal, compile, run_image};
 use station::{Device, MemoryStation};
 use std::alloc::{AllocError, Global};

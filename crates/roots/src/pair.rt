@@ -5,7 +5,7 @@ ghost use Rattle.roots.specs.Pair.{pair_of, both_of, may_follow, newest_root};
 use crate::root::{Root, RootSector};
 
 /// The roots of a volume that isn't damaged.
-#[derive(Clone, Copy, Debug, PartialEq, Eq)]
+#[derive(Clone, Copy, PartialEq, Eq)]
 pub struct Roots {
     pub newest: Root,
     /// The root of the generation before.

@@ -27,7 +27,7 @@ pub const MOST_SECTORS: u32 = 921_600;
 
 /// What a root sector tells: its mark in bytes 0 to 7, its generation in 8 to 15, the number of sectors in 16 to 19, and the
 /// payload.
-#[derive(Clone, Copy, Debug, PartialEq, Eq)]
+#[derive(Clone, Copy, PartialEq, Eq)]
 pub struct Root {
     /// The index of its mark among those that the reader knows, from 0.
     pub mark: usize,
@@ -40,7 +40,7 @@ pub struct Root {
 }
 
 /// What a root sector is.
-#[derive(Clone, Copy, Debug, PartialEq, Eq)]
+#[derive(Clone, Copy, PartialEq, Eq)]
 pub enum RootSector {
     /// All zeros.
     Blank,

@@ -29,7 +29,7 @@ const NO_PLACE: Place = Place {
 };
 
 /// The most that the shapes of code ask for.
-#[derive(Clone, Copy, Debug, PartialEq, Eq)]
+#[derive(Clone, Copy, PartialEq, Eq)]
 pub struct Room {
     pub numbers: usize,
     pub places: usize,

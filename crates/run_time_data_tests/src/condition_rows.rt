@@ -87,7 +87,7 @@ fn tells(rt: &impl Abort, alloc: Global, code: &[DataInstruction], expected: boo
     let mut working = begin(rt, alloc, &tables, ROOM);
     let done = run(rt, &tables, code, ROOM, &mut working, Shape::empty(alloc));
     holds(rt, done.is_ok());
-    same_in(rt, &code, working.truth, expected);
+    same_in(rt, &code.len(), working.truth, expected);
 }
 
 /// What each relation between two items is.

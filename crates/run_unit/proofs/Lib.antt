@@ -12,3 +12,5 @@ pub mod Connecting
 pub mod Opening
 -- At most one tree, and at most one run
 pub mod Uniqueness
+-- What a call promises of a run, of an image and of a source text
+pub mod Runs

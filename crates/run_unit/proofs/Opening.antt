@@ -16,7 +16,9 @@ use Rattle.source_tree.specs.State as end
 use Rattle.data_instructions.specs.Faults.{fault_of}
 use Rattle.machine.specs.Prefix.{Moment}
 use Rattle.half_store.specs.Half.{Holds as HoldsHalf}
-use Rattle.run_unit.specs.Volume.{EndsOver, IsUnopened, RunsOver, RunsOnVolume, Unopened, Opened, RunsOnHalves, NotOpened, HeldFiles}
+use Rattle.run_unit.specs.Volume.{EndsOver, IsUnopened, IsUnwritten, RunsOver}
+use Rattle.run_unit.specs.Volume.{RunsOnVolume, Unopened, Opened, RunsOnHalves, NotOpened, HeldFiles}
+use Rattle.run_unit.specs.declared.ended.Refusal.{Refusal}
 use Rattle.run_unit.specs.declared.ended.Refusal.TheVariants.{Image, Device, Full, Damaged, Memory}
 use Rattle.run_unit.specs.declared.ended.Ended.{Ended}
 use Rattle.run_unit.specs.declared.ended.Ended.TheVariants.{Stopped, Budget, Faulted, Refused}
@@ -36,13 +38,16 @@ read_cause store.Layout (inl is) told = cc
 read_cause store.Layout (inr is) told = cc
 
 -- whatever refuses an opening, the run ends as one over a volume that isn't opened
-pub unopened : (fault : StoreFault) → IsUnopened (Refused (of_opening fault))
+unopened : (fault : StoreFault) → IsUnopened (Refused (of_opening fault))
 unopened store.Device = tt
 unopened store.Memory = tt
 unopened store.Full = tt
 unopened store.Damaged = tt
 unopened store.Spent = tt
 unopened store.Layout = tt
+
+pub refused_opening : (fault : StoreFault) (refusal : Refusal) → refusal ≡ of_opening fault → IsUnopened (Refused refusal)
+refused_opening fault refusal is = subst (λ (r : Refusal). IsUnopened (Refused r)) (sym is) (unopened fault)
 
 -- a sync takes no line, so that a run is given the same after it
 pub given_after : (files : Files) (old mid : State) (day : List ℕ) (budget : ℕ) → mid ≡ synced old → given_over files old day budget ≡ given_over files mid day budget
@@ -58,16 +63,21 @@ ran_on holds run past opened later old mid new ended opening is runs =
 
 -- ---- a volume that another store has looked at
 
-synced_after : (old mid : State) → (mid ≡ old) ⊎ (mid ≡ synced old) → synced mid ≡ synced old
+synced_after : (old mid : State) → IsUnwritten old mid → synced mid ≡ synced old
 synced_after old mid (inl is) = ap synced is
 synced_after old mid (inr is) = ap synced is
 
+-- and a call that wrote nothing after it
+pub unwritten_then : (old mid new : State) → IsUnwritten old mid → IsUnwritten mid new → IsUnwritten old new
+unwritten_then old mid new first (inl is) = subst (λ (s : State). IsUnwritten old s) (sym is) first
+unwritten_then old mid new first (inr is) = inr (is ∙ synced_after old mid first)
+
 -- it holds what it held, and a run is given the same
-pub present_after : (old mid : State) → (mid ≡ old) ⊎ (mid ≡ synced old) → mid.disk.present ≡ old.disk.present
+pub present_after : (old mid : State) → IsUnwritten old mid → mid.disk.present ≡ old.disk.present
 present_after old mid (inl is) = ap (λ (s : State). s.disk.present) is
 present_after old mid (inr is) = ap (λ (s : State). s.disk.present) is
 
-pub given_later : (files : Files) (old mid : State) (day : List ℕ) (budget : ℕ) → (mid ≡ old) ⊎ (mid ≡ synced old) → given_over files old day budget ≡ given_over files mid day budget
+pub given_later : (files : Files) (old mid : State) (day : List ℕ) (budget : ℕ) → IsUnwritten old mid → given_over files old day budget ≡ given_over files mid day budget
 given_later files old mid day budget (inl is) = sym (ap (λ (s : State). given_over files s day budget) is)
 given_later files old mid day budget (inr is) = given_after files old mid day budget is
 
@@ -75,19 +85,23 @@ opening_then : (old mid : State) → Opening old mid → (s : State) → Opening
 opening_then old mid first s second = record { events = second.events ∙ first.events; images = λ image crash. first.images image (second.images image crash) }
 
 pub on_volume_then : (holds : List Sector → Files → Type 0) (run : Run) (past looked later : List State) (old mid new : State) (ended : Ended)
-    → Through past looked mid (Opening old) → (mid ≡ old) ⊎ (mid ≡ synced old) → RunsOnVolume holds run looked mid ended later new
+    → Through past looked mid (Opening old) → IsUnwritten old mid → RunsOnVolume holds run looked mid ended later new
     → RunsOnVolume holds run past old ended later new
-on_volume_then holds run past looked later old mid new ended first is (Unopened why through) =
-    Unopened why (goes past looked later mid new (Opening old) first (weakens looked later new (Opening mid) (Opening old) (opening_then old mid first.now) through))
+on_volume_then holds run past looked later old mid new ended first is (Unopened why through same) =
+    Unopened why (goes past looked later mid new (Opening old) first
+    (weakens looked later new (Opening mid) (Opening old) (opening_then old mid first.now) through))
+    (unwritten_then old mid new is same)
 on_volume_then holds run past looked later old mid new ended first is (Opened opened spans runs) =
     Opened opened (then past looked opened (Opening old) first.spans (weaker looked opened (Opening mid) (Opening old) (opening_then old mid first.now) spans))
     (subst (λ (s : State). RunsOver holds run opened s ended later new) (synced_after old mid is) runs)
 
 pub on_halves_then : (run : Files → Run) (past looked later : List State) (old mid new : State) (ended : Ended)
-    → Through past looked mid (Opening old) → (mid ≡ old) ⊎ (mid ≡ synced old) → RunsOnHalves run looked mid ended later new
+    → Through past looked mid (Opening old) → IsUnwritten old mid → RunsOnHalves run looked mid ended later new
     → RunsOnHalves run past old ended later new
-on_halves_then run past looked later old mid new ended first is (NotOpened why through) =
-    NotOpened why (goes past looked later mid new (Opening old) first (weakens looked later new (Opening mid) (Opening old) (opening_then old mid first.now) through))
+on_halves_then run past looked later old mid new ended first is (NotOpened why through same) =
+    NotOpened why (goes past looked later mid new (Opening old) first
+    (weakens looked later new (Opening mid) (Opening old) (opening_then old mid first.now) through))
+    (unwritten_then old mid new is same)
 on_halves_then run past looked later old mid new ended first is (HeldFiles files held runs) =
     HeldFiles files (subst (λ (image : List Sector). HoldsHalf image files) (present_after old mid is) held)
     (on_volume_then HoldsHalf (run files) past looked later old mid new ended first is runs)
@@ -114,7 +128,7 @@ module _ (here either : List Sector → Files → Type 0) (also : (image : List 
   }
 
   pub on_either : (past : List State) (old : State) (ended : Ended) (later : List State) (new : State) → RunsOnVolume here run past old ended later new → RunsOnVolume either run past old ended later new
-  on_either past old ended later new (Unopened why through) = Unopened why through
+  on_either past old ended later new (Unopened why through same) = Unopened why through same
   on_either past old ended later new (Opened opened spans runs) = Opened opened spans (over_either opened (synced old) ended later new runs)
 
 -- where only the device and memory refuse, the other store's layout isn't told

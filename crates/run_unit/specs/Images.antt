@@ -10,6 +10,7 @@ use Rattle.code_image.specs.Spelling.{spelling, HasSpelling}
 use Rattle.code_image.specs.Reading.{code_at}
 use Rattle.code_image.specs.Demands.{IsVerified, Refuses}
 use Rattle.code_image.specs.Table.{Runs}
+use Rattle.run_unit.specs.Trees.{IsTreeOf}
 use Rattle.run_unit.specs.declared.fault.CompileError.{CompileError}
 use Rattle.run_unit.specs.declared.fault.CompileError.TheVariants.{Memory, Refused}
 
@@ -31,6 +32,10 @@ pub record MeansAs (tree : Program) (image : List ℕ) : Type 0 where
   pub is : IsImageOf image code
   pub files : length code.files ≡ length tree.selects
   pub runs : (given : Given) → Runs code given (meaning tree given)
+
+-- The bytes are an image of the source text's tree: whatever it is given, its run is what the tree means.
+abbrev pub IsCompiled : List ℕ → List ℕ → Type 0
+IsCompiled source image = (tree : Program) × IsTreeOf source tree × MeansAs tree image
 
 -- What `compile` may answer where this is the tree of the source text: an image that means the same, or that memory ran out.
 abbrev pub IsImageAnswer : Program → Result (Vec ℕ Global) CompileError → Type 0

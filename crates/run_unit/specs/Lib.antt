@@ -4,6 +4,7 @@ pub mod Images
 pub mod Ends
 pub mod Alone
 pub mod Volume
+pub mod Runs
 pub use Rattle.answers.specs.Answer
 pub use Rattle.source_tree.specs.Meaning
 pub use Rattle.machine.specs.Prefix

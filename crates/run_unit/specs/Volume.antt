@@ -24,6 +24,10 @@ IsUnopened (Refused Damaged) = Unit {0}
 IsUnopened (Refused Memory) = Unit {0}
 IsUnopened other = ⊥
 
+-- Nothing was done on the station, but that what waited for a sync may have become durable: no sector was written.
+abbrev pub IsUnwritten : State → State → Type 0
+IsUnwritten old new = (new ≡ old) ⊎ (new ≡ synced old)
+
 -- What is so after each end of a run from a state. A full volume ends it in a file statement alone, want of memory there or before it begins,
 -- damage never.
 abbrev pub EndsOver : (List Sector → Files → Type 0) → Run → State → Ended → State → Type 0
@@ -36,24 +40,34 @@ EndsOver holds run old (Refused Full) now = BeforeNote run old now
 EndsOver holds run old (Refused Damaged) now = ⊥
 EndsOver holds run old (Refused Memory) now = BeforeNote run old now ⊎ (now ≡ old)
 
--- A run over the files that a store stands for, from a state to another, by this end: each moment is one of the run, the first one too.
-pub record RunsOver (holds : List Sector → Files → Type 0) (run : Run) (past : List State) (old : State) (ended : Ended) (later : List State) (new : State) : Type 0 where
+-- A run over the files that a store stands for, from a state to another, by this end: each moment is one of the run, the
+-- first one too.
+pub record RunsOver (holds : List Sector → Files → Type 0) (run : Run) (past : List State) (old : State)
+    (ended : Ended) (later : List State) (new : State) : Type 0 where
   pub first : Moment holds run old old
   pub moments : Through past later new (Moment holds run old)
   pub ends : EndsOver holds run old ended new
 
--- A call that opens a volume which holds files, and does a run over them. Until the volume is opened nothing is told, and whatever a crash
--- leaves was possible before the call; and so it is where it isn't opened. Else each moment from its opening on is one of the run.
-pub data RunsOnVolume (holds : List Sector → Files → Type 0) (run : Run) (past : List State) (old : State) (ended : Ended) (later : List State) (new : State) : Type 0 where
-  Unopened : IsUnopened ended → Through past later new (Opening old) → RunsOnVolume holds run past old ended later new
-  Opened : (opened : List State) → Spans past opened (Opening old) → RunsOver holds run opened (synced old) ended later new → RunsOnVolume holds run past old ended later new
+-- A call that opens a volume which holds files, and does a run over them. Until the volume is opened there are no events,
+-- and whatever a crash leaves was possible before the call. If it isn't opened, that is all, and no sector was written.
+-- Else each moment from its opening on is one of the run.
+pub data RunsOnVolume (holds : List Sector → Files → Type 0) (run : Run) (past : List State) (old : State)
+    (ended : Ended) (later : List State) (new : State) : Type 0 where
+  Unopened : IsUnopened ended → Through past later new (Opening old) → IsUnwritten old new
+      → RunsOnVolume holds run past old ended later new
+  Opened : (opened : List State) → Spans past opened (Opening old)
+      → RunsOver holds run opened (synced old) ended later new → RunsOnVolume holds run past old ended later new
 
 -- the newest root of an image is one of a volume of halves
 abbrev pub IsOfHalves : List Sector → Type 0
 IsOfHalves image = (roots : Roots) × (roots_in half_marks 1 image ≡ Ok roots)
 
--- A call that opens a volume of halves, and does a run over the files that it finds. Such a volume is read whole when it is opened: either it
--- isn't opened, and nothing is told, or it held files, and the call is one with these.
-pub data RunsOnHalves (run : Files → Run) (past : List State) (old : State) (ended : Ended) (later : List State) (new : State) : Type 0 where
-  NotOpened : IsUnopened ended → Through past later new (Opening old) → RunsOnHalves run past old ended later new
-  HeldFiles : (files : Files) → HoldsHalf old.disk.present files → RunsOnVolume HoldsHalf (run files) past old ended later new → RunsOnHalves run past old ended later new
+-- A call that opens a volume of halves, and does a run over the files that it finds. Such a volume is read whole when it is
+-- opened. Either it isn't opened, there are no events, and no sector was written; or it held files, and the call is one
+-- with these.
+pub data RunsOnHalves (run : Files → Run) (past : List State) (old : State)
+    (ended : Ended) (later : List State) (new : State) : Type 0 where
+  NotOpened : IsUnopened ended → Through past later new (Opening old) → IsUnwritten old new
+      → RunsOnHalves run past old ended later new
+  HeldFiles : (files : Files) → HoldsHalf old.disk.present files
+      → RunsOnVolume HoldsHalf (run files) past old ended later new → RunsOnHalves run past old ended later new

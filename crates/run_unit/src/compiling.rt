@@ -9,7 +9,7 @@ ghost use Rattle.entry_rules.specs.Checks as rules;
 ghost use Rattle.check_rules.specs.Told.{IsTold};
 ghost use Rattle.run_unit.specs.Faults.{fault_of};
 ghost use Rattle.run_unit.specs.Trees.{IsReadFrom, IsTreeOf, IsTreeAnswer, IsToldOf, IsFaultOf, broken_rules, tree_with_rules, tree_of};
-ghost use Rattle.run_unit.specs.Images.{MeansAs, IsImageAnswer};
+ghost use Rattle.run_unit.specs.Images.{MeansAs, IsCompiled, IsImageAnswer};
 
 use crate::fault::CompileError;
 use check_rules::{CheckError, Checked, check};
@@ -76,7 +76,9 @@ fn image_of_tree(alloc: Global, tree: &Program) -> Result<Vec<u8>, CompileError>
 /// and 67 for the rules of its statements, 56 where it has no procedure, and 54 where a PERFORM leads back to its paragraph.
 pub fn compile(alloc: Global, source: &[u8]) -> Result<Vec<u8>, CompileError>
     // What is answered is an image of the source text's tree: whatever it is given, its run is what the tree means.
-    ensures image { IfOk result (λ image. (tree : Program) × IsTreeOf source.now tree × MeansAs tree image.items) }
+    ensures image { IfOk result (λ image. IsCompiled source.now image.items) }
+    // So a source text is compiled only if it has a tree.
+    ensures accepted { OnOk result ((tree : Program) × IsTreeOf source.now tree) }
     // A source text with a tree is answered with such an image, unless memory runs out.
     ensures only { (tree : Program) → IsTreeOf source.now tree → IsImageAnswer tree result }
     // Else the answer is the first fault of its stages, or a PERFORM that leads back where there is none.

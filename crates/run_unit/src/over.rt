@@ -31,12 +31,16 @@ pub(crate) fn connect<T: Store + Drop>(
     store: T,
 ) -> Result<Connectors<T>, Refusal>
     requires { IsVerified code.now }
-    ensures entries { IfOk result (λ all. ⟦<Connectors<T> as FileVerbs>⟧.entries all ≡ entries_of code.now.tables code.now.files) }
-    ensures connectors { IfOk result (λ all. ⟦<Connectors<T> as FileVerbs>⟧.connectors all ≡ all_closed code.now) }
+    ensures entries { IfOk result (λ all.
+        ⟦<Connectors<T> as FileVerbs>⟧.entries all ≡ entries_of code.now.tables code.now.files) }
+    ensures connectors { IfOk result (λ all.
+        ⟦<Connectors<T> as FileVerbs>⟧.connectors all ≡ all_closed code.now) }
     ensures needs { IfOk result (λ all. ⟦<Connectors<T> as Keeps>⟧.needs all ≡ T.needs store) }
     ensures spent { IfOk result (λ all. ⟦<Connectors<T> as Keeps>⟧.is_spent all ≡ T.is_spent store) }
-    ensures holds { (image : List Sector) (files : Files) → ⟦<Connectors<T> as Keeps>⟧.holds image files → T.holds image files }
-    ensures stands { IfOk result (λ all. (disk : Disk) (files : Files) → T.stands store disk files → ⟦<Connectors<T> as Keeps>⟧.stands all disk files) }
+    ensures holds { (image : List Sector) (files : Files) →
+        ⟦<Connectors<T> as Keeps>⟧.holds image files → T.holds image files }
+    ensures stands { IfOk result (λ all. (disk : Disk) (files : Files) →
+        T.stands store disk files → ⟦<Connectors<T> as Keeps>⟧.stands all disk files) }
     ensures memory { IfErr result (λ refusal. refusal ≡ Memory) }
 {
     let mut connectors = Connectors::new(alloc, store);
@@ -69,13 +73,15 @@ pub fn run_over<S: Station, T: Store + Drop>(
     ensures cause { HasCause result (S.failures station.old) (S.failures station.new) }
     // The code isn't refused.
     ensures run { IsRun result }
-    // At each moment the files are those after the statuses that were received, or after one more, which is in progress; at the end all was
-    // told, and they are the last.
+    // At each moment the files are those after the statuses that were received, or after one more, which is in progress. After the
+    // program's own end they are the last, and the events are all of the run's.
     ensures runs { (files : Files) → StandsFor T.Keeps S.Device store station.old files →
         (run : Run) → Runs code (given_over files (S.state station.old) day budget) run →
-        RunsOver T.holds run (S.history station.old) (S.state station.old) result (S.history station.new) (S.state station.new) }
-    // Files that the store stands for aren't told to be damaged.
-    ensures sound { (files : Files) → StandsFor T.Keeps S.Device store station.old files → result ≢ Ended.Refused Refusal.Damaged }
+        RunsOver T.holds run (S.history station.old) (S.state station.old)
+        result (S.history station.new) (S.state station.new) }
+    // 82 isn't reported of files that the store stands for.
+    ensures sound { (files : Files) → StandsFor T.Keeps S.Device store station.old files →
+        result ≢ Ended.Refused Refusal.Damaged }
 {
     run_law();
     let mut connectors = match connect(alloc, code.code(), store) {

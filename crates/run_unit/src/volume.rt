@@ -41,8 +41,10 @@ pub(crate) fn run_alone<S: Station>(
     ensures cause { HasCause result (S.failures station.old) (S.failures station.new) }
     ensures run { IsRun result }
     ensures memory { result ≡ Ended.Refused Refusal.Memory → station.new ≡ station.old }
-    ensures alone { S.is_honest station.old → (run : Run) → Runs code (given_on (S.state station.old) day budget) run →
-        RunsAlone run (S.history station.old) (S.state station.old) result (S.history station.new) (S.state station.new) }
+    ensures alone { S.is_honest station.old →
+        (run : Run) → Runs code (given_on (S.state station.old) day budget) run →
+        RunsAlone run (S.history station.old) (S.state station.old)
+        result (S.history station.new) (S.state station.new) }
     ensures sound { result ≢ Ended.Refused Refusal.Damaged }
 {
     run_law();
@@ -68,12 +70,18 @@ fn run_on_halves<S: Station>(
     ensures honest { S.is_honest station.old ↔ S.is_honest station.new }
     ensures cause { HasCause result (S.failures station.old) (S.failures station.new) }
     ensures run { IsRun result }
-    ensures volume { S.is_honest station.old → (files : Files) → HoldsHalf (S.state station.old).disk.present files →
+    ensures volume { S.is_honest station.old →
+        (files : Files) → HoldsHalf (S.state station.old).disk.present files →
         (run : Run) → Runs code (given_over files (S.state station.old) day budget) run →
-        RunsOnVolume HoldsHalf run (S.history station.old) (S.state station.old) result (S.history station.new) (S.state station.new) }
-    ensures halves { S.is_honest station.old → (run : Files → Run) → ((files : Files) → Runs code (given_over files (S.state station.old) day budget) (run files)) →
-        RunsOnHalves run (S.history station.old) (S.state station.old) result (S.history station.new) (S.state station.new) }
-    ensures sound { S.is_honest station.old → (files : Files) → HoldsHalf (S.state station.old).disk.present files → result ≢ Ended.Refused Refusal.Damaged }
+        RunsOnVolume HoldsHalf run (S.history station.old) (S.state station.old)
+        result (S.history station.new) (S.state station.new) }
+    ensures halves { S.is_honest station.old → (run : Files → Run) →
+        ((files : Files) → Runs code (given_over files (S.state station.old) day budget) (run files)) →
+        RunsOnHalves run (S.history station.old) (S.state station.old)
+        result (S.history station.new) (S.state station.new) }
+    ensures sound { S.is_honest station.old →
+        (files : Files) → HoldsHalf (S.state station.old).disk.present files →
+        result ≢ Ended.Refused Refusal.Damaged }
 {
     one_list_of_files();
     match HalfStore::open(alloc, station) {
@@ -95,13 +103,19 @@ pub(crate) fn run_on_volume<S: Station>(
     ensures honest { S.is_honest station.old ↔ S.is_honest station.new }
     ensures cause { HasCause result (S.failures station.old) (S.failures station.new) }
     ensures run { IsRun result }
-    ensures volume { S.is_honest station.old → (files : Files) → HoldsFiles (S.state station.old).disk.present files →
+    ensures volume { S.is_honest station.old →
+        (files : Files) → HoldsFiles (S.state station.old).disk.present files →
         (run : Run) → Runs code (given_over files (S.state station.old) day budget) run →
-        RunsOnVolume HoldsFiles run (S.history station.old) (S.state station.old) result (S.history station.new) (S.state station.new) }
+        RunsOnVolume HoldsFiles run (S.history station.old) (S.state station.old)
+        result (S.history station.new) (S.state station.new) }
     ensures halves { S.is_honest station.old → IsOfHalves (S.state station.old).disk.present →
-        (run : Files → Run) → ((files : Files) → Runs code (given_over files (S.state station.old) day budget) (run files)) →
-        RunsOnHalves run (S.history station.old) (S.state station.old) result (S.history station.new) (S.state station.new) }
-    ensures sound { S.is_honest station.old → (files : Files) → HoldsFiles (S.state station.old).disk.present files → result ≢ Ended.Refused Refusal.Damaged }
+        (run : Files → Run) →
+        ((files : Files) → Runs code (given_over files (S.state station.old) day budget) (run files)) →
+        RunsOnHalves run (S.history station.old) (S.state station.old)
+        result (S.history station.new) (S.state station.new) }
+    ensures sound { S.is_honest station.old →
+        (files : Files) → HoldsFiles (S.state station.old).disk.present files →
+        result ≢ Ended.Refused Refusal.Damaged }
 {
     match PagedStore::open(alloc, station, CACHED_PAGES) {
         Ok(store) => run_over(alloc, code, station, store, day, budget),

@@ -7,7 +7,7 @@ use crate::fault::FaultKind;
 use crate::line::is_in_character_set;
 
 /// What kind of line an indicator makes.
-#[derive(Clone, Copy, Debug, PartialEq, Eq)]
+#[derive(Clone, Copy, PartialEq, Eq)]
 pub enum Indicator {
     Plain,
     /// A comment line, or a debugging line.

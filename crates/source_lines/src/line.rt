@@ -25,7 +25,7 @@ pub const SPACE: u8 = b' ';
 pub const TAB: u8 = b'\t';
 
 /// A line of a source text, counted from 1, and the bytes of its columns, with spaces for tabs and after its end.
-#[derive(Clone, Copy, Debug)]
+#[derive(Clone, Copy)]
 pub struct Line {
     pub number: u32,
     pub columns: [u8; COLUMNS],

@@ -7,14 +7,14 @@ use sqlite_items::Items;
 use std::marker::Model;
 
 /// A character and where it stands. A line's end is one space.
-#[derive(Clone, Copy, Debug, PartialEq, Eq)]
+#[derive(Clone, Copy, PartialEq, Eq)]
 pub struct Character {
     pub byte: u8,
     pub place: Place,
 }
 
 /// The characters of a source text in order, continued lines joined, without sequence numbers, comments and line ends.
-#[derive(Debug, Drop)]
+#[derive(Drop)]
 pub struct Lines {
     characters: Items<Character>,
 }

@@ -8,7 +8,7 @@ use crate::lines::Character;
 use lexical::Place;
 
 /// A nonnumeric literal whose second mark hasn't come yet.
-#[derive(Clone, Copy, Debug)]
+#[derive(Clone, Copy)]
 pub struct OpenLiteral {
     pub mark: u8,
     /// Where its first mark stands.

@@ -18,7 +18,7 @@ use sqlite_items::Items;
 use std::alloc::{AllocError, Global};
 
 /// What stands before a line.
-#[derive(Clone, Copy, Debug)]
+#[derive(Clone, Copy)]
 pub enum Before {
     /// No line that gave characters.
     Nothing,
@@ -31,7 +31,7 @@ pub enum Before {
 }
 
 /// The characters of the lines that were read. The space of the last line's end comes with the line after it.
-#[derive(Debug, Drop)]
+#[derive(Drop)]
 pub struct Reader {
     pub characters: Items<Character>,
     pub before: Before,

@@ -6,14 +6,14 @@ use crate::reference::Reference;
 use sqlite_items::Items;
 
 /// A receiver, with ROUNDED or without.
-#[derive(Debug, Drop)]
+#[derive(Drop)]
 pub struct Receiver {
     pub item: Reference,
     pub rounded: bool,
 }
 
 /// Which of the two operands of a DIVIDE with GIVING is written first.
-#[derive(Clone, Copy, Debug, PartialEq, Eq)]
+#[derive(Clone, Copy, PartialEq, Eq)]
 pub enum DivisionOrder {
     /// The divisor: INTO.
     Into,
@@ -23,7 +23,7 @@ pub enum DivisionOrder {
 
 /// What an arithmetic statement computes, one form a line of the grammar (COBOL-85, Nucleus, "Arithmetic statements"). Operands
 /// stand in the order of writing, and there are one or more of each list.
-#[derive(Debug, Drop)]
+#[derive(Drop)]
 pub enum Operation {
     Add {
         operands: Items<Operand>,
@@ -76,7 +76,7 @@ pub enum Operation {
 }
 
 /// An arithmetic statement with its SIZE ERROR phrases.
-#[derive(Debug, Drop)]
+#[derive(Drop)]
 pub struct Arithmetic<S> {
     pub operation: Operation,
     pub phrases: Phrases<S>,

@@ -4,7 +4,7 @@ use crate::condition::Condition;
 use crate::evaluate::Evaluate;
 use sqlite_items::Items;
 
-#[derive(Debug, Drop)]
+#[derive(Drop)]
 pub enum Branching<S> {
     If {
         condition: Condition,

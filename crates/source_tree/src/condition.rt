@@ -6,7 +6,7 @@ use crate::reference::Reference;
 use sqlite_items::{Boxed, Items};
 
 /// How two sides compare. NOT before it gives the opposite one.
-#[derive(Clone, Copy, Debug, PartialEq, Eq)]
+#[derive(Clone, Copy, PartialEq, Eq)]
 pub enum Relation {
     Less,
     LessOrEqual,
@@ -16,14 +16,14 @@ pub enum Relation {
     Greater,
 }
 
-#[derive(Clone, Copy, Debug, PartialEq, Eq)]
+#[derive(Clone, Copy, PartialEq, Eq)]
 pub enum SignTest {
     Positive,
     Negative,
     Zero,
 }
 
-#[derive(Clone, Copy, Debug, PartialEq, Eq)]
+#[derive(Clone, Copy, PartialEq, Eq)]
 pub enum Class {
     Numeric,
     Alphabetic,
@@ -32,14 +32,14 @@ pub enum Class {
 }
 
 /// A side of a relation. A numeric literal or ZERO is an expression; other literals are literals.
-#[derive(Debug, Drop)]
+#[derive(Drop)]
 pub enum Side {
     Expression(Expression),
     Literal(Literal),
 }
 
 /// A condition. Parentheses leave no node.
-#[derive(Debug, Drop)]
+#[derive(Drop)]
 pub enum Condition {
     /// A condition name.
     Name(Reference),

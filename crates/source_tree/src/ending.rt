@@ -1,6 +1,6 @@
 //! STOP RUN, CONTINUE and EXIT.
 
-#[derive(Clone, Copy, Debug, PartialEq, Eq)]
+#[derive(Clone, Copy, PartialEq, Eq)]
 pub enum Ending {
     StopRun,
     /// Nothing.

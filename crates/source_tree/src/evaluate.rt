@@ -5,7 +5,7 @@ use lexical::Place;
 use sqlite_items::Items;
 
 /// A selection subject.
-#[derive(Debug, Drop)]
+#[derive(Drop)]
 pub enum Subject {
     /// A value; or a reference alone, which may be a condition name.
     Value(Side),
@@ -16,7 +16,7 @@ pub enum Subject {
 }
 
 /// What a selection object asks of its subject.
-#[derive(Debug, Drop)]
+#[derive(Drop)]
 pub enum Choice {
     Any,
     /// With NOT or without: a value, or those from one to the last; or a reference alone, which may be a condition name.
@@ -32,7 +32,7 @@ pub enum Choice {
 }
 
 /// A selection object.
-#[derive(Debug, Drop)]
+#[derive(Drop)]
 pub struct Object {
     /// Where it begins.
     pub place: Place,
@@ -40,7 +40,7 @@ pub struct Object {
 }
 
 /// WHEN, with the objects of the subjects in their order.
-#[derive(Debug, Drop)]
+#[derive(Drop)]
 pub struct When {
     /// Where the word stands.
     pub place: Place,
@@ -49,7 +49,7 @@ pub struct When {
 }
 
 /// WHENs, and the statements behind them.
-#[derive(Debug, Drop)]
+#[derive(Drop)]
 pub struct Selected<S> {
     /// One or more.
     pub whens: Items<When>,
@@ -57,7 +57,7 @@ pub struct Selected<S> {
     pub statements: Items<S>,
 }
 
-#[derive(Debug, Drop)]
+#[derive(Drop)]
 pub struct Evaluate<S> {
     /// One or more.
     pub subjects: Items<Subject>,

@@ -5,13 +5,13 @@ use crate::reference::Reference;
 use sqlite_items::{Boxed, Items};
 
 /// What a value is taken from. Where a number is wanted, a literal is numeric or ZERO.
-#[derive(Debug, Drop)]
+#[derive(Drop)]
 pub enum Operand {
     Item(Reference),
     Literal(Literal),
 }
 
-#[derive(Clone, Copy, Debug, PartialEq, Eq)]
+#[derive(Clone, Copy, PartialEq, Eq)]
 pub enum Operator {
     Add,
     Subtract,
@@ -20,7 +20,7 @@ pub enum Operator {
 }
 
 /// An arithmetic expression (COBOL-85, Nucleus, "Arithmetic expressions"). Parentheses and a unary plus leave no node.
-#[derive(Debug, Drop)]
+#[derive(Drop)]
 pub enum Expression {
     Operand(Operand),
     Negated(Boxed<Expression>),

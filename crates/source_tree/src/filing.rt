@@ -8,20 +8,20 @@ use records::OpenMode;
 use sqlite_items::Items;
 
 /// A file of OPEN.
-#[derive(Debug, Drop)]
+#[derive(Drop)]
 pub struct Opening {
     pub mode: OpenMode,
     pub file: Name,
 }
 
 /// The KEY phrase of START.
-#[derive(Debug, Drop)]
+#[derive(Drop)]
 pub struct StartKey {
     pub relation: Relation,
     pub key: Reference,
 }
 
-#[derive(Debug, Drop)]
+#[derive(Drop)]
 pub enum Filing<S> {
     Open {
         /// One or more.

@@ -5,7 +5,7 @@ use crate::reference::Reference;
 use sqlite_items::Items;
 
 /// BEFORE and AFTER of an entry: each at most once, in either order.
-#[derive(Debug, Drop)]
+#[derive(Drop)]
 pub struct Limits {
     pub before: Option<Operand>,
     pub after: Option<Operand>,
@@ -14,7 +14,7 @@ pub struct Limits {
 }
 
 /// The words before the texts of entries. FIRST stands under REPLACING alone.
-#[derive(Clone, Copy, Debug, PartialEq, Eq)]
+#[derive(Clone, Copy, PartialEq, Eq)]
 pub enum Occurrences {
     All,
     Leading,
@@ -22,13 +22,13 @@ pub enum Occurrences {
 }
 
 /// A text that is counted.
-#[derive(Debug, Drop)]
+#[derive(Drop)]
 pub struct TalliedText {
     pub text: Operand,
     pub limits: Limits,
 }
 
-#[derive(Debug, Drop)]
+#[derive(Drop)]
 pub enum Tallied {
     Characters {
         limits: Limits,
@@ -41,7 +41,7 @@ pub enum Tallied {
 }
 
 /// A counter and what it counts.
-#[derive(Debug, Drop)]
+#[derive(Drop)]
 pub struct Tallying {
     pub counter: Reference,
     /// One or more.
@@ -49,14 +49,14 @@ pub struct Tallying {
 }
 
 /// A text that is replaced.
-#[derive(Debug, Drop)]
+#[derive(Drop)]
 pub struct ReplacedText {
     pub text: Operand,
     pub by: Operand,
     pub limits: Limits,
 }
 
-#[derive(Debug, Drop)]
+#[derive(Drop)]
 pub enum Replacing {
     Characters {
         by: Operand,
@@ -70,7 +70,7 @@ pub enum Replacing {
 }
 
 /// An INSPECT (COBOL-85, Nucleus, "The INSPECT statement"). One of its phrases stands, or both do.
-#[derive(Debug, Drop)]
+#[derive(Drop)]
 pub struct Inspecting {
     pub subject: Reference,
     /// None without TALLYING.

@@ -4,7 +4,7 @@ use crate::expression::Operand;
 use crate::reference::Reference;
 use sqlite_items::Items;
 
-#[derive(Debug, Drop)]
+#[derive(Drop)]
 pub enum Moving {
     Move {
         sender: Operand,

@@ -7,7 +7,7 @@ use crate::until::Until;
 use sqlite_items::Items;
 
 /// What is performed (COBOL-85, Nucleus, "The PERFORM statement").
-#[derive(Debug, Drop)]
+#[derive(Drop)]
 pub enum Performed<S> {
     /// A paragraph or section, or all from one to the end of another, by their names.
     Procedures { first: Name, last: Option<Name> },
@@ -16,7 +16,7 @@ pub enum Performed<S> {
 }
 
 /// How often it is performed.
-#[derive(Debug, Drop)]
+#[derive(Drop)]
 pub enum Turns {
     Once,
     /// An integer and TIMES.
@@ -27,7 +27,7 @@ pub enum Turns {
     Until(Until),
 }
 
-#[derive(Debug, Drop)]
+#[derive(Drop)]
 pub struct Performing<S> {
     pub performed: Performed<S>,
     pub turns: Turns,

@@ -5,14 +5,14 @@ use crate::name::Name;
 use sqlite_items::Items;
 
 /// A name and its qualifiers, the nearest group first; the last one may be a file (COBOL-85, Nucleus, "Qualification").
-#[derive(Debug, Drop)]
+#[derive(Drop)]
 pub struct QualifiedName {
     pub name: Name,
     pub qualifiers: Items<Name>,
 }
 
 /// What is added to the item of a subscript.
-#[derive(Debug, Drop)]
+#[derive(Drop)]
 pub enum Adjustment {
     Nothing,
     Plus(Integer),
@@ -20,7 +20,7 @@ pub enum Adjustment {
 }
 
 /// A subscript (COBOL-85, Nucleus, "Subscripting").
-#[derive(Debug, Drop)]
+#[derive(Drop)]
 pub enum Subscript {
     Literal(Integer),
     Item {
@@ -30,7 +30,7 @@ pub enum Subscript {
 }
 
 /// A reference. It stands where its name does.
-#[derive(Debug, Drop)]
+#[derive(Drop)]
 pub struct Reference {
     pub item: QualifiedName,
     pub subscripts: Items<Subscript>,

@@ -8,7 +8,7 @@ use records::Access;
 use sqlite_items::Items;
 
 /// ORGANIZATION.
-#[derive(Clone, Copy, Debug, PartialEq, Eq)]
+#[derive(Clone, Copy, PartialEq, Eq)]
 pub enum OrganizationClause {
     Sequential,
     Relative,
@@ -16,21 +16,21 @@ pub enum OrganizationClause {
 }
 
 /// The file's name on the volume: the bytes of a nonnumeric literal, or a word in upper case, in ASCII.
-#[derive(Debug, Drop)]
+#[derive(Drop)]
 pub struct AssignedName {
     pub characters: Items<u8>,
     pub place: Place,
 }
 
 /// ALTERNATE RECORD KEY, with DUPLICATES or without.
-#[derive(Debug, Drop)]
+#[derive(Drop)]
 pub struct AlternateKeyClause {
     pub key: Reference,
     pub duplicates: bool,
 }
 
 /// A SELECT, which stands where the file's name does. Without their clauses organization and access are sequential.
-#[derive(Debug, Drop)]
+#[derive(Drop)]
 pub struct Select {
     pub optional: bool,
     pub name: Name,
@@ -47,7 +47,7 @@ pub struct Select {
 
 /// An FD with the entries of its records. LABEL RECORDS, BLOCK CONTAINS, RECORD CONTAINS and DATA RECORDS, which have no effect,
 /// aren't kept.
-#[derive(Debug, Drop)]
+#[derive(Drop)]
 pub struct FileDescription {
     pub name: Name,
     pub entries: Items<Entry>,

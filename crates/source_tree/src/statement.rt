@@ -11,7 +11,7 @@ use crate::text::Text;
 use lexical::Place;
 
 /// What a statement does, by families. `S` is the statements inside it: in a tree, `Statement`.
-#[derive(Debug, Drop)]
+#[derive(Drop)]
 pub enum Verb<S> {
     Moving(Moving),
     Arithmetic(Arithmetic<S>),
@@ -24,7 +24,7 @@ pub enum Verb<S> {
 }
 
 /// A statement (COBOL-85, Nucleus, "Procedure division").
-#[derive(Debug, Drop)]
+#[derive(Drop)]
 pub struct Statement {
     /// Where its verb stands.
     pub place: Place,

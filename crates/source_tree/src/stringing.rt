@@ -6,7 +6,7 @@ use crate::reference::Reference;
 use sqlite_items::Items;
 
 /// Senders of a STRING and what they are DELIMITED BY.
-#[derive(Debug, Drop)]
+#[derive(Drop)]
 pub struct Sending {
     /// One or more.
     pub senders: Items<Operand>,
@@ -15,7 +15,7 @@ pub struct Sending {
 }
 
 /// A STRING with its OVERFLOW phrases (COBOL-85, Nucleus, "The STRING statement").
-#[derive(Debug, Drop)]
+#[derive(Drop)]
 pub struct Stringing<S> {
     /// One or more.
     pub sendings: Items<Sending>,

@@ -5,7 +5,7 @@ use crate::inspecting::Inspecting;
 use crate::reference::Reference;
 use sqlite_items::Items;
 
-#[derive(Debug, Drop)]
+#[derive(Drop)]
 pub enum Text {
     Display {
         /// One or more.

@@ -5,14 +5,14 @@ use crate::expression::Operand;
 use crate::reference::Reference;
 
 /// When UNTIL is tested: before each turn, or after it.
-#[derive(Clone, Copy, Debug, PartialEq, Eq)]
+#[derive(Clone, Copy, PartialEq, Eq)]
 pub enum TestTime {
     Before,
     After,
 }
 
 /// VARYING: an item that begins with a number, to which another is added after each turn.
-#[derive(Debug, Drop)]
+#[derive(Drop)]
 pub struct Varying {
     pub item: Reference,
     pub from: Operand,
@@ -20,7 +20,7 @@ pub struct Varying {
 }
 
 /// Turns up to where a condition is true.
-#[derive(Debug, Drop)]
+#[derive(Drop)]
 pub struct Until {
     pub test: TestTime,
     pub varying: Option<Varying>,

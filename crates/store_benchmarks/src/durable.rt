@@ -1,11 +1,12 @@
 //! Inserts that reach the disk, each beside the same writes and syncs of a raw file.
 
-use crate::host_device::HostDevice;
-use crate::host_file::{make_file, open_file, replay};
+use crate::host_file::{open_file, replay};
+use crate::noted_device::NotedDevice;
 use crate::row::Order;
 use crate::sales::Sales;
 use crate::times::{mean, median, since};
 use anyhow::{Result, ensure};
+use host_volume::{Access, HostVolume, NewVolume};
 use std::fs::File;
 use std::time::Instant;
 
@@ -27,8 +28,9 @@ struct Beside {
 
 /// Makes a volume in a host file with so many rows. The last of them needn't have reached the disk.
 pub fn make(rt: &HostRuntime, path: &str, rows: u32) -> Result<()> {
-    make_file(rt, path, SPARE + rows / ROWS_A_SECTOR)?;
-    let device = HostDevice::open(rt, path, false)?;
+    let sectors = SPARE + rows / ROWS_A_SECTOR;
+    let volume = NewVolume::open(rt, path)?.fill(rt.alloc(), sectors, |_| {})?;
+    let device = NotedDevice::new(rt.alloc(), volume, false);
     let mut sales = Sales::make(rt.alloc(), device, Order::Scattered)?;
     ensure!(sales.fill(0, rows)?, "a row of that key was there");
     Ok(())
@@ -37,7 +39,7 @@ pub fn make(rt: &HostRuntime, path: &str, rows: u32) -> Result<()> {
 /// Inserts the n-th row, and does what reached the disk again in the raw file.
 fn insert_beside(
     rt: &HostRuntime,
-    sales: &mut Sales<HostDevice>,
+    sales: &mut Sales<NotedDevice>,
     raw: &File,
     n: u32,
     beside: &mut Beside,
@@ -68,7 +70,8 @@ fn print(rt: &HostRuntime, mut beside: Beside) -> Result<()> {
 
 /// Inserts so many rows behind those that are there.
 pub fn measure(rt: &HostRuntime, path: &str, rows: u32, count: u32, raw_path: &str) -> Result<()> {
-    let device = HostDevice::open(rt, path, true)?;
+    let volume = HostVolume::open(rt, path, Access::ReadWrite)?;
+    let device = NotedDevice::new(rt.alloc(), volume, true);
     let raw = open_file(rt, raw_path)?;
     let mut sales = Sales::open(rt.alloc(), device, Order::Scattered)?;
     let mut beside = Beside {

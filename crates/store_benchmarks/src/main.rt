@@ -4,9 +4,9 @@
 mod cached;
 mod durable;
 mod growth;
-mod host_device;
 mod host_file;
 mod memory_device;
+mod noted_device;
 mod renewal;
 mod resident;
 mod row;

@@ -1,18 +1,20 @@
 //! A file that is made anew in place of one with many rows, as OPEN OUTPUT does.
 
-use crate::host_device::HostDevice;
+use crate::noted_device::NotedDevice;
 use crate::resident::{MOST, NOW, forget_most, kibibytes};
 use crate::row::Order;
 use crate::sales::Sales;
 use crate::times::{processor_time, since};
 use anyhow::Result;
+use host_volume::{Access, HostVolume};
 use std::time::Instant;
 
 /// Its time, the processor's part of it, what was read and written, and how much memory was resident before, with the volume opened,
 /// and at most.
 pub fn measure(rt: &HostRuntime, path: &str) -> Result<()> {
     let before = kibibytes(rt, NOW)?;
-    let device = HostDevice::open(rt, path, true)?;
+    let volume = HostVolume::open(rt, path, Access::ReadWrite)?;
+    let device = NotedDevice::new(rt.alloc(), volume, true);
     let mut sales = Sales::open(rt.alloc(), device, Order::Scattered)?;
     let free = sales.free_sectors();
     let opened = kibibytes(rt, NOW)?;

@@ -10,7 +10,7 @@ use crate::entry::{Entry, Fit, Span};
 use crate::place::first_place;
 
 /// How far an entry has come: it may still fit from its first place on, up to the limit. Both count from 0.
-#[derive(Clone, Copy, Debug)]
+#[derive(Clone, Copy)]
 pub struct Progress {
     pub entry: Entry,
     pub first: usize,

@@ -95,12 +95,12 @@ fn same_as_reference(rt: &impl Abort, entries: &[Entry], subject: &[u8]) {
     let expected = inspect(entries, subject);
     same_in(
         rt,
-        &(entries, subject),
+        &subject,
         tallied(rt, entries, subject) == expected.counts,
         true,
     );
     let text: [u8; MOST_CHARACTERS] = replaced(rt, entries, subject);
-    same_in(rt, &(entries, subject), text == expected.text, true);
+    same_in(rt, &subject, text == expected.text, true);
 }
 
 #[test]

@@ -76,7 +76,7 @@ pub fn item(rt: &impl Abort, kind: Kind, bytes: &[u8]) -> Item
 }
 
 /// An operand: an item of a kind, or what has no kind.
-#[derive(Clone, Copy, Debug)]
+#[derive(Clone, Copy)]
 pub enum Operand {
     Of(Kind),
     Other(Taken),

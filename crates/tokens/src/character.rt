@@ -10,7 +10,7 @@ use source_lines::Character;
 use sqlite_items::Items;
 use std::alloc::Global;
 
-#[derive(Clone, Copy, Debug)]
+#[derive(Clone, Copy)]
 pub enum Class {
     Digit,
     Letter,

@@ -8,7 +8,7 @@ ghost use Rattle.tokens.specs.Reserved.{same_word};
 use crate::reserved::Reserved;
 use crate::token::Kind;
 
-#[derive(Clone, Copy, Debug)]
+#[derive(Clone, Copy)]
 pub enum Context {
     /// Nothing, or what a sign may follow.
     Apart,

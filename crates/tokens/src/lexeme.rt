@@ -17,7 +17,7 @@ use source_lines::Character;
 use std::alloc::Global;
 
 /// A token's kind, or none for a separator, and how many characters it has.
-#[derive(Debug, Drop)]
+#[derive(Drop)]
 pub struct Lexeme {
     pub kind: Option<Kind>,
     pub size: usize,

@@ -1,7 +1,7 @@
 //! The reserved words of the language.
 
 /// A reserved word (COBOL-85, Appendix "reserved words", as far as this language has a use for them), in alphabetical order of the words.
-#[derive(Clone, Copy, Debug, PartialEq, Eq)]
+#[derive(Clone, Copy, PartialEq, Eq)]
 pub enum Reserved {
     Accept,
     Access,

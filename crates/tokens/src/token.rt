@@ -5,7 +5,7 @@ use lexical::{NumericLiteral, Place};
 use sqlite_items::Items;
 
 /// An arithmetic or relational operator.
-#[derive(Clone, Copy, Debug, PartialEq, Eq)]
+#[derive(Clone, Copy, PartialEq, Eq)]
 pub enum Operator {
     Plus,
     Minus,
@@ -18,7 +18,7 @@ pub enum Operator {
     LessOrEqual,
 }
 
-#[derive(Debug, Drop)]
+#[derive(Drop)]
 pub enum Kind {
     Reserved(Reserved),
     /// A user-defined word, in upper case.
@@ -35,13 +35,13 @@ pub enum Kind {
 }
 
 /// The characters of a token in the characters of its `Lines`, counted from 0: from `start` on, up to before `end`.
-#[derive(Clone, Copy, Debug, PartialEq, Eq)]
+#[derive(Clone, Copy, PartialEq, Eq)]
 pub struct Span {
     pub start: usize,
     pub end: usize,
 }
 
-#[derive(Debug, Drop)]
+#[derive(Drop)]
 pub struct Token {
     pub kind: Kind,
     pub span: Span,

@@ -12,7 +12,7 @@ pub const MOST_ROW_BYTES: usize = 1360;
 const CHILD_BYTES: usize = 4;
 
 /// What a page of a tree has.
-#[derive(Clone, Copy, Debug, PartialEq, Eq)]
+#[derive(Clone, Copy, PartialEq, Eq)]
 pub enum Kind {
     /// Keys and values.
     Leaf,
@@ -21,7 +21,7 @@ pub enum Kind {
 }
 
 /// The lengths of a tree's keys and values in bytes, the same for each entry.
-#[derive(Clone, Copy, Debug, PartialEq, Eq)]
+#[derive(Clone, Copy, PartialEq, Eq)]
 pub struct RowLayout {
     pub key_length: usize,
     pub value_length: usize,

@@ -1,11 +1,9 @@
 use Rattle.std.proofs.Common.{Ok, refl, sym, subst}
 use Rattle.std.proofs.lemmas.Result.{err_from_is_err_and}
-use Rattle.source_tree.specs.Given.{given_on, given_over}
-use Rattle.source_tree.specs.Meaning.{meaning}
-use Rattle.run_unit.specs.Images.{IsImage, IsImageOf}
+use Rattle.run_unit.specs.Images.{IsCompiled}
 use Rattle.run_unit.proofs.Results.{value}
 use Rattle.run_unit.proofs.Stages.{memory_alone}
-use Rattle.run_unit.proofs.Images.{end_of_image, none_too}
+use Rattle.run_unit.proofs.Images.{none_too}
 use Rattle.run_unit.proofs.source.run_source.Goals as goal
 
 pub returns-in_err-image-clause-only : goal.returns-in_err-image-clause-only
@@ -15,34 +13,26 @@ returns-in_err-image-clause-only g c =
 
 pub returns-clause-own : goal.returns-clause-own
 returns-clause-own g c =
-    let has = c.in_ok-image.ensures.image.2 in
-    end_of_image c.spelling_law.ensures c.as_slice.result.now c.run_image.result
-    (subst (λ bytes. IsImage bytes) (sym c.as_slice.ensures.value) (has.code, has.is)) c.run_image.ensures.image
+    let source = c.args.source.now in
+    let image = c.as_slice.result.now in
+    let compiled =
+    subst (λ bytes. IsCompiled source bytes) (sym c.as_slice.ensures.value) c.in_ok-image.ensures.image in
+    c.compiled_bytes.ensures.end source image c.run_image.result compiled c.run_image.ensures.image
 
 pub returns-clause-memory : goal.returns-clause-memory
 returns-clause-memory g c = λ tree is none end.
-    let has = c.in_ok-image.ensures.only tree is in
-    c.run_image.ensures.memory has.code (subst (λ bytes. IsImageOf bytes has.code) (sym c.as_slice.ensures.value) has.is)
-    (none_too has.code.files tree.selects has.files none) (value {r = Ok c.run_image.result} refl end)
+    let source = c.args.source.now in
+    let image = c.as_slice.result.now in
+    let compiled =
+    subst (λ bytes. IsCompiled source bytes) (sym c.as_slice.ensures.value) c.in_ok-image.ensures.image in
+    let has = c.compiled_bytes.ensures.tree source image tree compiled is in
+    c.run_image.ensures.memory has.code has.is (none_too has.code.files tree.selects has.files none)
+    (value {r = Ok c.run_image.result} refl end)
 
-pub returns-clause-alone : goal.returns-clause-alone
-returns-clause-alone g c = λ honest tree is none.
-    let given = given_on (g.S.Device.state c.args.station.now) c.args.day c.args.budget in
-    let has = c.in_ok-image.ensures.only tree is in
-    c.run_image.ensures.alone honest has.code (subst (λ bytes. IsImageOf bytes has.code) (sym c.as_slice.ensures.value) has.is)
-    (none_too has.code.files tree.selects has.files none) (meaning tree given) (has.runs given)
-
-pub returns-clause-volume : goal.returns-clause-volume
-returns-clause-volume g c = λ honest tree is some files held.
-    let has = c.in_ok-image.ensures.only tree is in
-    let given = given_over files (g.S.Device.state c.args.station.now) c.args.day c.args.budget in
-    c.run_image.ensures.volume honest has.code (subst (λ bytes. IsImageOf bytes has.code) (sym c.as_slice.ensures.value) has.is)
-    (λ none. some (none_too tree.selects has.code.files (sym has.files) none)) files held (meaning tree given) (has.runs given)
-
-pub returns-clause-halves : goal.returns-clause-halves
-returns-clause-halves g c = λ honest tree is some halves.
-    let has = c.in_ok-image.ensures.only tree is in
-    c.run_image.ensures.halves honest has.code (subst (λ bytes. IsImageOf bytes has.code) (sym c.as_slice.ensures.value) has.is)
-    (λ none. some (none_too tree.selects has.code.files (sym has.files) none)) halves
-    (λ files. meaning tree (given_over files (g.S.Device.state c.args.station.now) c.args.day c.args.budget))
-    (λ files. has.runs (given_over files (g.S.Device.state c.args.station.now) c.args.day c.args.budget))
+pub returns-clause-runs : goal.returns-clause-runs
+returns-clause-runs g c = λ honest.
+    let source = c.args.source.now in
+    let image = c.as_slice.result.now in
+    let compiled =
+    subst (λ bytes. IsCompiled source bytes) (sym c.as_slice.ensures.value) c.in_ok-image.ensures.image in
+    c.compiled_bytes.ensures.runs source image _ compiled (c.run_image.ensures.runs honest)

@@ -5,10 +5,9 @@ use Rattle.half_store.specs.Stands.{Stands}
 use Rattle.half_store.specs.Stored.{files_of}
 use Rattle.source_tree.specs.Given.{Given}
 use Rattle.code_image.specs.Table.{Runs}
-use Rattle.run_unit.specs.declared.ended.Refusal.{Refusal}
 use Rattle.run_unit.specs.declared.ended.Ended.TheVariants.{Refused}
-use Rattle.run_unit.specs.Volume.{IsUnopened, NotOpened, HeldFiles}
-use Rattle.run_unit.proofs.Opening.{read_cause, unopened, given_after, ran_on}
+use Rattle.run_unit.specs.Volume.{Unopened, NotOpened, HeldFiles}
+use Rattle.run_unit.proofs.Opening.{read_cause, refused_opening, given_after, ran_on}
 use Rattle.run_unit.proofs.volume.run_on_halves.Goals as goal
 
 pub returns-in-Ok-clause-volume : goal.returns-in-Ok-clause-volume
@@ -46,6 +45,12 @@ pub returns-in-Err-clause-sound : goal.returns-in-Err-clause-sound
 returns-in-Err-clause-sound g c = λ honest files held is.
     read_cause c.in-Err.fault (c.in-Err.ensures.opens honest files held) (ap Refused (sym c.of_opening.ensures) ∙ is)
 
+pub returns-in-Err-clause-volume : goal.returns-in-Err-clause-volume
+returns-in-Err-clause-volume g c = λ honest files held run runs.
+    Unopened (refused_opening c.in-Err.fault c.of_opening.result c.of_opening.ensures)
+    (c.open.ensures.moments honest) (c.in-Err.ensures.unwritten honest)
+
 pub returns-in-Err-clause-halves : goal.returns-in-Err-clause-halves
 returns-in-Err-clause-halves g c = λ honest run runs.
-    NotOpened (subst (λ (refusal : Refusal). IsUnopened (Refused refusal)) (sym c.of_opening.ensures) (unopened c.in-Err.fault)) (c.open.ensures.moments honest)
+    NotOpened (refused_opening c.in-Err.fault c.of_opening.result c.of_opening.ensures)
+    (c.open.ensures.moments honest) (c.in-Err.ensures.unwritten honest)

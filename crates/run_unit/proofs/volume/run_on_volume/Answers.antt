@@ -8,10 +8,10 @@ use Rattle.file_recovery.proofs.TwoStores.{either_cause}
 use Rattle.half_store.specs.Opened.{IsReadCause}
 use Rattle.source_tree.specs.Given.{Given}
 use Rattle.code_image.specs.Table.{Runs}
-use Rattle.run_unit.specs.declared.ended.Refusal.{Refusal}
 use Rattle.run_unit.specs.declared.ended.Ended.TheVariants.{Refused}
-use Rattle.run_unit.specs.Volume.{IsUnopened, NotOpened}
-use Rattle.run_unit.proofs.Opening.{read_cause, unopened, no_layout, given_after, given_later, present_after, ran_on, on_volume_then, on_halves_then, on_either}
+use Rattle.run_unit.specs.Volume.{Unopened, NotOpened}
+use Rattle.run_unit.proofs.Opening.{read_cause, refused_opening, no_layout}
+use Rattle.run_unit.proofs.Opening.{given_after, given_later, present_after, ran_on, on_volume_then, on_halves_then, on_either}
 use Rattle.run_unit.proofs.volume.run_on_volume.Goals as goal
 
 pub returns-in-Ok-clause-volume : goal.returns-in-Ok-clause-volume
@@ -90,6 +90,12 @@ returns-in_default-clause-sound g c = λ honest files held is.
     (either_cause image c.in-Err.fault files c.in_default.not-Layout (c.in-Err.ensures.opens honest files) (c.in-Err.ensures.foreign honest) held)
     (ap Refused (sym c.of_opening.ensures) ∙ is)
 
+pub returns-in_default-clause-volume : goal.returns-in_default-clause-volume
+returns-in_default-clause-volume g c = λ honest files held run runs.
+    Unopened (refused_opening c.in-Err.fault c.of_opening.result c.of_opening.ensures)
+    (c.open.ensures.moments honest) (c.in-Err.ensures.unwritten honest)
+
 pub returns-in_default-clause-halves : goal.returns-in_default-clause-halves
 returns-in_default-clause-halves g c = λ honest halves run runs.
-    NotOpened (subst (λ (refusal : Refusal). IsUnopened (Refused refusal)) (sym c.of_opening.ensures) (unopened c.in-Err.fault)) (c.open.ensures.moments honest)
+    NotOpened (refused_opening c.in-Err.fault c.of_opening.result c.of_opening.ensures)
+    (c.open.ensures.moments honest) (c.in-Err.ensures.unwritten honest)

@@ -1,0 +1,24 @@
+//! `compile SOURCE IMAGE`.
+
+use crate::host_file::{read_source, write_image};
+use crate::verdict::Verdict;
+use run_unit::compile;
+use std::rt::Files;
+
+/// Compiles the source at one path and writes its image to the other. The image is complete before its file is opened, so a
+/// refused source leaves that file as it was.
+pub fn compile_file<R: Files + AllocGlobal>(rt: &R, source: &str, image: &str) -> Verdict {
+    match image_of(rt, source) {
+        Ok(bytes) => match write_image(rt, image, bytes.as_slice()) {
+            Ok(()) => Verdict::Done,
+            Err(verdict) => verdict,
+        },
+        Err(verdict) => verdict,
+    }
+}
+
+/// The image of a source file.
+fn image_of<R: Files + AllocGlobal>(rt: &R, source: &str) -> Result<Vec<u8>, Verdict> {
+    let text = read_source(rt, source)?;
+    compile(rt.alloc(), text.as_slice()).map_err(Verdict::refusing)
+}

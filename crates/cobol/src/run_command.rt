@@ -1,0 +1,62 @@
+//! `run IMAGE VOLUME [--budget N] [--date YYMMDD]`.
+
+ghost use Rattle.std.specs.Prelude.{All};
+ghost use Rattle.machine.specs.Ends.{IsDigit};
+
+use crate::host_file::read_image;
+use crate::host_station::HostStation;
+use crate::verdict::Verdict;
+use crate::words::RunRequest;
+use host_volume::{Access, HostDevice, HostVolume};
+use run_unit::run_volume;
+use station::Device;
+use std::alloc::Global;
+use std::fs::File;
+use std::io::{BufRead, Write};
+use std::rt::Files;
+
+/// Runs an image over a volume. Both host files are opened before the image is examined.
+pub fn run<R, C, O>(rt: &R, request: RunRequest, console: C, out: O) -> Verdict
+where
+    R: Files<File = File> + AllocGlobal,
+    C: BufRead + Drop,
+    O: Write + Drop,
+    requires { All IsDigit request.day }
+{
+    let image = match read_image(rt, request.image) {
+        Ok(image) => image,
+        Err(verdict) => return verdict,
+    };
+    let volume = match HostVolume::open(rt, request.volume, Access::ReadWrite) {
+        Ok(volume) => HostDevice::new(volume),
+        Err(error) => return Verdict::refusing_host_file(error),
+    };
+    match HostStation::new(rt.alloc(), console, out, volume) {
+        Ok(station) => run_on(
+            rt.alloc(),
+            image.as_slice(),
+            station,
+            request.day,
+            request.budget,
+        ),
+        Err(_) => Verdict::memory(),
+    }
+}
+
+/// Runs an image over a station, and flushes what it shows.
+pub fn run_on<C, O, D>(
+    alloc: Global,
+    image: &[u8],
+    mut station: HostStation<C, O, D>,
+    day: [u8; 6],
+    budget: u64,
+) -> Verdict
+where
+    C: BufRead + Drop,
+    O: Write + Drop,
+    D: Device + Drop,
+    requires { All IsDigit day }
+{
+    let ended = run_volume(alloc, image, &mut station, day, budget);
+    Verdict::after(ended, station.flush())
+}

@@ -1,0 +1,18 @@
+//! A volume in a file of the host: opened and locked, or made of zeros; and a device over it.
+//!
+//! No contract can say what a host file holds. Each call is safe for every file, and the device counts its failures.
+#![tactic(auto)]
+
+mod device;
+mod host_file;
+mod new_volume;
+mod roots;
+mod volume;
+
+pub use device::HostDevice;
+pub use new_volume::NewVolume;
+pub use roots::rewrite_roots;
+pub use volume::{Access, HostVolume};
+
+#[cfg(test)]
+mod tests;

@@ -1,0 +1,36 @@
+//! The two roots of a volume, written again.
+
+ghost use Rattle.std.specs.Prelude.{◌≡◌, ◌<◌, OnOk, IsErr};
+ghost use Rattle.station.specs.Calls.{OnlyWrites};
+ghost use Rattle.host_volume.specs.Roots.{rewritten, roots_rewritten};
+
+use station::{Device, DeviceError};
+
+/// Reads each root, writes the same bytes back and syncs them. A root that only the cache of the host has is on the disk then.
+pub fn rewrite_roots<D: Device>(device: &mut D) -> Result<(), DeviceError>
+    ensures only { OnlyWrites D.Device (IsErr result) device.old device.new }
+    ensures state { D.is_honest device.old →
+        OnOk result (D.state device.new ≡ roots_rewritten (D.sectors device.old) (D.state device.old)) }
+{
+    let sectors = device.count();
+    if sectors > 0 {
+        rewrite(device, 0)?;
+    }
+    if sectors > 1 {
+        rewrite(device, 1)?;
+    }
+    Ok(())
+}
+
+/// Reads a sector, writes the same bytes back and syncs them.
+fn rewrite<D: Device>(device: &mut D, sector: u32) -> Result<(), DeviceError>
+    requires { sector < D.sectors device.old }
+    ensures only { OnlyWrites D.Device (IsErr result) device.old device.new }
+    ensures state { D.is_honest device.old →
+        OnOk result (D.state device.new ≡ rewritten (D.state device.old) sector) }
+{
+    let mut bytes = [0; 4096];
+    device.read(sector, &mut bytes)?;
+    device.write(sector, &bytes)?;
+    device.sync()
+}

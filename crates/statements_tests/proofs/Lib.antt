@@ -1,2 +1,0 @@
--- Definitions on small cases
-pub mod Examples

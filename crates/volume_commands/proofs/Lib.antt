@@ -1,0 +1,5 @@
+pub mod Beginnings
+pub mod Lines
+pub mod Reading
+pub mod Faithful
+mod Examples

@@ -1,0 +1,22 @@
+       IDENTIFICATION DIVISION.
+       PROGRAM-ID. P.
+       DATA DIVISION.
+       WORKING-STORAGE SECTION.
+       01  FIRST-GROUP.
+           05  TWICE PIC XX.
+           05  PART PIC 99 OCCURS 3 TIMES.
+       01  SECOND-GROUP.
+           05  LETTERS PIC A(3).
+       77  DIGIT PIC 9.
+       77  EDITED PIC Z9.
+       77  SPACED PIC XBX.
+       PROCEDURE DIVISION.
+       MAIN.
+           DISPLAY "KEPT".
+           STOP RUN.
+       KEPT-ONES.
+           ACCEPT FIRST-GROUP.
+           ACCEPT LETTERS.
+           ACCEPT PART (DIGIT).
+           ACCEPT EDITED FROM DATE.
+           ACCEPT SPACED FROM DATE.

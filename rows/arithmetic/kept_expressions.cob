@@ -1,0 +1,15 @@
+       IDENTIFICATION DIVISION.
+       PROGRAM-ID. P.
+       DATA DIVISION.
+       WORKING-STORAGE SECTION.
+       01  FIRST-GROUP.
+           05  PART PIC 99 OCCURS 3 TIMES.
+       77  DECIMAL PIC 9V9.
+       77  DIGIT PIC 9.
+       77  EDITED PIC Z9.
+       PROCEDURE DIVISION.
+       MAIN.
+           DISPLAY "KEPT".
+           STOP RUN.
+       KEPT-ONES.
+           COMPUTE EDITED DECIMAL = DIGIT + DECIMAL * - PART (1) + ZERO.

@@ -1,0 +1,15 @@
+       IDENTIFICATION DIVISION.
+       PROGRAM-ID. P.
+       DATA DIVISION.
+       WORKING-STORAGE SECTION.
+       77  DECIMAL PIC 9V9.
+       77  DIGIT PIC 9.
+       PROCEDURE DIVISION.
+       MAIN.
+           DISPLAY "KEPT".
+           STOP RUN.
+       KEPT-ONES.
+           ADD DIGIT TO DECIMAL
+               ON SIZE ERROR DISPLAY DIGIT
+               NOT ON SIZE ERROR MOVE DIGIT TO DECIMAL
+           END-ADD.

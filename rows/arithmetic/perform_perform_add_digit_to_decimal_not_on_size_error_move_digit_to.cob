@@ -1,0 +1,17 @@
+       IDENTIFICATION DIVISION.
+       PROGRAM-ID. P.
+       DATA DIVISION.
+       WORKING-STORAGE SECTION.
+       01  SECOND-GROUP.
+           05  LETTERS PIC A(3).
+       77  DECIMAL PIC 9V9.
+       77  DIGIT PIC 9.
+       PROCEDURE DIVISION.
+       MAIN.
+           PERFORM PERFORM
+               CONTINUE
+               ADD DIGIT TO DECIMAL
+               NOT ON SIZE ERROR MOVE DIGIT TO LETTERS
+           END-ADD
+           END-PERFORM
+           END-PERFORM.

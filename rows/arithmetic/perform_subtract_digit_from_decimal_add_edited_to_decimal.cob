@@ -1,0 +1,13 @@
+       IDENTIFICATION DIVISION.
+       PROGRAM-ID. P.
+       DATA DIVISION.
+       WORKING-STORAGE SECTION.
+       77  DECIMAL PIC 9V9.
+       77  DIGIT PIC 9.
+       77  EDITED PIC Z9.
+       PROCEDURE DIVISION.
+       MAIN.
+           PERFORM
+               SUBTRACT DIGIT FROM DECIMAL
+               ADD EDITED TO DECIMAL
+           END-PERFORM.

@@ -1,0 +1,7 @@
+       IDENTIFICATION DIVISION.
+       PROGRAM-ID. HELLO.
+       PROCEDURE DIVISION.
+           PERFORM 012 TIMES
+              DISPLAY "A" NO ADVANCING
+           END-PERFORM
+           STOP RUN.

@@ -1,0 +1,7 @@
+       IDENTIFICATION DIVISION.
+       PROGRAM-ID. HELLO.
+       PROCEDURE DIVISION.
+           PERFORM 0 TIMES
+              DISPLAY "A" NO ADVANCING
+           END-PERFORM
+           STOP RUN.

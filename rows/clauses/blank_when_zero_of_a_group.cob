@@ -1,0 +1,9 @@
+       IDENTIFICATION DIVISION.
+       PROGRAM-ID. P.
+       DATA DIVISION.
+       WORKING-STORAGE SECTION.
+       01  G BLANK WHEN ZERO.
+           05  A PIC 9.
+       PROCEDURE DIVISION.
+           DISPLAY "KEPT".
+           STOP RUN.

@@ -1,0 +1,17 @@
+       IDENTIFICATION DIVISION.
+       PROGRAM-ID. P.
+       DATA DIVISION.
+       WORKING-STORAGE SECTION.
+       01  G.
+           05  B PIC X(4).
+           05  A OCCURS 2 TIMES COMP REDEFINES B PIC 9(4).
+           05  C OCCURS 2 VALUE 212 PACKED-DECIMAL PIC 9(3).
+           05  D BLANK ZERO SYNC PIC Z9 DISPLAY.
+           05  E VALUE "X" JUST SYNC PIC X(2).
+           05  F LEADING SEPARATE VALUE -12 PIC S99 DISPLAY.
+       PROCEDURE DIVISION.
+           MOVE 0 TO D.
+           MOVE 8481 TO A (1).
+           MOVE 8739 TO A (2).
+           DISPLAY G.
+           STOP RUN.

@@ -1,0 +1,8 @@
+       IDENTIFICATION DIVISION.
+       PROGRAM-ID. P.
+       DATA DIVISION.
+       WORKING-STORAGE SECTION.
+       01  A.
+       PROCEDURE DIVISION.
+           DISPLAY "KEPT".
+           STOP RUN.

@@ -1,0 +1,9 @@
+       IDENTIFICATION DIVISION.
+       PROGRAM-ID. P.
+       DATA DIVISION.
+       WORKING-STORAGE SECTION.
+       01  G.
+           05  A PIC X OCCURS 65536 TIMES.
+       PROCEDURE DIVISION.
+           DISPLAY "KEPT".
+           STOP RUN.

@@ -1,0 +1,10 @@
+       IDENTIFICATION DIVISION.
+       PROGRAM-ID. P.
+       DATA DIVISION.
+       WORKING-STORAGE SECTION.
+       01  G.
+           05  A PIC X OCCURS 3 VALUE "A".
+           05  B PIC X OCCURS 10 TIMES VALUE "B".
+       PROCEDURE DIVISION.
+           DISPLAY G.
+           STOP RUN.

@@ -1,0 +1,10 @@
+       IDENTIFICATION DIVISION.
+       PROGRAM-ID. P.
+       DATA DIVISION.
+       WORKING-STORAGE SECTION.
+       01  G SIGN IS TRAILING SEPARATE.
+           05  A PIC 9.
+           05  B PIC X.
+       PROCEDURE DIVISION.
+           DISPLAY "KEPT".
+           STOP RUN.

@@ -1,0 +1,12 @@
+       IDENTIFICATION DIVISION.
+       PROGRAM-ID. P.
+       DATA DIVISION.
+       WORKING-STORAGE SECTION.
+       01  A VALUE 'ab' PIC XX.
+       01  B PIC S9 VALUE IS -5.
+       01  C PIC 99 VALUE ZEROS.
+       01  D PIC X(3) VALUE ALL '*'.
+       01  E PIC X(3) VALUE IS SPACES.
+       PROCEDURE DIVISION.
+           DISPLAY A B C D E "/".
+           STOP RUN.

@@ -1,0 +1,9 @@
+       IDENTIFICATION DIVISION.
+       PROGRAM-ID. P.
+       DATA DIVISION.
+       WORKING-STORAGE SECTION.
+       77  A PIC S9V99.
+           88  C VALUES 1.01 THRU 1.
+       PROCEDURE DIVISION.
+           DISPLAY "KEPT".
+           STOP RUN.

@@ -1,0 +1,9 @@
+       IDENTIFICATION DIVISION.
+       PROGRAM-ID. P.
+       DATA DIVISION.
+       WORKING-STORAGE SECTION.
+       77  A PIC X(3).
+           88  C VALUES "A" THRU SPACE.
+       PROCEDURE DIVISION.
+           DISPLAY "KEPT".
+           STOP RUN.

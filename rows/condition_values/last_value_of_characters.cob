@@ -1,0 +1,9 @@
+       IDENTIFICATION DIVISION.
+       PROGRAM-ID. P.
+       DATA DIVISION.
+       WORKING-STORAGE SECTION.
+       77  A PIC 9.
+           88  C VALUES 1 THRU "5".
+       PROCEDURE DIVISION.
+           DISPLAY "KEPT".
+           STOP RUN.

@@ -1,0 +1,10 @@
+       IDENTIFICATION DIVISION.
+       PROGRAM-ID. P.
+       DATA DIVISION.
+       WORKING-STORAGE SECTION.
+       77  A PIC X(3).
+           88  C VALUES "AB" THRU "ABA" LOW-VALUE THRU HIGH-VALUE
+               "A" THRU ALL "B" ZERO THRU "00".
+       PROCEDURE DIVISION.
+           DISPLAY "KEPT".
+           STOP RUN.

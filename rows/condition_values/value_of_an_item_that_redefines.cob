@@ -1,0 +1,11 @@
+       IDENTIFICATION DIVISION.
+       PROGRAM-ID. P.
+       DATA DIVISION.
+       WORKING-STORAGE SECTION.
+       01  G.
+           05  A PIC X.
+           05  B PIC X REDEFINES A.
+           88  C VALUE "Q".
+       PROCEDURE DIVISION.
+           DISPLAY "KEPT".
+           STOP RUN.

@@ -1,0 +1,10 @@
+       IDENTIFICATION DIVISION.
+       PROGRAM-ID. P.
+       DATA DIVISION.
+       WORKING-STORAGE SECTION.
+       77  A PIC 9.
+           88  C VALUES 1 2 THRU 5.
+           88  D VALUES ZERO THRU 9.
+       PROCEDURE DIVISION.
+           DISPLAY "KEPT".
+           STOP RUN.

@@ -1,0 +1,7 @@
+       IDENTIFICATION DIVISION.
+       PROGRAM-ID. P.
+       PROCEDURE DIVISION.
+       MAIN.
+           IF 1 < 2
+               CONTINUE
+           END-IF.

@@ -1,0 +1,10 @@
+       IDENTIFICATION DIVISION.
+       PROGRAM-ID. P.
+       DATA DIVISION.
+       WORKING-STORAGE SECTION.
+       77  BINARY-N PIC 99 COMP.
+       PROCEDURE DIVISION.
+       MAIN.
+           IF BINARY-N < SPACE
+               CONTINUE
+           END-IF.

@@ -1,0 +1,10 @@
+       IDENTIFICATION DIVISION.
+       PROGRAM-ID. P.
+       DATA DIVISION.
+       WORKING-STORAGE SECTION.
+       77  DECIMAL PIC 9V9.
+       PROCEDURE DIVISION.
+       MAIN.
+           IF DECIMAL < ALL "A"
+               CONTINUE
+           END-IF.

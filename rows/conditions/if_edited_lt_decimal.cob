@@ -1,0 +1,11 @@
+       IDENTIFICATION DIVISION.
+       PROGRAM-ID. P.
+       DATA DIVISION.
+       WORKING-STORAGE SECTION.
+       77  DECIMAL PIC 9V9.
+       77  EDITED PIC Z9.
+       PROCEDURE DIVISION.
+       MAIN.
+           IF EDITED < DECIMAL
+               CONTINUE
+           END-IF.

@@ -1,0 +1,13 @@
+       IDENTIFICATION DIVISION.
+       PROGRAM-ID. P.
+       DATA DIVISION.
+       WORKING-STORAGE SECTION.
+       01  FIRST-GROUP.
+           05  TWICE PIC XX.
+           05  PART PIC 99 OCCURS 3 TIMES.
+       77  DECIMAL PIC 9V9.
+       PROCEDURE DIVISION.
+       MAIN.
+           IF FIRST-GROUP < DECIMAL
+               CONTINUE
+           END-IF.

@@ -1,0 +1,13 @@
+       IDENTIFICATION DIVISION.
+       PROGRAM-ID. P.
+       DATA DIVISION.
+       WORKING-STORAGE SECTION.
+       01  FIRST-GROUP.
+           05  PART PIC 99 OCCURS 3 TIMES.
+               88  FULL VALUE 99.
+       77  DECIMAL PIC 9V9.
+       PROCEDURE DIVISION.
+       MAIN.
+           IF FULL (DECIMAL)
+               CONTINUE
+           END-IF.

@@ -1,0 +1,7 @@
+       IDENTIFICATION DIVISION.
+       PROGRAM-ID. P.
+       PROCEDURE DIVISION.
+       MAIN.
+           IF NOT NOTHING
+               CONTINUE
+           END-IF.

@@ -1,0 +1,12 @@
+       IDENTIFICATION DIVISION.
+       PROGRAM-ID. P.
+       DATA DIVISION.
+       WORKING-STORAGE SECTION.
+       77  DECIMAL PIC 9V9.
+           88  SMALL VALUES 0 THRU 1.
+       77  DIGIT PIC 9.
+       PROCEDURE DIVISION.
+       MAIN.
+           IF SMALL AND DIGIT < DECIMAL AND NOTHING
+               CONTINUE
+           END-IF.

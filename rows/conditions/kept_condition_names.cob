@@ -1,0 +1,36 @@
+       IDENTIFICATION DIVISION.
+       PROGRAM-ID. P.
+       DATA DIVISION.
+       WORKING-STORAGE SECTION.
+       01  FIRST-GROUP.
+           05  TWICE PIC XX.
+               88  BLANKS VALUE SPACE.
+           05  PART PIC 99 OCCURS 3 TIMES.
+               88  FULL VALUE 99.
+       01  SECOND-GROUP.
+           05  TWICE PIC X(19).
+               88  BLANKS VALUE SPACE.
+           05  LETTERS PIC A(3).
+       77  DECIMAL PIC 9V9.
+           88  SMALL VALUES 0 THRU 1.
+       77  DIGIT PIC 9.
+       PROCEDURE DIVISION.
+       MAIN.
+           DISPLAY "KEPT".
+           STOP RUN.
+       KEPT-ONES.
+           IF SMALL
+               CONTINUE
+           END-IF.
+           IF BLANKS OF FIRST-GROUP
+               CONTINUE
+           END-IF.
+           IF BLANKS OF TWICE OF SECOND-GROUP
+               CONTINUE
+           END-IF.
+           IF FULL (1)
+               CONTINUE
+           END-IF.
+           IF FULL (DIGIT + 1)
+               CONTINUE
+           END-IF.

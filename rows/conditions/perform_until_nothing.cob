@@ -1,0 +1,7 @@
+       IDENTIFICATION DIVISION.
+       PROGRAM-ID. P.
+       PROCEDURE DIVISION.
+       MAIN.
+           PERFORM UNTIL NOTHING
+               CONTINUE
+           END-PERFORM.

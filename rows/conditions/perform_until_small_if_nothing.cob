@@ -1,0 +1,14 @@
+       IDENTIFICATION DIVISION.
+       PROGRAM-ID. P.
+       DATA DIVISION.
+       WORKING-STORAGE SECTION.
+       77  DECIMAL PIC 9V9.
+           88  SMALL VALUES 0 THRU 1.
+       PROCEDURE DIVISION.
+       MAIN.
+           PERFORM UNTIL SMALL
+               CONTINUE
+               IF NOTHING
+               CONTINUE
+           END-IF
+           END-PERFORM.

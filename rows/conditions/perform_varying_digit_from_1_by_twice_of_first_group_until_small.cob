@@ -1,0 +1,18 @@
+       IDENTIFICATION DIVISION.
+       PROGRAM-ID. P.
+       DATA DIVISION.
+       WORKING-STORAGE SECTION.
+       01  FIRST-GROUP.
+           05  TWICE PIC XX.
+           05  PART PIC 99 OCCURS 3 TIMES.
+       01  SECOND-GROUP.
+           05  TWICE PIC X(19).
+       77  DECIMAL PIC 9V9.
+           88  SMALL VALUES 0 THRU 1.
+       77  DIGIT PIC 9.
+       PROCEDURE DIVISION.
+       MAIN.
+           PERFORM VARYING DIGIT FROM 1 BY TWICE OF FIRST-GROUP UNTIL
+               SMALL
+               CONTINUE
+           END-PERFORM.

@@ -1,0 +1,65 @@
+       IDENTIFICATION DIVISION.
+       PROGRAM-ID. P.
+       DATA DIVISION.
+       WORKING-STORAGE SECTION.
+       77  A PIC S9.
+       77  B PIC S9 VALUE 3.
+       77  I PIC 9 VALUE 1.
+       01  G.
+           05  T PIC 9 OCCURS 2 TIMES VALUE 4.
+           05  V OCCURS 2 TIMES.
+               10  U PIC 9 OCCURS 2 TIMES VALUE 5.
+       PROCEDURE DIVISION.
+           MOVE 9 TO T (2).
+           PERFORM ASKED VARYING A FROM -5 BY 1 UNTIL A > 5.
+           STOP RUN.
+       ASKED.
+           IF A + 1 = 2 * B DISPLAY "T" NO ADVANCING ELSE DISPLAY "F" NO
+               ADVANCING.
+           IF ZERO = A DISPLAY "T" NO ADVANCING ELSE DISPLAY "F" NO
+               ADVANCING.
+           IF A = -5 DISPLAY "T" NO ADVANCING ELSE DISPLAY "F" NO
+               ADVANCING.
+           IF A IS POSITIVE DISPLAY "T" NO ADVANCING ELSE DISPLAY "F" NO
+               ADVANCING.
+           IF A - B NOT NEGATIVE DISPLAY "T" NO ADVANCING ELSE DISPLAY
+               "F" NO ADVANCING.
+           IF A ZERO DISPLAY "T" NO ADVANCING ELSE DISPLAY "F" NO
+               ADVANCING.
+           IF A NOT ZERO DISPLAY "T" NO ADVANCING ELSE DISPLAY "F" NO
+               ADVANCING.
+           IF A IS NEGATIVE DISPLAY "T" NO ADVANCING ELSE DISPLAY "F" NO
+               ADVANCING.
+           IF - A IS NEGATIVE DISPLAY "T" NO ADVANCING ELSE DISPLAY "F"
+               NO ADVANCING.
+           IF (A + B) * 2 > B DISPLAY "T" NO ADVANCING ELSE DISPLAY "F"
+               NO ADVANCING.
+           IF (A - (B - 4)) IS POSITIVE DISPLAY "T" NO ADVANCING ELSE
+               DISPLAY "F" NO ADVANCING.
+           IF (A) = B DISPLAY "T" NO ADVANCING ELSE DISPLAY "F" NO
+               ADVANCING.
+           IF ((A) = B) DISPLAY "T" NO ADVANCING ELSE DISPLAY "F" NO
+               ADVANCING.
+           IF (A) NOT ZERO OR (B) = (A) DISPLAY "T" NO ADVANCING ELSE
+               DISPLAY "F" NO ADVANCING.
+           IF (T (I) + 1) = U (I 2) DISPLAY "T" NO ADVANCING ELSE
+               DISPLAY "F" NO ADVANCING.
+           IF (T (2) + 1) = U (1 2) DISPLAY "T" NO ADVANCING ELSE
+               DISPLAY "F" NO ADVANCING.
+           IF (A = B) DISPLAY "T" NO ADVANCING ELSE DISPLAY "F" NO
+               ADVANCING.
+           IF (A = B) AND (A = 3) DISPLAY "T" NO ADVANCING ELSE DISPLAY
+               "F" NO ADVANCING.
+           IF NOT A = B DISPLAY "T" NO ADVANCING ELSE DISPLAY "F" NO
+               ADVANCING.
+           IF NOT A NOT = B DISPLAY "T" NO ADVANCING ELSE DISPLAY "F" NO
+               ADVANCING.
+           IF A + 1 > B - 1 DISPLAY "T" NO ADVANCING ELSE DISPLAY "F" NO
+               ADVANCING.
+           IF (A + B)* 2 > 5 AND A < 4 DISPLAY "T" NO ADVANCING ELSE
+               DISPLAY "F" NO ADVANCING.
+           IF (B - A) * (A - 1) IS ZERO DISPLAY "T" NO ADVANCING ELSE
+               DISPLAY "F" NO ADVANCING.
+           IF NOT - B = A DISPLAY "T" NO ADVANCING ELSE DISPLAY "F" NO
+               ADVANCING.
+           DISPLAY " ".

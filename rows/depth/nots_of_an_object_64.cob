@@ -1,0 +1,76 @@
+       IDENTIFICATION DIVISION.
+       PROGRAM-ID. P.
+       DATA DIVISION.
+       WORKING-STORAGE SECTION.
+       77  N PIC 9 VALUE 1.
+           88  A VALUE 1.
+           88  B VALUE 1.
+       PROCEDURE DIVISION.
+           EVALUATE FALSE WHEN
+           NOT
+           NOT
+           NOT
+           NOT
+           NOT
+           NOT
+           NOT
+           NOT
+           NOT
+           NOT
+           NOT
+           NOT
+           NOT
+           NOT
+           NOT
+           NOT
+           NOT
+           NOT
+           NOT
+           NOT
+           NOT
+           NOT
+           NOT
+           NOT
+           NOT
+           NOT
+           NOT
+           NOT
+           NOT
+           NOT
+           NOT
+           NOT
+           NOT
+           NOT
+           NOT
+           NOT
+           NOT
+           NOT
+           NOT
+           NOT
+           NOT
+           NOT
+           NOT
+           NOT
+           NOT
+           NOT
+           NOT
+           NOT
+           NOT
+           NOT
+           NOT
+           NOT
+           NOT
+           NOT
+           NOT
+           NOT
+           NOT
+           NOT
+           NOT
+           NOT
+           NOT
+           NOT
+           NOT
+           NOT
+           A
+           DISPLAY "FALSE"
+           .

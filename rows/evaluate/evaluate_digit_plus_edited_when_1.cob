@@ -1,0 +1,11 @@
+       IDENTIFICATION DIVISION.
+       PROGRAM-ID. P.
+       DATA DIVISION.
+       WORKING-STORAGE SECTION.
+       77  DIGIT PIC 9.
+       77  EDITED PIC Z9.
+       PROCEDURE DIVISION.
+       MAIN.
+           EVALUATE DIGIT + EDITED
+               WHEN 1 CONTINUE
+           END-EVALUATE.

@@ -1,0 +1,13 @@
+       IDENTIFICATION DIVISION.
+       PROGRAM-ID. P.
+       DATA DIVISION.
+       WORKING-STORAGE SECTION.
+       01  FIRST-GROUP.
+           05  PART PIC 99 OCCURS 3 TIMES.
+       77  DIGIT PIC 9.
+       PROCEDURE DIVISION.
+       MAIN.
+           EVALUATE DIGIT
+               WHEN 1 CONTINUE
+               WHEN 2 DISPLAY PART
+           END-EVALUATE.

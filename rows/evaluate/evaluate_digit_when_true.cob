@@ -1,0 +1,10 @@
+       IDENTIFICATION DIVISION.
+       PROGRAM-ID. P.
+       DATA DIVISION.
+       WORKING-STORAGE SECTION.
+       77  DIGIT PIC 9.
+       PROCEDURE DIVISION.
+       MAIN.
+           EVALUATE DIGIT
+               WHEN TRUE CONTINUE
+           END-EVALUATE.

@@ -1,0 +1,7 @@
+       IDENTIFICATION DIVISION.
+       PROGRAM-ID. P.
+       PROCEDURE DIVISION.
+       MAIN.
+           EVALUATE NOTHING
+               WHEN 1 ALSO 2 CONTINUE
+           END-EVALUATE.

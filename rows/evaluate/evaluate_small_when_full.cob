@@ -1,0 +1,14 @@
+       IDENTIFICATION DIVISION.
+       PROGRAM-ID. P.
+       DATA DIVISION.
+       WORKING-STORAGE SECTION.
+       01  FIRST-GROUP.
+           05  PART PIC 99 OCCURS 3 TIMES.
+               88  FULL VALUE 99.
+       77  DECIMAL PIC 9V9.
+           88  SMALL VALUES 0 THRU 1.
+       PROCEDURE DIVISION.
+       MAIN.
+           EVALUATE SMALL
+               WHEN FULL CONTINUE
+           END-EVALUATE.

@@ -1,0 +1,13 @@
+       IDENTIFICATION DIVISION.
+       PROGRAM-ID. P.
+       DATA DIVISION.
+       WORKING-STORAGE SECTION.
+       77  DECIMAL PIC 9V9.
+           88  SMALL VALUES 0 THRU 1.
+       77  DIGIT PIC 9.
+           88  ONE VALUE 1.
+       PROCEDURE DIVISION.
+       MAIN.
+           EVALUATE SMALL
+               WHEN ONE THRU ONE CONTINUE
+           END-EVALUATE.

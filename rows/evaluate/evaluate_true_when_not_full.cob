@@ -1,0 +1,12 @@
+       IDENTIFICATION DIVISION.
+       PROGRAM-ID. P.
+       DATA DIVISION.
+       WORKING-STORAGE SECTION.
+       01  FIRST-GROUP.
+           05  PART PIC 99 OCCURS 3 TIMES.
+               88  FULL VALUE 99.
+       PROCEDURE DIVISION.
+       MAIN.
+           EVALUATE TRUE
+               WHEN NOT FULL CONTINUE
+           END-EVALUATE.

@@ -1,0 +1,7 @@
+       IDENTIFICATION DIVISION.
+       PROGRAM-ID. P.
+       PROCEDURE DIVISION.
+       MAIN.
+           EVALUATE TRUE
+               WHEN NOTHING CONTINUE
+           END-EVALUATE.

@@ -1,0 +1,14 @@
+       IDENTIFICATION DIVISION.
+       PROGRAM-ID. P.
+       DATA DIVISION.
+       WORKING-STORAGE SECTION.
+       77  DECIMAL PIC 9V9.
+       77  DIGIT PIC 9.
+       PROCEDURE DIVISION.
+       MAIN.
+           DISPLAY "KEPT".
+           STOP RUN.
+       KEPT-ONES.
+           EVALUATE DIGIT ALSO DECIMAL
+               WHEN 1 ALSO 2 CONTINUE
+           END-EVALUATE.

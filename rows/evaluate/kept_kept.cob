@@ -1,0 +1,46 @@
+       IDENTIFICATION DIVISION.
+       PROGRAM-ID. P.
+       DATA DIVISION.
+       WORKING-STORAGE SECTION.
+       77  DECIMAL PIC 9V9.
+           88  SMALL VALUES 0 THRU 1.
+       77  DIGIT PIC 9.
+           88  ONE VALUE 1.
+       PROCEDURE DIVISION.
+       MAIN.
+           DISPLAY "KEPT".
+           STOP RUN.
+       KEPT-ONES.
+           EVALUATE DIGIT
+               WHEN 1 CONTINUE
+           END-EVALUATE.
+           EVALUATE DIGIT
+               WHEN 1
+               WHEN NOT 3 THRU DECIMAL CONTINUE
+           END-EVALUATE.
+           EVALUATE DIGIT + DECIMAL
+               WHEN DECIMAL THRU DIGIT * DECIMAL CONTINUE
+           END-EVALUATE.
+           EVALUATE SMALL
+               WHEN TRUE CONTINUE
+               WHEN NOT ONE
+               WHEN DIGIT < DECIMAL CONTINUE
+           END-EVALUATE.
+           EVALUATE DIGIT < DECIMAL
+               WHEN FALSE CONTINUE
+               WHEN SMALL
+               WHEN DECIMAL < DIGIT CONTINUE
+           END-EVALUATE.
+           EVALUATE FALSE
+               WHEN DIGIT < DECIMAL CONTINUE
+               WHEN ONE
+               WHEN TRUE CONTINUE
+           END-EVALUATE.
+           EVALUATE DIGIT ALSO TRUE
+               WHEN 1 THRU 5 ALSO SMALL DISPLAY DIGIT
+               WHEN 7 ALSO DIGIT < DECIMAL CONTINUE
+               WHEN OTHER DISPLAY DECIMAL
+           END-EVALUATE.
+           EVALUATE DIGIT ALSO TRUE ALSO SMALL ALSO DIGIT < DECIMAL
+               WHEN ANY ALSO ANY ALSO ANY ALSO ANY CONTINUE
+           END-EVALUATE.

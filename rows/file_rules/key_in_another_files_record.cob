@@ -1,0 +1,17 @@
+       IDENTIFICATION DIVISION.
+       PROGRAM-ID. P.
+       ENVIRONMENT DIVISION.
+       INPUT-OUTPUT SECTION.
+       FILE-CONTROL.
+           SELECT F ASSIGN TO "F" INDEXED RECORD KEY KG.
+           SELECT G ASSIGN TO "G" INDEXED RECORD KEY KG.
+       DATA DIVISION.
+       FILE SECTION.
+       FD  F.
+       01  RF.
+           05  KF PIC X.
+       FD  G.
+       01  RG.
+           05  KG PIC X.
+       PROCEDURE DIVISION.
+           STOP RUN.

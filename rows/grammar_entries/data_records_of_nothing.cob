@@ -1,0 +1,7 @@
+       IDENTIFICATION DIVISION.
+       PROGRAM-ID. P.
+       DATA DIVISION.
+       FILE SECTION.
+       FD F DATA RECORDS.
+       PROCEDURE DIVISION.
+           STOP RUN.

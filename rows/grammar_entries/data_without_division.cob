@@ -1,0 +1,5 @@
+       IDENTIFICATION DIVISION.
+       PROGRAM-ID. P.
+       DATA
+       PROCEDURE DIVISION.
+           STOP RUN.

@@ -1,0 +1,8 @@
+       IDENTIFICATION DIVISION.
+       PROGRAM-ID. P.
+       DATA DIVISION.
+       FILE SECTION.
+       FD F.
+       WORKING-STORAGE SECTION.
+       PROCEDURE DIVISION.
+           STOP RUN.

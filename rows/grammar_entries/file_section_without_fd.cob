@@ -1,0 +1,6 @@
+       IDENTIFICATION DIVISION.
+       PROGRAM-ID. P.
+       DATA DIVISION.
+       FILE SECTION.
+       PROCEDURE DIVISION.
+           STOP RUN.

@@ -1,0 +1,7 @@
+       IDENTIFICATION DIVISION.
+       PROGRAM-ID. P.
+       DATA DIVISION.
+       FILE SECTION.
+       FD F LABEL RECORD.
+       PROCEDURE DIVISION.
+           STOP RUN.

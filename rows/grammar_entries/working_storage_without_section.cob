@@ -1,0 +1,7 @@
+       IDENTIFICATION DIVISION.
+       PROGRAM-ID. P.
+       DATA DIVISION.
+       WORKING-STORAGE.
+       01 A.
+       PROCEDURE DIVISION.
+           STOP RUN.

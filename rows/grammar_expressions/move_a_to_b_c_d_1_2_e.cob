@@ -1,0 +1,4 @@
+       IDENTIFICATION DIVISION.
+       PROGRAM-ID. P.
+       PROCEDURE DIVISION.
+           MOVE A TO B , C D (1) 2 E .

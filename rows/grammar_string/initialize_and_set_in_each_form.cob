@@ -1,0 +1,57 @@
+       IDENTIFICATION DIVISION.
+       PROGRAM-ID. P.
+       DATA DIVISION.
+       WORKING-STORAGE SECTION.
+       77  A PIC 9.
+           88  A-3 VALUE 3.
+       77  C PIC 9.
+           88  C-4 VALUE 4.
+       01  G.
+           05  B PIC 9 OCCURS 2 TIMES.
+               88  B-5 VALUE 5.
+           05  V OCCURS 2 TIMES.
+               10  U PIC 9 OCCURS 2 TIMES.
+                   88  U-6 VALUE 6.
+       77  I PIC 9.
+       PROCEDURE DIVISION.
+       CASES.
+           PERFORM SET-ANEW PERFORM CASE-1 DISPLAY "|".
+           PERFORM SET-ANEW PERFORM CASE-2 DISPLAY "|".
+           PERFORM SET-ANEW PERFORM CASE-3 DISPLAY "|".
+           PERFORM SET-ANEW PERFORM CASE-4 DISPLAY "|".
+           PERFORM SET-ANEW PERFORM CASE-5 DISPLAY "|".
+           PERFORM SET-ANEW PERFORM CASE-6 DISPLAY "|".
+           PERFORM SET-ANEW PERFORM CASE-7 DISPLAY "|".
+           PERFORM SET-ANEW PERFORM CASE-8 DISPLAY "|".
+           PERFORM SET-ANEW PERFORM CASE-9 DISPLAY "|".
+           PERFORM SET-ANEW PERFORM CASE-10 DISPLAY "|".
+           STOP RUN.
+       SET-ANEW.
+           MOVE 2 TO A C I.
+           MOVE ALL "2" TO G.
+       CASE-1.
+           INITIALIZE A DISPLAY A C G NO ADVANCING.
+       CASE-2.
+           INITIALIZE A C B OF G (2) DISPLAY A C G NO ADVANCING.
+       CASE-3.
+           INITIALIZE A, B (1) INITIALIZE C CONTINUE DISPLAY A C G NO
+               ADVANCING.
+       CASE-4.
+           SET A-3 TO TRUE DISPLAY A C G NO ADVANCING.
+       CASE-5.
+           SET U-6 OF G (1 I) A-3 C-4 TO TRUE DISPLAY A C G NO
+               ADVANCING.
+       CASE-6.
+           SET A-3 TO TRUE SET B-5 (1), C-4 TO TRUE EXIT DISPLAY A C G
+               NO ADVANCING.
+       CASE-7.
+           MOVE A TO B (I) C SET A-3 TO TRUE INITIALIZE B (1) DISPLAY A
+               C G NO ADVANCING.
+       CASE-8.
+           IF A = 2 SET B-5 (I) TO TRUE ELSE INITIALIZE C A END-IF EXIT
+               DISPLAY A C G NO ADVANCING.
+       CASE-9.
+           IF A = 3 SET B-5 (I) TO TRUE ELSE INITIALIZE C A END-IF EXIT
+               DISPLAY A C G NO ADVANCING.
+       CASE-10.
+           INITIALIZE G DISPLAY A C G NO ADVANCING.

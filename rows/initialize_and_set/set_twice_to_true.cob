@@ -1,0 +1,11 @@
+       IDENTIFICATION DIVISION.
+       PROGRAM-ID. P.
+       DATA DIVISION.
+       WORKING-STORAGE SECTION.
+       01  FIRST-GROUP.
+           05  TWICE PIC XX.
+       01  SECOND-GROUP.
+           05  TWICE PIC X(19).
+       PROCEDURE DIVISION.
+       MAIN.
+           SET TWICE TO TRUE.

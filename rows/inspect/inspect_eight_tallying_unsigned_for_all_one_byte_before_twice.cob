@@ -1,0 +1,15 @@
+       IDENTIFICATION DIVISION.
+       PROGRAM-ID. P.
+       DATA DIVISION.
+       WORKING-STORAGE SECTION.
+       01  WHOLE.
+           05  EIGHT PIC X(8).
+           05  TWICE PIC A(8).
+           05  ONE-BYTE PIC X.
+       77  UNSIGNED PIC 9(3).
+       01  OTHER-GROUP.
+           05  TWICE PIC X.
+       PROCEDURE DIVISION.
+       MAIN.
+           INSPECT EIGHT TALLYING UNSIGNED FOR ALL ONE-BYTE BEFORE TWICE
+           .

@@ -1,0 +1,16 @@
+       IDENTIFICATION DIVISION.
+       PROGRAM-ID. P.
+       DATA DIVISION.
+       WORKING-STORAGE SECTION.
+       01  WHOLE.
+           05  EIGHT PIC X(8).
+           05  THREES PIC X(3) OCCURS 3 TIMES.
+       77  UNSIGNED PIC 9(3).
+       PROCEDURE DIVISION.
+       S-1 SECTION.
+           PERFORM
+               INSPECT EIGHT TALLYING UNSIGNED FOR ALL 1
+               DISPLAY NOTHING
+           END-PERFORM.
+       S-2 SECTION.
+           DISPLAY THREES.

@@ -1,0 +1,9 @@
+       IDENTIFICATION DIVISION.
+       PROGRAM-ID. P.
+       DATA DIVISION.
+       WORKING-STORAGE SECTION.
+           88  C VALUE 1.
+       01  A PIC 9.
+       PROCEDURE DIVISION.
+           DISPLAY "KEPT".
+           STOP RUN.

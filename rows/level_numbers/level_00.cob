@@ -1,0 +1,9 @@
+       IDENTIFICATION DIVISION.
+       PROGRAM-ID. P.
+       DATA DIVISION.
+       WORKING-STORAGE SECTION.
+       01  A PIC X.
+           00  B PIC X.
+       PROCEDURE DIVISION.
+           DISPLAY "KEPT".
+           STOP RUN.

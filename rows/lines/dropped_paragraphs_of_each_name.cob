@@ -1,0 +1,10 @@
+       IDENTIFICATION DIVISION.
+       PROGRAM-ID. P.
+       INSTALLATION. "
+       DATE-WRITTEN. #
+           %
+       DATE-COMPILED.
+       SECURITY. ""
+       PROCEDURE DIVISION.
+           DISPLAY "SHOWN".
+           STOP RUN.

@@ -1,0 +1,2 @@
+           DISPLAY "AB
+      * COMMENT

@@ -1,0 +1,9 @@
+       IDENTIFICATION DIVISION.
+       PROGRAM-ID. P.
+       DATA DIVISION.
+       WORKING-STORAGE SECTION.
+       77  LONG-NAME PIC X VALUE "L".
+       PROCEDURE DIVISION.
+           DISPLAY LONG-
+      -NAME.
+           STOP RUN.

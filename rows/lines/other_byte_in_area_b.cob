@@ -1,0 +1,5 @@
+       A.
+       A.
+       A.
+       A.
+           DISPLAY é

@@ -1,0 +1,2 @@
+       AUTHOR.
+      X B

@@ -1,0 +1,6 @@
+       IDENTIFICATION DIVISION.
+       PROGRAM-ID. P.
+       PROCEDURE DIVISION.
+           DISPLAY UNKN
+      -    OWN.
+           STOP RUN.

@@ -1,0 +1,5 @@
+       IDENTIFICATION DIVISION.
+       PROGRAM-ID. P.
+       AUTHOR .
+       PROCEDURE DIVISION.
+           STOP RUN.

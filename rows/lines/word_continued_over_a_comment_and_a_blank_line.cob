@@ -1,0 +1,8 @@
+       IDENTIFICATION DIVISION.
+       PROGRAM-ID. P.
+       PROCEDURE DIVISION.
+           DIS
+      * COMMENT
+
+      -    PLAY "SHOWN".
+           STOP RUN.

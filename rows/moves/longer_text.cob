@@ -1,0 +1,13 @@
+       IDENTIFICATION DIVISION.
+       PROGRAM-ID. MOVES.
+       DATA DIVISION.
+       WORKING-STORAGE SECTION.
+       77  N PIC 9(3)V9.
+       77  S PIC S9(3)V99 VALUE 7.
+       77  B PIC S9(4) BINARY.
+       77  P PIC S9(5) COMP-3.
+       77  T PIC X(5).
+       77  J PIC X(5) JUSTIFIED.
+       77  E PIC ZZ9.99.
+       PROCEDURE DIVISION.
+           MOVE "ABCDEFG" TO T J DISPLAY T J.

@@ -1,0 +1,7 @@
+       IDENTIFICATION DIVISION.
+       PROGRAM-ID. P.
+       DATA DIVISION.
+       WORKING-STORAGE SECTION.
+           01 A PIC Q.
+       PROCEDURE DIVISION.
+           STOP RUN.

@@ -1,0 +1,17 @@
+       IDENTIFICATION DIVISION.
+       PROGRAM-ID. P.
+       ENVIRONMENT DIVISION.
+       INPUT-OUTPUT SECTION.
+       FILE-CONTROL.
+           SELECT F ASSIGN TO "F".
+           SELECT G ASSIGN TO "G".
+       DATA DIVISION.
+       FILE SECTION.
+       FD F.
+       01 A PIC X.
+       FD G.
+       01 B PIC Q.
+       WORKING-STORAGE SECTION.
+       01 C PIC QQ.
+       PROCEDURE DIVISION.
+           STOP RUN.

@@ -1,0 +1,16 @@
+       IDENTIFICATION DIVISION.
+       PROGRAM-ID. P.
+       DATA DIVISION.
+       WORKING-STORAGE SECTION.
+       77  DECIMAL PIC 9V9.
+       77  DIGIT PIC 9.
+       PROCEDURE DIVISION.
+       A.
+           ADD DIGIT TO DECIMAL
+               ON SIZE ERROR PERFORM B
+               NOT ON SIZE ERROR CONTINUE
+           END-ADD.
+       B.
+           ADD DIGIT TO DECIMAL
+               NOT ON SIZE ERROR PERFORM A
+           END-ADD.

@@ -1,0 +1,16 @@
+       IDENTIFICATION DIVISION.
+       PROGRAM-ID. P.
+       DATA DIVISION.
+       WORKING-STORAGE SECTION.
+       77  DECIMAL PIC 9V9.
+           88  SMALL VALUES 0 THRU 1.
+       PROCEDURE DIVISION.
+       A.
+       B.
+           PERFORM PERFORM
+               CONTINUE
+               IF SMALL
+               PERFORM B
+           END-IF
+           END-PERFORM
+           END-PERFORM.

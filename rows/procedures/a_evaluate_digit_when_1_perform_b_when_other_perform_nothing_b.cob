@@ -1,0 +1,12 @@
+       IDENTIFICATION DIVISION.
+       PROGRAM-ID. P.
+       DATA DIVISION.
+       WORKING-STORAGE SECTION.
+       77  DIGIT PIC 9.
+       PROCEDURE DIVISION.
+       A.
+           EVALUATE DIGIT
+               WHEN 1 PERFORM B
+               WHEN OTHER PERFORM NOTHING
+           END-EVALUATE.
+       B.

@@ -1,0 +1,11 @@
+       IDENTIFICATION DIVISION.
+       PROGRAM-ID. P.
+       PROCEDURE DIVISION.
+       A.
+           PERFORM B THRU D.
+       B.
+       C.
+           PERFORM E.
+       D.
+       E.
+           PERFORM C THRU D.

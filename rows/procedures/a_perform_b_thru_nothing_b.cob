@@ -1,0 +1,7 @@
+       IDENTIFICATION DIVISION.
+       PROGRAM-ID. P.
+       PROCEDURE DIVISION.
+       A.
+           CONTINUE
+               PERFORM B THRU NOTHING.
+       B.

@@ -1,0 +1,8 @@
+       IDENTIFICATION DIVISION.
+       PROGRAM-ID. P.
+       PROCEDURE DIVISION.
+       BEFORE-ALL SECTION.
+       A.
+           PERFORM T THRU S.
+       S SECTION.
+       T SECTION.

@@ -1,0 +1,19 @@
+       IDENTIFICATION DIVISION.
+       PROGRAM-ID. P.
+       DATA DIVISION.
+       WORKING-STORAGE SECTION.
+       77  DECIMAL PIC 9V9.
+           88  SMALL VALUES 0 THRU 1.
+       PROCEDURE DIVISION.
+       MAIN-PART.
+           DISPLAY "KEPT".
+           STOP RUN.
+       A.
+       B.
+           PERFORM PERFORM
+               CONTINUE
+               IF SMALL
+               PERFORM A
+           END-IF
+           END-PERFORM
+           END-PERFORM.

@@ -1,0 +1,10 @@
+       IDENTIFICATION DIVISION.
+       PROGRAM-ID. P.
+       PROCEDURE DIVISION.
+       MAIN-PART.
+           DISPLAY "KEPT".
+           STOP RUN.
+       A.
+           PERFORM B THRU C.
+       B.
+       C.

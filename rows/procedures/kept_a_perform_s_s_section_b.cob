@@ -1,0 +1,11 @@
+       IDENTIFICATION DIVISION.
+       PROGRAM-ID. P.
+       PROCEDURE DIVISION.
+       MAIN-PART SECTION.
+           DISPLAY "KEPT".
+           STOP RUN.
+       BEFORE-ALL SECTION.
+       A.
+           PERFORM S.
+       S SECTION.
+       B.

@@ -1,0 +1,14 @@
+       IDENTIFICATION DIVISION.
+       PROGRAM-ID. P.
+       DATA DIVISION.
+       WORKING-STORAGE SECTION.
+       77  DIGIT PIC 9.
+       PROCEDURE DIVISION.
+       MAIN-PART SECTION.
+           DISPLAY "KEPT".
+           STOP RUN.
+       BEFORE-ALL SECTION.
+           CONTINUE.
+       S SECTION.
+           CONTINUE.
+       DIGIT.

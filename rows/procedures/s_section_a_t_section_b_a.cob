@@ -1,0 +1,8 @@
+       IDENTIFICATION DIVISION.
+       PROGRAM-ID. P.
+       PROCEDURE DIVISION.
+       S SECTION.
+       A.
+       T SECTION.
+       B.
+       A.

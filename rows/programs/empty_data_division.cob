@@ -1,0 +1,6 @@
+       IDENTIFICATION DIVISION.
+       PROGRAM-ID. P.
+       DATA DIVISION.
+       PROCEDURE DIVISION.
+           DISPLAY "KEPT".
+           STOP RUN.

@@ -1,0 +1,6 @@
+       IDENTIFICATION DIVISION.
+       PROGRAM-ID. P.
+       ENVIRONMENT DIVISION.
+       PROCEDURE DIVISION.
+           DISPLAY "KEPT".
+           STOP RUN.

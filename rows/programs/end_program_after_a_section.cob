@@ -1,0 +1,7 @@
+       IDENTIFICATION DIVISION.
+       PROGRAM-ID. HELLO.
+       PROCEDURE DIVISION.
+       A SECTION.
+           DISPLAY 1.
+           STOP RUN.
+       END PROGRAM HELLO.

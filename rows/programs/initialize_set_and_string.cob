@@ -1,0 +1,13 @@
+       IDENTIFICATION DIVISION.
+       PROGRAM-ID. HELLO.
+       DATA DIVISION.
+       WORKING-STORAGE SECTION.
+       77  A PIC XX VALUE "AA".
+       77  B PIC X(4) VALUE "BBBB".
+       77  D PIC X VALUE "D".
+           88  C VALUE "C".
+       77  P PIC 9 VALUE 2.
+       PROCEDURE DIVISION.
+           INITIALIZE A B SET C OF D TO TRUE
+           STRING A 'X' DELIMITED BY SIZE INTO B POINTER P.
+           DISPLAY A "/" D "/" B "/" P.

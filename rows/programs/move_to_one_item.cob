@@ -1,0 +1,9 @@
+       IDENTIFICATION DIVISION.
+       PROGRAM-ID. HELLO.
+       DATA DIVISION.
+       WORKING-STORAGE SECTION.
+       77  A PIC 9 VALUE 2.
+       77  B PIC 9 VALUE 3.
+       PROCEDURE DIVISION.
+           MOVE 1 TO A.
+           DISPLAY A B.

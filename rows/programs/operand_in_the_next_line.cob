@@ -1,0 +1,8 @@
+       IDENTIFICATION DIVISION.
+       PROGRAM-ID. HELLO.
+       DATA DIVISION.
+       WORKING-STORAGE SECTION.
+       77  A PIC X VALUE "X".
+       PROCEDURE DIVISION.
+           DISPLAY 1
+       A.

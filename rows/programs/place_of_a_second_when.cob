@@ -1,0 +1,10 @@
+       IDENTIFICATION DIVISION.
+       PROGRAM-ID. HELLO.
+       DATA DIVISION.
+       WORKING-STORAGE SECTION.
+       77  N PIC 9.
+           88  ONE VALUE 1.
+       PROCEDURE DIVISION.
+           EVALUATE N ALSO N
+             WHEN 1 ALSO NOT 2
+             WHEN ANY EXIT.

@@ -1,0 +1,7 @@
+       IDENTIFICATION DIVISION.
+       PROGRAM-ID. HELLO.
+       PROCEDURE DIVISION.
+           DISPLAY 1. DISPLAY 2.
+       A SECTION.
+       B SECTION.
+           DISPLAY 3 STOP RUN.

@@ -1,0 +1,6 @@
+       IDENTIFICATION DIVISION.
+       PROGRAM-ID. HELLO.
+       PROCEDURE DIVISION.
+           DISPLAY 1. DISPLAY 2.
+           STOP RUN.
+           DISPLAY "NEVER".

@@ -1,0 +1,13 @@
+       IDENTIFICATION DIVISION.
+       PROGRAM-ID. P.
+       ENVIRONMENT DIVISION.
+       INPUT-OUTPUT SECTION.
+       FILE-CONTROL.
+           SELECT F ASSIGN TO "F".
+       DATA DIVISION.
+       FILE SECTION.
+       FD  F.
+       50  R PIC X.
+       PROCEDURE DIVISION.
+           DISPLAY "KEPT".
+           STOP RUN.

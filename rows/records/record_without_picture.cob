@@ -1,0 +1,16 @@
+       IDENTIFICATION DIVISION.
+       PROGRAM-ID. P.
+       ENVIRONMENT DIVISION.
+       INPUT-OUTPUT SECTION.
+       FILE-CONTROL.
+           SELECT F ASSIGN TO "F".
+       DATA DIVISION.
+       FILE SECTION.
+       FD  F.
+       01  R PIC X.
+       01  S.
+       WORKING-STORAGE SECTION.
+       77  A PIC X.
+       PROCEDURE DIVISION.
+           DISPLAY "KEPT".
+           STOP RUN.

@@ -1,0 +1,9 @@
+       IDENTIFICATION DIVISION.
+       PROGRAM-ID. P.
+       DATA DIVISION.
+       WORKING-STORAGE SECTION.
+       01  A PIC XX.
+       01  B PIC X(3) REDEFINES A.
+       PROCEDURE DIVISION.
+           DISPLAY "KEPT".
+           STOP RUN.

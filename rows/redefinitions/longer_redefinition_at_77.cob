@@ -1,0 +1,9 @@
+       IDENTIFICATION DIVISION.
+       PROGRAM-ID. P.
+       DATA DIVISION.
+       WORKING-STORAGE SECTION.
+       77  A PIC XX.
+       77  B PIC X(3) REDEFINES A.
+       PROCEDURE DIVISION.
+           DISPLAY "KEPT".
+           STOP RUN.

@@ -1,0 +1,11 @@
+       IDENTIFICATION DIVISION.
+       PROGRAM-ID. P.
+       DATA DIVISION.
+       WORKING-STORAGE SECTION.
+       01  G.
+           05  A PIC XX.
+           05  B PIC XX REDEFINES A.
+           05  C PIC XX REDEFINES B.
+       PROCEDURE DIVISION.
+           DISPLAY "KEPT".
+           STOP RUN.

@@ -1,0 +1,10 @@
+       IDENTIFICATION DIVISION.
+       PROGRAM-ID. P.
+       DATA DIVISION.
+       WORKING-STORAGE SECTION.
+       01  G.
+           05  A PIC X OCCURS 2 TIMES.
+           05  B PIC XX REDEFINES A.
+       PROCEDURE DIVISION.
+           DISPLAY "KEPT".
+           STOP RUN.

@@ -1,0 +1,10 @@
+       IDENTIFICATION DIVISION.
+       PROGRAM-ID. P.
+       DATA DIVISION.
+       WORKING-STORAGE SECTION.
+       01  G.
+           05  A PIC X(4).
+           05  B PIC XX OCCURS 3 TIMES REDEFINES A.
+       PROCEDURE DIVISION.
+           DISPLAY "KEPT".
+           STOP RUN.

@@ -1,0 +1,9 @@
+       IDENTIFICATION DIVISION.
+       PROGRAM-ID. P.
+       DATA DIVISION.
+       WORKING-STORAGE SECTION.
+       77  M PIC 9.
+       77  N.
+       PROCEDURE DIVISION.
+       MAIN.
+           DISPLAY NOTHING.

@@ -1,0 +1,24 @@
+       IDENTIFICATION DIVISION.
+       PROGRAM-ID. P.
+       DATA DIVISION.
+       WORKING-STORAGE SECTION.
+       01  FIRST-GROUP.
+           05  TWICE PIC XX.
+           05  PART PIC 99 OCCURS 3 TIMES.
+       01  SECOND-GROUP.
+           05  TWICE PIC X(19).
+       77  DIGIT PIC 9.
+       PROCEDURE DIVISION.
+       MAIN.
+           DISPLAY "KEPT".
+           STOP RUN.
+       KEPT-ONES.
+           DISPLAY DIGIT.
+           DISPLAY FIRST-GROUP.
+           DISPLAY 1.
+           DISPLAY TWICE OF FIRST-GROUP.
+           DISPLAY PART (1).
+           DISPLAY PART (DIGIT).
+           DISPLAY PART (DIGIT + 1).
+           DISPLAY PART (123456789012345678).
+           DISPLAY 1234567890.12345678.

@@ -1,0 +1,28 @@
+       IDENTIFICATION DIVISION.
+       PROGRAM-ID. P.
+       DATA DIVISION.
+       WORKING-STORAGE SECTION.
+       01  FIRST-GROUP.
+           05  TWICE PIC XX.
+           05  PART PIC 99 OCCURS 3 TIMES.
+       01  SECOND-GROUP.
+           05  TWICE PIC X(19).
+       77  DECIMAL PIC 9V9.
+       77  DIGIT PIC 9.
+       PROCEDURE DIVISION.
+       MAIN.
+           DISPLAY "KEPT".
+           STOP RUN.
+       KEPT-ONES.
+           MOVE DIGIT TO DECIMAL TWICE OF FIRST-GROUP.
+           DISPLAY DIGIT PART (1) SPACE.
+           PERFORM PERFORM
+               MOVE ZERO TO DIGIT
+               DISPLAY FIRST-GROUP
+           END-PERFORM
+           END-PERFORM.
+           CONTINUE.
+           MOVE 123456789012345678 TO DIGIT.
+           PERFORM
+               MOVE DIGIT TO DECIMAL
+           END-PERFORM.

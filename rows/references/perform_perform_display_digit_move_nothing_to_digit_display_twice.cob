@@ -1,0 +1,19 @@
+       IDENTIFICATION DIVISION.
+       PROGRAM-ID. P.
+       DATA DIVISION.
+       WORKING-STORAGE SECTION.
+       01  FIRST-GROUP.
+           05  TWICE PIC XX.
+       01  SECOND-GROUP.
+           05  TWICE PIC X(19).
+       77  DIGIT PIC 9.
+       PROCEDURE DIVISION.
+       MAIN.
+           PERFORM
+               CONTINUE
+           END-PERFORM.
+           PERFORM
+               DISPLAY DIGIT
+               MOVE NOTHING TO DIGIT
+           END-PERFORM.
+           DISPLAY TWICE.

@@ -1,0 +1,13 @@
+       IDENTIFICATION DIVISION.
+       PROGRAM-ID. P.
+       DATA DIVISION.
+       WORKING-STORAGE SECTION.
+       01  FIRST-GROUP.
+           05  PART PIC 99 OCCURS 3 TIMES.
+       PROCEDURE DIVISION.
+       MAIN.
+           PERFORM PERFORM
+               CONTINUE
+               DISPLAY PART
+           END-PERFORM
+           END-PERFORM.

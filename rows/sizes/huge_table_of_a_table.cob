@@ -1,0 +1,10 @@
+       IDENTIFICATION DIVISION.
+       PROGRAM-ID. P.
+       DATA DIVISION.
+       WORKING-STORAGE SECTION.
+       01  G.
+           05  A OCCURS 65535 TIMES.
+           10  B PIC X(65535) OCCURS 65535 TIMES.
+       PROCEDURE DIVISION.
+           DISPLAY "KEPT".
+           STOP RUN.

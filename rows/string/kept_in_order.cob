@@ -1,0 +1,15 @@
+       IDENTIFICATION DIVISION.
+       PROGRAM-ID. P.
+       DATA DIVISION.
+       WORKING-STORAGE SECTION.
+       01  WHOLE.
+           05  EIGHT PIC X(8).
+       PROCEDURE DIVISION.
+       MAIN.
+           DISPLAY "KEPT".
+           STOP RUN.
+       KEPT-ONES.
+           STRING EIGHT DELIMITED BY SIZE INTO EIGHT
+               ON OVERFLOW CONTINUE
+               NOT ON OVERFLOW DISPLAY EIGHT
+           END-STRING.

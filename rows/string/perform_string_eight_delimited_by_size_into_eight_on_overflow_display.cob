@@ -1,0 +1,16 @@
+       IDENTIFICATION DIVISION.
+       PROGRAM-ID. P.
+       DATA DIVISION.
+       WORKING-STORAGE SECTION.
+       01  WHOLE.
+           05  EIGHT PIC X(8).
+           05  PARTS PIC X(8) OCCURS 3 TIMES.
+       PROCEDURE DIVISION.
+       MAIN.
+           PERFORM
+               STRING EIGHT DELIMITED BY SIZE INTO EIGHT
+               ON OVERFLOW DISPLAY EIGHT
+           END-STRING
+               DISPLAY NOTHING
+           END-PERFORM.
+           DISPLAY PARTS.

@@ -1,0 +1,12 @@
+       IDENTIFICATION DIVISION.
+       PROGRAM-ID. P.
+       DATA DIVISION.
+       WORKING-STORAGE SECTION.
+       01  WHOLE.
+           05  EIGHT PIC X(8).
+       77  PLACE-1 PIC 9.
+       PROCEDURE DIVISION.
+       MAIN.
+           STRING EIGHT DELIMITED BY SIZE INTO EIGHT WITH POINTER
+               PLACE-1 (1)
+           END-STRING.

@@ -1,0 +1,13 @@
+       IDENTIFICATION DIVISION.
+       PROGRAM-ID. P.
+       DATA DIVISION.
+       WORKING-STORAGE SECTION.
+       01  WHOLE.
+           05  EIGHT PIC X(8).
+           05  TWICE PIC A(8).
+       01  OTHER-GROUP.
+           05  TWICE PIC X(10).
+       PROCEDURE DIVISION.
+       MAIN.
+           STRING EIGHT DELIMITED BY TWICE INTO EIGHT
+           END-STRING.

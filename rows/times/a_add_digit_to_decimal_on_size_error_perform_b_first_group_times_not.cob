@@ -1,0 +1,16 @@
+       IDENTIFICATION DIVISION.
+       PROGRAM-ID. P.
+       DATA DIVISION.
+       WORKING-STORAGE SECTION.
+       01  FIRST-GROUP.
+           05  TWICE PIC XX.
+           05  PART PIC 99 OCCURS 3 TIMES.
+       77  DECIMAL PIC 9V9.
+       77  DIGIT PIC 9.
+       PROCEDURE DIVISION.
+       A.
+           ADD DIGIT TO DECIMAL
+               ON SIZE ERROR PERFORM B FIRST-GROUP TIMES
+               NOT ON SIZE ERROR PERFORM NOTHING
+           END-ADD.
+       B.

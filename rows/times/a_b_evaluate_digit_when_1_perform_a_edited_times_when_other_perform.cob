@@ -1,0 +1,13 @@
+       IDENTIFICATION DIVISION.
+       PROGRAM-ID. P.
+       DATA DIVISION.
+       WORKING-STORAGE SECTION.
+       77  DIGIT PIC 9.
+       77  EDITED PIC Z9.
+       PROCEDURE DIVISION.
+       A.
+       B.
+           EVALUATE DIGIT
+               WHEN 1 PERFORM A EDITED TIMES
+               WHEN OTHER PERFORM NOTHING
+           END-EVALUATE.

@@ -1,0 +1,13 @@
+       IDENTIFICATION DIVISION.
+       PROGRAM-ID. P.
+       DATA DIVISION.
+       WORKING-STORAGE SECTION.
+       77  DECIMAL PIC 9V9.
+           88  SMALL VALUES 0 THRU 1.
+       PROCEDURE DIVISION.
+       A.
+           IF SMALL
+               PERFORM B DECIMAL TIMES
+           ELSE PERFORM NOTHING
+           END-IF.
+       B.

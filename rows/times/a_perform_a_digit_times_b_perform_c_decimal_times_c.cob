@@ -1,0 +1,12 @@
+       IDENTIFICATION DIVISION.
+       PROGRAM-ID. P.
+       DATA DIVISION.
+       WORKING-STORAGE SECTION.
+       77  DECIMAL PIC 9V9.
+       77  DIGIT PIC 9.
+       PROCEDURE DIVISION.
+       A.
+           PERFORM A DIGIT TIMES.
+       B.
+           PERFORM C DECIMAL TIMES.
+       C.

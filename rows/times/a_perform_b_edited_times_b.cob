@@ -1,0 +1,9 @@
+       IDENTIFICATION DIVISION.
+       PROGRAM-ID. P.
+       DATA DIVISION.
+       WORKING-STORAGE SECTION.
+       77  EDITED PIC Z9.
+       PROCEDURE DIVISION.
+       A.
+           PERFORM B EDITED TIMES.
+       B.

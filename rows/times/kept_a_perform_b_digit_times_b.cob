@@ -1,0 +1,12 @@
+       IDENTIFICATION DIVISION.
+       PROGRAM-ID. P.
+       DATA DIVISION.
+       WORKING-STORAGE SECTION.
+       77  DIGIT PIC 9.
+       PROCEDURE DIVISION.
+       MAIN-PART.
+           DISPLAY "KEPT".
+           STOP RUN.
+       A.
+           PERFORM B DIGIT TIMES.
+       B.

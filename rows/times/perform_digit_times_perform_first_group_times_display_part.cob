@@ -1,0 +1,17 @@
+       IDENTIFICATION DIVISION.
+       PROGRAM-ID. P.
+       DATA DIVISION.
+       WORKING-STORAGE SECTION.
+       01  FIRST-GROUP.
+           05  TWICE PIC XX.
+           05  PART PIC 99 OCCURS 3 TIMES.
+       77  DIGIT PIC 9.
+       PROCEDURE DIVISION.
+       MAIN.
+           PERFORM DIGIT TIMES
+               CONTINUE
+           END-PERFORM.
+           PERFORM FIRST-GROUP TIMES
+               CONTINUE
+           END-PERFORM.
+           DISPLAY PART.

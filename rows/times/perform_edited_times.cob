@@ -1,0 +1,10 @@
+       IDENTIFICATION DIVISION.
+       PROGRAM-ID. P.
+       DATA DIVISION.
+       WORKING-STORAGE SECTION.
+       77  EDITED PIC Z9.
+       PROCEDURE DIVISION.
+       MAIN.
+           PERFORM EDITED TIMES
+               CONTINUE
+           END-PERFORM.

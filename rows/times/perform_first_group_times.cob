@@ -1,0 +1,12 @@
+       IDENTIFICATION DIVISION.
+       PROGRAM-ID. P.
+       DATA DIVISION.
+       WORKING-STORAGE SECTION.
+       01  FIRST-GROUP.
+           05  TWICE PIC XX.
+           05  PART PIC 99 OCCURS 3 TIMES.
+       PROCEDURE DIVISION.
+       MAIN.
+           PERFORM FIRST-GROUP TIMES
+               CONTINUE
+           END-PERFORM.

@@ -1,0 +1,11 @@
+       IDENTIFICATION DIVISION.
+       PROGRAM-ID. P.
+       DATA DIVISION.
+       WORKING-STORAGE SECTION.
+       01  SECOND-GROUP.
+           05  LETTERS PIC A(3).
+       PROCEDURE DIVISION.
+       MAIN.
+           PERFORM LETTERS TIMES
+               CONTINUE
+           END-PERFORM.

@@ -1,0 +1,7 @@
+       IDENTIFICATION DIVISION.
+       PROGRAM-ID. P.
+       PROCEDURE DIVISION.
+       MAIN.
+           PERFORM NOTHING TIMES
+               CONTINUE
+           END-PERFORM.

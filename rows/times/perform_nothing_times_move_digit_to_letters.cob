@@ -1,0 +1,12 @@
+       IDENTIFICATION DIVISION.
+       PROGRAM-ID. P.
+       DATA DIVISION.
+       WORKING-STORAGE SECTION.
+       01  SECOND-GROUP.
+           05  LETTERS PIC A(3).
+       77  DIGIT PIC 9.
+       PROCEDURE DIVISION.
+       MAIN.
+           PERFORM NOTHING TIMES
+               MOVE DIGIT TO LETTERS
+           END-PERFORM.

@@ -1,0 +1,11 @@
+       IDENTIFICATION DIVISION.
+       PROGRAM-ID. P.
+       DATA DIVISION.
+       WORKING-STORAGE SECTION.
+       01  FIRST-GROUP.
+           05  PART PIC 99 OCCURS 3 TIMES.
+       PROCEDURE DIVISION.
+       MAIN.
+           PERFORM PART (1 1) TIMES
+               CONTINUE
+           END-PERFORM.

@@ -1,0 +1,11 @@
+       IDENTIFICATION DIVISION.
+       PROGRAM-ID. P.
+       DATA DIVISION.
+       WORKING-STORAGE SECTION.
+       01  THIRD-GROUP.
+           05  RATE PIC 9V9 OCCURS 2 TIMES.
+       PROCEDURE DIVISION.
+       MAIN.
+           PERFORM RATE (1) TIMES
+               CONTINUE
+           END-PERFORM.

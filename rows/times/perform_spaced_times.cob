@@ -1,0 +1,10 @@
+       IDENTIFICATION DIVISION.
+       PROGRAM-ID. P.
+       DATA DIVISION.
+       WORKING-STORAGE SECTION.
+       77  SPACED PIC XBX.
+       PROCEDURE DIVISION.
+       MAIN.
+           PERFORM SPACED TIMES
+               CONTINUE
+           END-PERFORM.

@@ -1,0 +1,6 @@
+       IDENTIFICATION DIVISION.
+       PROGRAM-ID. FAULTY.
+       PROCEDURE DIVISION.
+       MAIN.
+           DISPLAY ITEM.
+           STOP RUN.

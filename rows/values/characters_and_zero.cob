@@ -1,0 +1,10 @@
+       IDENTIFICATION DIVISION.
+       PROGRAM-ID. P.
+       DATA DIVISION.
+       WORKING-STORAGE SECTION.
+       77  A PIC XX VALUE "AB".
+       77  B PIC XX VALUE "A".
+       77  C PIC X VALUE ZERO.
+       PROCEDURE DIVISION.
+           DISPLAY "KEPT".
+           STOP RUN.

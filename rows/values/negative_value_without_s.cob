@@ -1,0 +1,8 @@
+       IDENTIFICATION DIVISION.
+       PROGRAM-ID. P.
+       DATA DIVISION.
+       WORKING-STORAGE SECTION.
+       77  A PIC 9 VALUE -1.
+       PROCEDURE DIVISION.
+           DISPLAY "KEPT".
+           STOP RUN.

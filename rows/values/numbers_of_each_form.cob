@@ -1,0 +1,10 @@
+       IDENTIFICATION DIVISION.
+       PROGRAM-ID. P.
+       DATA DIVISION.
+       WORKING-STORAGE SECTION.
+       77  A PIC 9 VALUE 1.
+       77  B PIC 9V9 VALUE 001.500.
+       77  C PIC S9 VALUE -1.
+       PROCEDURE DIVISION.
+           DISPLAY "KEPT".
+           STOP RUN.

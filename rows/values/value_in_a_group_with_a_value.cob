@@ -1,0 +1,9 @@
+       IDENTIFICATION DIVISION.
+       PROGRAM-ID. P.
+       DATA DIVISION.
+       WORKING-STORAGE SECTION.
+       01  G VALUE "Q".
+           05  A PIC X VALUE "Q".
+       PROCEDURE DIVISION.
+           DISPLAY "KEPT".
+           STOP RUN.

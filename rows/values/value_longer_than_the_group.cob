@@ -1,0 +1,9 @@
+       IDENTIFICATION DIVISION.
+       PROGRAM-ID. P.
+       DATA DIVISION.
+       WORKING-STORAGE SECTION.
+       01  G VALUE "QQ".
+           05  A PIC X.
+       PROCEDURE DIVISION.
+           DISPLAY "KEPT".
+           STOP RUN.

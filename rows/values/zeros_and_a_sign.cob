@@ -1,0 +1,10 @@
+       IDENTIFICATION DIVISION.
+       PROGRAM-ID. P.
+       DATA DIVISION.
+       WORKING-STORAGE SECTION.
+       77  A PIC 9 VALUE -0.
+       77  B PIC 9 VALUE ZERO.
+       77  C PIC 9 VALUE +1.
+       PROCEDURE DIVISION.
+           DISPLAY "KEPT".
+           STOP RUN.

@@ -1,0 +1,1 @@
+       MOVE "" TO A

@@ -1,0 +1,10 @@
+       identification division.
+       program-id. p.
+       installation. "
+       date-written. #
+           %
+       date-compiled.
+       security. ""
+       procedure division.
+           display "SHOWN".
+           stop run.

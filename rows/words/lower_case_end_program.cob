@@ -1,0 +1,6 @@
+       identification division.
+       program-id. row.
+       procedure division.
+           display "ONE".
+           stop run.
+       end program row.

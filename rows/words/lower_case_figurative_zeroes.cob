@@ -1,0 +1,4 @@
+       identification division.
+       program-id. hello.
+       procedure division.
+           display zeroes no advancing.

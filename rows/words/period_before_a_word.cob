@@ -1,0 +1,1 @@
+       STOP RUN.DISPLAY

@@ -1,0 +1,8 @@
+       IDENTIFICATION DIVISION.
+       PROGRAM-ID. P.
+       DATA DIVISION.
+       WORKING-STORAGE SECTION.
+       77  N PIC 99.
+       PROCEDURE DIVISION.
+           COMPUTE N = 2 ** 3.
+           STOP RUN.

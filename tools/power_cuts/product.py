@@ -1,0 +1,52 @@
+"""The program's commands as processes. What a command wrote is read from files in a folder of its own, which is quick."""
+import os
+import signal
+from collections import namedtuple
+
+MOST_SECONDS = 10
+Ran = namedtuple("Ran", "status out err")
+
+
+class Failure(Exception):
+    """Something that the promise rules out."""
+
+
+class Hangs(Failure):
+    """A command ran for more than ten seconds."""
+
+
+class Product:
+    """The program, and a folder for what it writes. `status` of a command is its exit status, or minus its signal."""
+
+    def __init__(self, program, folder):
+        self.program, self.out, self.err = program, f"{folder}/out", f"{folder}/err"
+        self.calls = 0
+
+    def do(self, *words):
+        flags = os.O_WRONLY | os.O_CREAT | os.O_TRUNC
+        actions = [(os.POSIX_SPAWN_OPEN, 0, "/dev/null", os.O_RDONLY, 0), (os.POSIX_SPAWN_OPEN, 1, self.out, flags, 0o600),
+                   (os.POSIX_SPAWN_OPEN, 2, self.err, flags, 0o600)]
+        words = [self.program, *words]
+        child = os.posix_spawn(words[0], words, os.environ, file_actions=actions)
+        self.calls += 1
+        status = wait_for(child, words)
+        return Ran(status, read(self.out), read(self.err))
+
+
+def wait_for(child, words):
+    """The exit status of a child process, or minus the signal that ended it."""
+    def stop(*_):
+        os.kill(child, signal.SIGKILL)
+        os.waitpid(child, 0)
+        raise Hangs(" ".join(os.fsdecode(word) for word in words))
+
+    signal.signal(signal.SIGALRM, stop)
+    signal.alarm(MOST_SECONDS)
+    _, status = os.waitpid(child, 0)
+    signal.alarm(0)
+    return os.waitstatus_to_exitcode(status)
+
+
+def read(path):
+    with open(path, "rb") as file:
+        return file.read()
