@@ -1,9 +1,9 @@
 //! The first rule that a program of one statement breaks, in a tree that no source text has.
 use check_rules::{CheckError, Rule, check};
 use source_tree::{
-    Arithmetic, Entry, Integer, ItemEntry, Literal, LiteralValue, Name, NumericLiteral, Operand,
-    Operation, Paragraph, Phrases, PictureText, Place, Program, QualifiedName, Receiver, Reference,
-    Section, Sentence, Sign, Statement, Text, Verb,
+    Arithmetic, Entry, Integer, ItemEntry, Literal, LiteralValue, Moving, Name, NumericLiteral,
+    Operand, Operation, Paragraph, Phrases, PictureText, Place, Program, QualifiedName, Receiver,
+    Reference, Section, Sentence, Sign, Statement, Verb,
 };
 use sqlite_items::Items;
 use std::alloc::{AllocError, Global};
@@ -111,14 +111,6 @@ fn number(alloc: Global, whole: &[u8]) -> Result<LiteralValue, AllocError> {
     }))
 }
 
-fn display(alloc: Global, operand: Operand) -> Result<Verb<Statement>, AllocError> {
-    let operands = list(alloc, operand)?;
-    Ok(Verb::Text(Text::Display {
-        operands,
-        advancing: true,
-    }))
-}
-
 fn reference(alloc: Global) -> Result<Reference, AllocError> {
     let item = QualifiedName {
         name: name(alloc, 30, b"M")?,
@@ -128,6 +120,12 @@ fn reference(alloc: Global) -> Result<Reference, AllocError> {
         item,
         subscripts: Items::new(alloc),
     })
+}
+
+/// MOVE of this operand TO M.
+fn moved(alloc: Global, sender: Operand) -> Result<Verb<Statement>, AllocError> {
+    let receivers = list(alloc, reference(alloc)?)?;
+    Ok(Verb::Moving(Moving::Move { sender, receivers }))
 }
 
 /// ADD of this operand TO M.
@@ -155,16 +153,16 @@ fn same(rt: &impl Abort, told: Option<(Rule, u8)>, expected: Option<(Rule, u8)>)
 fn literals_without_a_form(rt: HostRuntime) -> Result<(), Fail> {
     let alloc = rt.alloc();
     let empty = literal(LiteralValue::Nonnumeric(Items::new(alloc)));
-    let told = broken_by(alloc, display(alloc, empty)?)?;
+    let told = broken_by(alloc, moved(alloc, empty)?)?;
     same(&rt, told, Some((Rule::NonnumericLiteral, 20)));
     let long = literal(number(alloc, DIGITS)?);
-    let told = broken_by(alloc, display(alloc, long)?)?;
+    let told = broken_by(alloc, moved(alloc, long)?)?;
     same(&rt, told, Some((Rule::NumericLiteral, 20)));
     let none = literal(number(alloc, b"")?);
-    let told = broken_by(alloc, display(alloc, none)?)?;
+    let told = broken_by(alloc, moved(alloc, none)?)?;
     same(&rt, told, Some((Rule::NumericLiteral, 20)));
     let one = literal(number(alloc, b"1")?);
-    let told = broken_by(alloc, display(alloc, one)?)?;
+    let told = broken_by(alloc, moved(alloc, one)?)?;
     same(&rt, told, None);
     Ok(())
 }
