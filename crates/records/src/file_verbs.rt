@@ -1,10 +1,10 @@
 //! File statements, whatever the files are kept in.
-ghost use Rattle.std.specs.Prelude.{◌≡◌, ◌≤◌, ◌<◌, ◌⊎◌, true, false, ℕ, List, length, IsOk, IfOk, OnErr};
+ghost use Rattle.std.specs.Prelude.{◌≡◌, ◌≢◌, ◌≤◌, ◌<◌, ◌⊎◌, true, false, ℕ, List, length, Err, IsOk, IfOk, OnErr};
 ghost use Rattle.station.specs.Disk.{Disk, Sector, IsCrashImage};
 ghost use Rattle.records.specs.Files.{Files};
 ghost use Rattle.records.specs.Calls.{StandsFor, Changes, Turns, Rests};
 ghost use Rattle.records.specs.Connector.{Entry, Connector};
-ghost use Rattle.records.specs.FileStep.{file_step, entry_at, area, Suits, needs_no_store, makes_file, has_changed, IsStep, SameConnectors};
+ghost use Rattle.records.specs.FileStep.{file_step, entry_at, area, Suits, needs_no_store, makes_file, has_changed, can_change_files, IsStep, SameConnectors};
 
 use crate::fault::StoreFault;
 use crate::keeps::Keeps;
@@ -47,6 +47,11 @@ pub trait FileVerbs: Keeps {
         ensures turns { (files : Files) → StandsFor Self.Keeps D.Device self.old device.old files →
             Turns Self.Keeps D.Device result (makes_file verb) (entry_at (entries self.old) file).name files
             (file_step (entries self.old) files (connectors self.old) file verb (area bytes.old number.old)).files self.old device.old self.new device.new }
+
+        // `Full` is answered only by a statement that would change a file, and by no verb that cannot change one, whatever the disk holds.
+        ensures full { (files : Files) → StandsFor Self.Keeps D.Device self.old device.old files → result ≡ Err StoreFault.Full →
+            has_changed verb (file_step (entries self.old) files (connectors self.old) file verb (area bytes.old number.old)).status ≡ true }
+        ensures never_full { can_change_files verb ≡ false → result ≢ Err StoreFault.Full }
         ensures idle { D.is_honest device.old → IfOk result (λ status. has_changed verb status ≡ false → D.state device.new ≡ D.state device.old) }
         ensures refused { OnErr result (SameConnectors (connectors self.old) (connectors self.new) (area bytes.old number.old) (area bytes.new number.new)) }
         ensures rests { OnErr result (Rests Self.Keeps D.Device self.old device.old self.new device.new) };
