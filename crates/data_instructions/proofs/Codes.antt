@@ -33,7 +33,7 @@ use Rattle.data_instructions.specs.declared.tables.DataTables.{DataTables}
 use Rattle.data_instructions.specs.declared.calculation.Calculation.TheVariants as calculation
 use Rattle.data_instructions.specs.declared.instruction.DataInstruction.{DataInstruction}
 use Rattle.data_instructions.specs.declared.instruction.DataInstruction.TheVariants as i
-use Rattle.data_instructions.specs.Tables.{IsTables, item_place, sender_of}
+use Rattle.data_instructions.specs.Tables.{IsTables, shortened, item_place, sender_of}
 use Rattle.data_instructions.specs.Scratch.{Scratch, Step, Went, Faulted, Stuck, step_with, step_at}
 use Rattle.data_instructions.specs.Table.{at_place, placed, pushed, bytes_before, read, sending, taken, stored, moved, appended, shown_at, work, accepted, dated}
 use Rattle.data_instructions.specs.Codes.{go_on, works, data_item, integer, HasInteger, IsAdjustmentCode, IsSubscriptCode, AreSubscriptsCode, index_code, IsReferenceCode, IsTakingCode, IsSenderCode, AreReceiversCode, IsMoveCode, IsTextCode, IsOperandCode, AreOperandsCode, IsLineEndCode, IsDisplayCode}
@@ -82,10 +82,10 @@ module _ (items : List Placed) (tables : DataTables) (order : IsTables tables) w
       → works tables code s ≡ step_with (subscript_value items one s.storage) (λ z. Went (record s { numbers = Some (integer z) ∷ s.numbers }))
   subscript_works (subscript.Literal n) code (number, has, is) s = ap (λ c. works tables c s) is ∙ literal_works number (number_of n) has [] s
   subscript_works (subscript.Item name adjusting) code (index, found, has, integral, more, adjusts, is) s =
-      let t : Scratch = record s { places = record { item = index; offset = found.offset } ∷ s.places } in
+      let t : Scratch = record s { places = record { item = index; offset = found.offset; length = found.item.length } ∷ s.places } in
       ap (λ c. works tables c s) is
       ∙ ap (λ o. go_on (step_at o (λ one. placed index one s)) (works tables (i.Push ∷ more))) has.entry
-      ∙ ap (λ o. go_on (step_at o (λ one. read (item_place one found.offset) s)) (works tables more)) has.entry
+      ∙ ap (λ o. go_on (step_at o (λ one. read (item_place (shortened one found.item.length) found.offset) s)) (works tables more)) has.entry
       ∙ by_number (number_in found.item.kind (part_of s.storage (item_place (data_item found) found.offset))) refl
       ∙ ap (λ offset. step_with (needed (whole_part (number_in found.item.kind (part_of s.storage (item_place (data_item found) offset)))) >>= (λ z. Ok (adjusted adjusting z))) done) (sym (add-zero found.offset))
       ∙ ap (λ o. step_with (needed o >>= (λ found. integer_in s.storage found >>= (λ z. Ok (adjusted adjusting z)))) done) (sym has.named)
@@ -104,58 +104,58 @@ module _ (items : List Placed) (tables : DataTables) (order : IsTables tables) w
           ∙ sym (ap (λ o. step_with (needed o >>= (λ z. Ok (adjusted adjusting z))) done) (ap (λ y. whole_part (Some y)) holds.0 ∙ whole_integer x.coefficient))
 
   -- a place of an item, so many bytes behind the start of its area
-  abbrev at : ItemIndex → ℕ → Scratch → Scratch
-  at index offset s = record s { places = record { item = index; offset = offset } ∷ s.places }
+  abbrev at : ItemIndex → ℕ → ℕ → Scratch → Scratch
+  at index size offset s = record s { places = record { item = index; offset = offset; length = size } ∷ s.places }
 
-  pub subscripts_works : (dimensions : List Dimension) (subscripts : List written.Subscript) (code : List DataInstruction) → AreSubscriptsCode items tables dimensions subscripts code → (index : ItemIndex) (offset : ℕ) (s : Scratch)
-      → works tables code (at index offset s) ≡ step_with (tree.bytes_before items dimensions subscripts s.storage) (λ more. Went (at index (offset + more) s))
-  subscripts_works [] subscripts code is index offset s = ap (λ c. works tables c (at index offset s)) is ∙ ap (λ n. Went (at index n s)) (sym (add-zero offset))
-  subscripts_works (one ∷ more) [] code is index offset s = absurd is
-  subscripts_works (one ∷ more) (written ∷ others) code (front, is_front, back, is_back, is) index offset s =
-      let t : Scratch = at index offset s in
+  pub subscripts_works : (dimensions : List Dimension) (subscripts : List written.Subscript) (code : List DataInstruction) → AreSubscriptsCode items tables dimensions subscripts code → (index : ItemIndex) (size offset : ℕ) (s : Scratch)
+      → works tables code (at index size offset s) ≡ step_with (tree.bytes_before items dimensions subscripts s.storage) (λ more. Went (at index size (offset + more) s))
+  subscripts_works [] subscripts code is index size offset s = ap (λ c. works tables c (at index size offset s)) is ∙ ap (λ n. Went (at index size n s)) (sym (add-zero offset))
+  subscripts_works (one ∷ more) [] code is index size offset s = absurd is
+  subscripts_works (one ∷ more) (written ∷ others) code (front, is_front, back, is_back, is) index size offset s =
+      let t : Scratch = at index size offset s in
       ap (λ c. works tables c t) is
       ∙ works_append tables front (index_code one ∷ back) t
       ∙ ap (λ step. go_on step (works tables (index_code one ∷ back))) (subscript_works written front is_front t)
       ∙ go_with (subscript_value items written s.storage) (λ z. Went (record t { numbers = Some (integer z) ∷ s.numbers })) (works tables (index_code one ∷ back))
-      ∙ with_same (subscript_value items written s.storage) _ _ (indexes (λ here. subscripts_works more others back is_back index (offset + here) s))
+      ∙ with_same (subscript_value items written s.storage) _ _ (indexes (λ here. subscripts_works more others back is_back index size (offset + here) s))
       ∙ sym (with_bind (subscript_value items written s.storage) (λ z. stepped one z >>= (λ here. rest >>= (λ more. Ok (here + more)))) done)
     where
       done : ℕ → Step
-      done more = Went (at index (offset + more) s)
+      done more = Went (at index size (offset + more) s)
 
       rest : Evaluated ℕ
       rest = tree.bytes_before items more others s.storage
 
       Adds : Type 0
-      Adds = (here : ℕ) → works tables back (at index (offset + here) s) ≡ step_with rest (λ more. Went (at index (offset + here + more) s))
+      Adds = (here : ℕ) → works tables back (at index size (offset + here) s) ≡ step_with rest (λ more. Went (at index size (offset + here + more) s))
 
-      adds : Adds → (here : ℕ) → works tables back (at index (offset + here) s) ≡ step_with (rest >>= (λ more. Ok (here + more))) done
+      adds : Adds → (here : ℕ) → works tables back (at index size (offset + here) s) ≡ step_with (rest >>= (λ more. Ok (here + more))) done
       adds each here =
           each here
-          ∙ with_same rest _ _ (λ more. ap (λ n. Went (at index n s)) (add_assoc offset here more))
+          ∙ with_same rest _ _ (λ more. ap (λ n. Went (at index size n s)) (add_assoc offset here more))
           ∙ sym (with_bind rest (λ more. Ok (here + more)) done)
 
-      indexes : Adds → (z : ℤ) → works tables (index_code one ∷ back) (record (at index offset s) { numbers = Some (integer z) ∷ s.numbers }) ≡ step_with (stepped one z >>= (λ here. rest >>= (λ more. Ok (here + more)))) done
+      indexes : Adds → (z : ℤ) → works tables (index_code one ∷ back) (record (at index size offset s) { numbers = Some (integer z) ∷ s.numbers }) ≡ step_with (stepped one z >>= (λ here. rest >>= (λ more. Ok (here + more)))) done
       indexes each z =
-          go_with (bytes_before one (Some (integer z))) (λ here. Went (at index (offset + here) s)) (works tables back)
-          ∙ ap (λ o. step_with (needed o >>= stepped one) (λ here. works tables back (at index (offset + here) s))) (whole_integer z)
+          go_with (bytes_before one (Some (integer z))) (λ here. Went (at index size (offset + here) s)) (works tables back)
+          ∙ ap (λ o. step_with (needed o >>= stepped one) (λ here. works tables back (at index size (offset + here) s))) (whole_integer z)
           ∙ with_same (stepped one z) _ _ (adds each)
           ∙ sym (with_bind (stepped one z) (λ here. rest >>= (λ more. Ok (here + more))) done)
 
   pub reference_works : (reference : Reference) (code : List DataInstruction) (r : IsReferenceCode items tables reference code) (s : Scratch)
-      → works tables code s ≡ step_with (tree.bytes_before items r.found.dimensions reference.subscripts s.storage) (λ more. Went (at r.index (r.found.offset + more) s))
+      → works tables code s ≡ step_with (tree.bytes_before items r.found.dimensions reference.subscripts s.storage) (λ more. Went (at r.index r.found.item.length (r.found.offset + more) s))
   reference_works reference code r s =
       ap (λ c. works tables c s) r.is
       ∙ ap (λ o. go_on (step_at o (λ one. placed r.index one s)) (works tables r.subscripts)) r.has.entry
-      ∙ subscripts_works r.found.dimensions reference.subscripts r.subscripts r.each r.index r.found.offset s
+      ∙ subscripts_works r.found.dimensions reference.subscripts r.subscripts r.each r.index r.found.item.length r.found.offset s
 
   -- what takes the place of a reference is told that place
   pub place_taken : (reference : Reference) (code : List DataInstruction) → IsReferenceCode items tables reference code → (f : ItemPlace → Scratch → Step) (s : Scratch)
       → go_on (works tables code s) (at_place tables f) ≡ step_with (place_of items reference s.storage) (λ place. f place s)
   place_taken reference code r f s =
       ap (λ step. go_on step (at_place tables f)) (reference_works reference code r s)
-      ∙ go_with found_bytes (λ more. Went (at r.index (r.found.offset + more) s)) (at_place tables f)
-      ∙ with_same found_bytes _ _ (λ more. ap (λ o. step_at o (λ one. f (item_place one (r.found.offset + more)) s)) r.has.entry)
+      ∙ go_with found_bytes (λ more. Went (at r.index r.found.item.length (r.found.offset + more) s)) (at_place tables f)
+      ∙ with_same found_bytes _ _ (λ more. ap (λ o. step_at o (λ one. f (item_place (shortened one r.found.item.length) (r.found.offset + more)) s)) r.has.entry)
       ∙ sym (with_bind found_bytes (λ more. Ok (place_behind r.found more)) (λ place. f place s))
       ∙ ap (λ o. step_with (needed o >>= (λ found. occurrence items reference.subscripts found s.storage)) (λ place. f place s)) (sym r.has.named)
     where

@@ -25,7 +25,7 @@ use Rattle.data_instructions.specs.declared.tables.DataTables.{DataTables}
 use Rattle.data_instructions.specs.declared.test.Test.TheVariants as t
 use Rattle.data_instructions.specs.declared.instruction.DataInstruction.{DataInstruction}
 use Rattle.data_instructions.specs.declared.instruction.DataInstruction.TheVariants as i
-use Rattle.data_instructions.specs.Tables.{IsTables, item_place, sender_of}
+use Rattle.data_instructions.specs.Tables.{IsTables, shortened, item_place, sender_of}
 use Rattle.data_instructions.specs.Scratch.{Scratch, Step, Went, step_with, step_at}
 use Rattle.data_instructions.specs.Table.{placed, pushed, taken, compared_at, truth_from, or_found, with_literal, classed, work}
 use Rattle.data_instructions.specs.Codes.{go_on, works}
@@ -173,10 +173,10 @@ module _ (items : List Placed) (tables : DataTables) (order : IsTables tables) w
     by =
         ap (λ c. works tables c s) is
         ∙ ap (λ o. go_on (step_at o (λ one. placed index one s)) (works tables (subscripts ++ later))) entry
-        ∙ works_append tables subscripts later (record s { places = record { item = index; offset = found.item.offset } ∷ s.places })
-        ∙ ap (λ step. go_on step (works tables later)) (subscripts_works items tables order found.item.dimensions reference.subscripts subscripts each index found.item.offset s)
+        ∙ works_append tables subscripts later (record s { places = record { item = index; offset = found.item.offset; length = found.item.item.length } ∷ s.places })
+        ∙ ap (λ step. go_on step (works tables later)) (subscripts_works items tables order found.item.dimensions reference.subscripts subscripts each index found.item.item.length found.item.offset s)
         ∙ go_with behind (λ more. Went (at more)) (works tables later)
-        ∙ with_same behind _ _ (λ more. ap (λ o. go_on (step_at o (λ one. taken (item_place one (found.item.offset + more)) s)) (works tables (i.ClearTruth ∷ values))) entry ∙ values_work items tables found.condition.values values is_values (sent more) false s)
+        ∙ with_same behind _ _ (λ more. ap (λ o. go_on (step_at o (λ one. taken (item_place (shortened one found.item.item.length) (found.item.offset + more)) s)) (works tables (i.ClearTruth ∷ values))) entry ∙ values_work items tables found.condition.values values is_values (sent more) false s)
         ∙ kept_same behind sent (λ more. in_ranges false (sent more) found.condition.values) s
         ∙ sym (with_bind behind (λ more. Ok (place_behind found.item more)) (λ place. step_with (value_holds items found s.storage place) done))
         ∙ sym (with_bind (occurrence items reference.subscripts found.item s.storage) (value_holds items found s.storage) done)
@@ -193,7 +193,7 @@ module _ (items : List Placed) (tables : DataTables) (order : IsTables tables) w
       sent more = item_sender found.item.item (part_of s.storage (place_behind found.item more))
 
       at : ℕ → Scratch
-      at more = record s { places = record { item = index; offset = found.item.offset + more } ∷ s.places }
+      at more = record s { places = record { item = index; offset = found.item.offset + more; length = found.item.item.length } ∷ s.places }
 
       done : Bool → Step
       done truth = Went (record s { truth = truth; sender = kept behind sent })

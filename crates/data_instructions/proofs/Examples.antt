@@ -61,7 +61,7 @@ element subscript = item 0 ∷ number subscript ∷ i.Index 2 3 ∷ []
 abbrev begun : Scratch
 begun = started tables
 
-second_place : works tables (element 0) begun ≡ Went (record begun { places = record { item = record { number = 0 }; offset = 2 } ∷ [] })
+second_place : works tables (element 0) begun ≡ Went (record begun { places = record { item = record { number = 0 }; offset = 2; length = 2 } ∷ [] })
 second_place = refl
 
 fourth_place : works tables (element 1) begun ≡ Faulted Subscript

@@ -21,7 +21,7 @@ use Rattle.data_instructions.specs.declared.tables.DataTables.{DataTables}
 use Rattle.data_instructions.specs.declared.gather.Gather.TheVariants as g
 use Rattle.data_instructions.specs.declared.instruction.DataInstruction.{DataInstruction}
 use Rattle.data_instructions.specs.declared.instruction.DataInstruction.TheVariants as i
-use Rattle.data_instructions.specs.Tables.{IsTables, item_place}
+use Rattle.data_instructions.specs.Tables.{IsTables, shortened, item_place}
 use Rattle.data_instructions.specs.Scratch.{Scratch, Step, Went, step_with, step_at}
 use Rattle.data_instructions.specs.Table.{at_place, at_places, appended, place_at, inspected_at, work}
 use Rattle.data_instructions.specs.Codes.{go_on, works}
@@ -105,7 +105,7 @@ abbrev AreAt : DataTables → List Place → List ItemPlace → Type 0
 AreAt tables [] [] = Unit {0}
 AreAt tables [] (r ∷ rs) = ⊥
 AreAt tables (p ∷ ps) [] = ⊥
-AreAt tables (p ∷ ps) (r ∷ rs) = (place_at p.offset (slice_get tables.items p.item.number) ≡ Some r) × AreAt tables ps rs
+AreAt tables (p ∷ ps) (r ∷ rs) = (place_at p (slice_get tables.items p.item.number) ≡ Some r) × AreAt tables ps rs
 
 -- the oldest first, before others
 abbrev oldest : List ItemPlace → List ItemPlace → List ItemPlace
@@ -113,12 +113,12 @@ oldest [] others = others
 oldest (r ∷ rs) others = oldest rs (r ∷ others)
 
 module _ (tables : DataTables) where
-  one_at : (p : Place) (r : ItemPlace) (go : ItemPlace → Step) → place_at p.offset (slice_get tables.items p.item.number) ≡ Some r → step_at (slice_get tables.items p.item.number) (λ one. go (item_place one p.offset)) ≡ go r
+  one_at : (p : Place) (r : ItemPlace) (go : ItemPlace → Step) → place_at p (slice_get tables.items p.item.number) ≡ Some r → step_at (slice_get tables.items p.item.number) (λ one. go (item_place (shortened one p.length) p.offset)) ≡ go r
   one_at p r go e = by_entry (slice_get tables.items p.item.number) e
     where
-      by_entry : (o : Option _) → place_at p.offset o ≡ Some r → step_at o (λ one. go (item_place one p.offset)) ≡ go r
+      by_entry : (o : Option _) → place_at p o ≡ Some r → step_at o (λ one. go (item_place (shortened one p.length) p.offset)) ≡ go r
       by_entry None none = absurd cc
-      by_entry (Some one) some = let same : item_place one p.offset ≡ r = cc in ap go same
+      by_entry (Some one) some = let same : item_place (shortened one p.length) p.offset ≡ r = cc in ap go same
 
   places_found : (ps : List Place) (rs others : List ItemPlace) (go : List ItemPlace → Scratch → Step) (rest : List Place) (s : Scratch) → AreAt tables ps rs
       → at_places tables (length rs) others go (ps ++ rest) s ≡ go (oldest rs others) (record s { places = rest })
@@ -137,7 +137,7 @@ module _ (items : List Placed) (tables : DataTables) (order : IsTables tables) w
   standing ps p line s = record s { places = ps ++ (p ∷ s.places); line = line }
 
   -- with the counters' places on the stack, above the subject's
-  inspect_works : (index : InspectionIndex) (how : meaning.Inspection) (size : ℕ) (has : HasInspection items tables how size index) (p : Place) (subject : ItemPlace) → place_at p.offset (slice_get tables.items p.item.number) ≡ Some subject
+  inspect_works : (index : InspectionIndex) (how : meaning.Inspection) (size : ℕ) (has : HasInspection items tables how size index) (p : Place) (subject : ItemPlace) → place_at p (slice_get tables.items p.item.number) ≡ Some subject
       → (ps : List Place) (rs : List ItemPlace) → AreAt tables ps rs → length rs ≡ length how.counters → (line : List ℕ) (s : Scratch)
       → works tables (i.Inspect index ∷ []) (standing ps p line s) ≡ ends how subject s (oldest rs []) (padded size line)
   inspect_works index how size has p subject at ps rs are many line s =
@@ -164,7 +164,7 @@ module _ (items : List Placed) (tables : DataTables) (order : IsTables tables) w
       ∙ sym (with_bind (take_each items more s.storage) (λ taken. Ok (with_text text taken)) (λ taken. ends how subject s (oldest rs taken.counters) (padded size (line ++ taken.texts))))
 
   -- what is taken, and then INSPECT
-  takings_work : (index : InspectionIndex) (how : meaning.Inspection) (size : ℕ) (has : HasInspection items tables how size index) (p : Place) (subject : ItemPlace) → place_at p.offset (slice_get tables.items p.item.number) ≡ Some subject
+  takings_work : (index : InspectionIndex) (how : meaning.Inspection) (size : ℕ) (has : HasInspection items tables how size index) (p : Place) (subject : ItemPlace) → place_at p (slice_get tables.items p.item.number) ≡ Some subject
       → (all : List Taking) (code : List DataInstruction) → AreTakenCode items tables all code
       → (ps : List Place) (rs : List ItemPlace) → AreAt tables ps rs → length rs + counters_in all ≡ length how.counters → (line : List ℕ) (s : Scratch)
       → works tables (code ++ (i.Inspect index ∷ [])) (standing ps p line s)
@@ -177,7 +177,7 @@ module _ (items : List Placed) (tables : DataTables) (order : IsTables tables) w
       let t : Scratch = standing ps p line s in
       let later : List DataInstruction = back ++ (i.Inspect index ∷ []) in
       let behind : Evaluated ℕ = tree.bytes_before items r.found.dimensions one.subscripts s.storage in
-      let new : ℕ → Place = λ n. record { item = r.index; offset = r.found.offset + n } in
+      let new : ℕ → Place = λ n. record { item = r.index; offset = r.found.offset + n; length = r.found.item.length } in
       let done : ItemPlace → InspectTaken → Step = λ place taken. ends how subject s (oldest rs (place ∷ taken.counters)) (padded size (line ++ taken.texts)) in
       let puts : ItemPlace → Step = λ place. step_with (take_each items more s.storage) (done place) in
       ap (λ c. works tables (c ++ (i.Inspect index ∷ [])) t) is
@@ -186,7 +186,7 @@ module _ (items : List Placed) (tables : DataTables) (order : IsTables tables) w
       ∙ ap (λ step. go_on step (works tables later)) (reference_works items tables order one front r t)
       ∙ go_with behind (λ n. Went (standing (new n ∷ ps) p line s)) (works tables later)
       ∙ with_same behind _ _ (λ n.
-      takings_work index how size has p subject at more back are_back (new n ∷ ps) (place_behind r.found n ∷ rs) (ap (place_at (r.found.offset + n)) r.has.entry, are) (omega (arith, many)) line s)
+      takings_work index how size has p subject at more back are_back (new n ∷ ps) (place_behind r.found n ∷ rs) (ap (place_at (new n)) r.has.entry, are) (omega (arith, many)) line s)
       ∙ sym (with_bind behind (λ n. Ok (place_behind r.found n)) puts)
       ∙ ap (λ o. step_with (needed o >>= (λ found. occurrence items one.subscripts found s.storage)) puts) (sym r.has.named)
       ∙ with_same (place_of items one s.storage) _ _ (λ place. sym (with_bind (take_each items more s.storage) (λ taken. Ok (with_counter place taken)) (λ taken. ends how subject s (oldest rs taken.counters) (padded size (line ++ taken.texts)))))
@@ -221,7 +221,7 @@ module _ (items : List Placed) (tables : DataTables) (order : IsTables tables) w
       let size : ℕ = inspected_size items one in
       let later : List DataInstruction = parts ++ (i.Inspect index ∷ []) in
       let behind : Evaluated ℕ = tree.bytes_before items r.found.dimensions one.subject.subscripts s.storage in
-      let new : ℕ → Place = λ n. record { item = r.index; offset = r.found.offset + n } in
+      let new : ℕ → Place = λ n. record { item = r.index; offset = r.found.offset + n; length = r.found.item.length } in
       let last : ItemPlace → InspectTaken → Step = λ place taken. step_with (inspect_at how taken.texts taken.counters place s.storage) (λ after. Went (record s { storage = after; line = [] })) in
       let puts : ItemPlace → Step = λ place. step_with (take_each items (takings items one) s.storage) (last place) in
       ap (λ c. works tables c u) is
@@ -229,7 +229,7 @@ module _ (items : List Placed) (tables : DataTables) (order : IsTables tables) w
       ∙ ap (λ step. go_on step (works tables later)) (reference_works items tables order one.subject subject r u)
       ∙ go_with behind (λ n. Went (standing [] (new n) [] s)) (works tables later)
       ∙ with_same behind _ _ (λ n.
-      takings_work index how size has (new n) (place_behind r.found n) (ap (place_at (r.found.offset + n)) r.has.entry) (takings items one) parts are [] [] tt (omega (arith, counters_are items one)) [] s
+      takings_work index how size has (new n) (place_behind r.found n) (ap (place_at (new n)) r.has.entry) (takings items one) parts are [] [] tt (omega (arith, counters_are items one)) [] s
       ∙ with_known (take_each items (takings items one) s.storage) _ _ (λ taken known.
       ap (λ l. ends how (place_behind r.found n) s taken.counters l) (padded_whole size taken.texts (taken_long items (takings items one) s.storage taken known))))
       ∙ sym (with_bind behind (λ n. Ok (place_behind r.found n)) puts)

@@ -22,7 +22,7 @@ use Rattle.data_instructions.specs.declared.tables.DataTables.{DataTables}
 use Rattle.data_instructions.specs.declared.gather.Gather.TheVariants as g
 use Rattle.data_instructions.specs.declared.instruction.DataInstruction.{DataInstruction}
 use Rattle.data_instructions.specs.declared.instruction.DataInstruction.TheVariants as i
-use Rattle.data_instructions.specs.Tables.{IsTables, item_place}
+use Rattle.data_instructions.specs.Tables.{IsTables, shortened, item_place}
 use Rattle.data_instructions.specs.Scratch.{Scratch, Step, Went, step_with, step_at}
 use Rattle.data_instructions.specs.Table.{at_place, placed, appended, pattern_of, laid_over, place_at, newest_place, strung_to, work}
 use Rattle.data_instructions.specs.Codes.{go_on, works, IsReferenceCode}
@@ -73,13 +73,13 @@ module _ (items : List Placed) (tables : DataTables) (order : IsTables tables) w
   one_set one code (found, named, index, entry, subscripts, each, text, has, is) s =
       ap (λ c. works tables c s) is
       ∙ ap (λ o. go_on (step_at o (λ it. placed index it s)) (works tables (subscripts ++ last))) entry
-      ∙ works_append tables subscripts last (record s { places = record { item = index; offset = found.item.offset } ∷ s.places })
-      ∙ ap (λ step. go_on step (works tables last)) (subscripts_works items tables order found.item.dimensions one.subscripts subscripts each index found.item.offset s)
+      ∙ works_append tables subscripts last (record s { places = record { item = index; offset = found.item.offset; length = found.item.item.length } ∷ s.places })
+      ∙ ap (λ step. go_on step (works tables last)) (subscripts_works items tables order found.item.dimensions one.subscripts subscripts each index found.item.item.length found.item.offset s)
       ∙ go_with behind (λ more. Went (at more)) (works tables last)
       ∙ with_same behind _ _ (λ more.
       nothing_more items tables order (work tables (i.Overlay text) (at more))
       ∙ overlay_works (set_pattern found) text has (at more)
-      ∙ ap (λ o. step_at o (λ it. laid_over (set_pattern found) (item_place it (found.item.offset + more)) s)) entry)
+      ∙ ap (λ o. step_at o (λ it. laid_over (set_pattern found) (item_place (shortened it found.item.item.length) (found.item.offset + more)) s)) entry)
       ∙ sym (with_bind behind (λ more. Ok (place_behind found.item more)) (λ place. laid_over (set_pattern found) place s))
     where
       last : List DataInstruction
@@ -89,7 +89,7 @@ module _ (items : List Placed) (tables : DataTables) (order : IsTables tables) w
       behind = tree.bytes_before items found.item.dimensions one.subscripts s.storage
 
       at : ℕ → Scratch
-      at more = record s { places = record { item = index; offset = found.item.offset + more } ∷ s.places }
+      at more = record s { places = record { item = index; offset = found.item.offset + more; length = found.item.item.length } ∷ s.places }
 
   pub set_works : (conditions : List Reference) (code : List DataInstruction) → AreSetCode items tables conditions code → (s : Scratch)
       → works tables code s ≡ step_with (set items conditions s.storage) (λ after. Went (record s { storage = after }))
@@ -204,7 +204,7 @@ module _ (items : List Placed) (tables : DataTables) (order : IsTables tables) w
       behind = tree.bytes_before items r.found.dimensions delimiter.subscripts s.storage
 
       at : ℕ → Scratch
-      at more = record s { places = record { item = r.index; offset = r.found.offset + more } ∷ s.places }
+      at more = record s { places = record { item = r.index; offset = r.found.offset + more; length = r.found.item.length } ∷ s.places }
 
       puts : ItemPlace → Step
       puts place = step_with (texts_of items senders s.storage) (λ texts. appended (sent_of_each (Some (part_of s.storage place)) texts) s)
@@ -213,7 +213,7 @@ module _ (items : List Placed) (tables : DataTables) (order : IsTables tables) w
       below more =
           let bytes : List ℕ = part_of s.storage (place_behind r.found more) in
           works_append tables parts (i.DropPlace ∷ []) (at more)
-          ∙ ap (λ step. go_on step (works tables (i.DropPlace ∷ []))) (each_up senders parts are (place_behind r.found more) bytes (at more) (ap (place_at (r.found.offset + more)) r.has.entry) refl)
+          ∙ ap (λ step. go_on step (works tables (i.DropPlace ∷ []))) (each_up senders parts are (place_behind r.found more) bytes (at more) (ap (place_at (record { item = r.index; offset = r.found.offset + more; length = r.found.item.length })) r.has.entry) refl)
           ∙ go_with (texts_of items senders s.storage) (λ texts. appended (sent_of_each (Some bytes) texts) (at more)) (works tables (i.DropPlace ∷ []))
           ∙ with_same (texts_of items senders s.storage) _ _ (λ texts. ap (λ o. go_on (step_at o (λ one. Went (record s { line = s.line ++ sent_of_each (Some bytes) texts }))) (works tables [])) r.has.entry)
 
@@ -270,7 +270,7 @@ module _ (items : List Placed) (tables : DataTables) (order : IsTables tables) w
       ∙ with_same behind _ _ (λ more.
       taking_works items tables order (i.String true) (λ place t. step_with (held_position t.storage place) (λ n. at_place tables (strung_to (Some place) n) t)) (λ t. refl) pointer back is (at more)
       ∙ with_same (place_of items pointer s.storage) _ _ (λ place.
-      with_same (held_position s.storage place) _ _ (λ n. ap (λ o. step_at o (λ one. strung_to (Some place) n (item_place one (r.found.offset + more)) s)) r.has.entry)
+      with_same (held_position s.storage place) _ _ (λ n. ap (λ o. step_at o (λ one. strung_to (Some place) n (item_place (shortened one r.found.item.length) (r.found.offset + more)) s)) r.has.entry)
       ∙ sym (with_bind (held_position s.storage place) (λ n. Ok (Some place, n)) (put (place_behind r.found more))))
       ∙ sym (with_bind (place_of items pointer s.storage) (λ place. held_position s.storage place >>= (λ n. Ok (Some place, n))) (put (place_behind r.found more))))
       ∙ sym (with_bind behind (λ more. Ok (place_behind r.found more)) puts)
@@ -280,7 +280,7 @@ module _ (items : List Placed) (tables : DataTables) (order : IsTables tables) w
       behind = tree.bytes_before items r.found.dimensions receiver.subscripts s.storage
 
       at : ℕ → Scratch
-      at more = record s { places = record { item = r.index; offset = r.found.offset + more } ∷ s.places }
+      at more = record s { places = record { item = r.index; offset = r.found.offset + more; length = r.found.item.length } ∷ s.places }
 
       put : ItemPlace → Option ItemPlace × ℕ → Step
       put place at = step_with (put_text place at.0 at.1 s.line s.storage) (finished s)

@@ -2,9 +2,10 @@
 
 use crate::index::ItemIndex;
 
-/// An item of the table, at so many bytes behind the start of its area.
+/// An item of the table, at so many bytes behind the start of its area, and how many of its bytes there are.
 #[derive(Clone, Copy, PartialEq, Eq)]
 pub struct Place {
     pub item: ItemIndex,
     pub offset: usize,
+    pub length: u32,
 }

@@ -7,10 +7,10 @@ use Rattle.source_tree.specs.References.{ItemPlace, storing}
 use Rattle.data_instructions.specs.declared.place.Place.{Place}
 use Rattle.data_instructions.specs.declared.tables.DataItem.{DataItem}
 use Rattle.data_instructions.specs.declared.tables.DataTables.{DataTables}
-use Rattle.data_instructions.specs.Tables.{item_place}
+use Rattle.data_instructions.specs.Tables.{shortened, item_place}
 use Rattle.data_instructions.specs.Scratch.{Scratch, Step, Went, step_at}
 use Rattle.data_instructions.specs.Table.{at_newest, accepted}
-use Rattle.run_time_data.specs.Finds.{HasItemRoom}
+use Rattle.run_time_data.specs.Finds.{FindsItem, HasItemRoom}
 
 -- an item that isn't longer than the room takes no more
 padded_front : (size room : ℕ) (line : List ℕ) → size ≤ room → padded size (take room line) ≡ padded size line
@@ -23,15 +23,18 @@ module _ (tables : DataTables) (line : List ℕ) (room : ℕ) (s : Scratch) (eno
   abbrev stores : List ℕ → ItemPlace → Scratch → Step
   stores text place t = Went (record t { storage = storing place (padded place.item.length text) t.storage })
 
-  at_item : (found : Option DataItem) (p : Place) (ps : List Place) → ((one : DataItem) → found ≡ Some one → one.item.length ≤ room)
-      → step_at found (λ one. stores (take room line) (item_place one p.offset) (record s { places = ps })) ≡ step_at found (λ one. stores line (item_place one p.offset) (record s { places = ps }))
+  at_item : (found : Option DataItem) (p : Place) (ps : List Place) → p.length ≤ room
+      → step_at found (λ one. stores (take room line) (item_place (shortened one p.length) p.offset) (record s { places = ps }))
+      ≡ step_at found (λ one. stores line (item_place (shortened one p.length) p.offset) (record s { places = ps }))
   at_item None p ps short = refl
   at_item (Some one) p ps short =
-      ap (λ bytes. Went (record s { places = ps; storage = storing (item_place one p.offset) bytes s.storage })) (padded_front one.item.length room line (short one refl))
+      ap (λ bytes. Went (record s { places = ps; storage = storing (item_place (shortened one p.length) p.offset) bytes s.storage })) (padded_front p.length room line short)
 
-  by_places : (ps : List Place) → at_newest tables ps (stores (take room line)) s ≡ at_newest tables ps (stores line) s
-  by_places [] = refl
-  by_places (p ∷ ps) = at_item (slice_get tables.items p.item.number) p ps (enough p.item.number)
+  by_places : (ps : List Place) → FindsItem tables s.storage ps → at_newest tables ps (stores (take room line)) s ≡ at_newest tables ps (stores line) s
+  by_places [] finds = absurd finds
+  by_places (p ∷ ps) finds =
+      let most = enough p.item.number finds.one finds.here in
+      at_item (slice_get tables.items p.item.number) p ps (omega (arith, most, finds.short))
 
-  pub accepts_front : accepted tables (take room line) s ≡ accepted tables line s
-  accepts_front = by_places s.places
+  pub accepts_front : FindsItem tables s.storage s.places → accepted tables (take room line) s ≡ accepted tables line s
+  accepts_front finds = by_places s.places finds

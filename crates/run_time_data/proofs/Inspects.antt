@@ -17,7 +17,7 @@ use Rattle.data_instructions.specs.declared.tables.Inspection.{Inspection}
 use Rattle.data_instructions.specs.declared.fault.ProgramFault.{ProgramFault}
 use Rattle.data_instructions.specs.Scratch.{Scratch, Step, Went, step_with, step_at}
 use Rattle.data_instructions.specs.Table.{at_place, at_places, inspected_at}
-use Rattle.data_instructions.specs.Tables.{item_place, total}
+use Rattle.data_instructions.specs.Tables.{shortened, item_place, total, IsEditing}
 use Rattle.run_time_data.specs.Finds.{StandsAt, Stands}
 use Rattle.run_time_data.specs.Comes.{Comes}
 use Rattle.run_time_data.specs.Inspecting.{there, there_or_none, StandEach, FindsPlaces, stored_by, added_and_stored, inspected_with, Adds}
@@ -51,16 +51,16 @@ module _ (tables : DataTables) where
   same_one : (storage : Storage) (p : Place) (items : List DataItem) (one : DataItem) → items ≡ tables.items → slice_get items p.item.number ≡ Some one → (s : Stands tables storage p) → s.one ≡ one
   same_one storage p items one is here s = same_Some s.one one (sym s.here ∙ ap (λ (xs : List DataItem). slice_get xs p.item.number) (sym is) ∙ here)
 
-  pub stands_one : (storage : Storage) (p : Place) (items : List DataItem) (one : DataItem) → items ≡ tables.items → slice_get items p.item.number ≡ Some one → Stands tables storage p → StandsAt one storage p.offset
-  stands_one storage p items one is here s = subst (λ (x : DataItem). StandsAt x storage p.offset) (same_one storage p items one is here s) s.stands
+  pub stands_one : (storage : Storage) (p : Place) (items : List DataItem) (one : DataItem) → items ≡ tables.items → slice_get items p.item.number ≡ Some one → Stands tables storage p → StandsAt (shortened one p.length) storage p.offset
+  stands_one storage p items one is here s = subst (λ (x : DataItem). StandsAt (shortened x p.length) storage p.offset) (same_one storage p items one is here s) s.stands
 
-  pub there_is : (p : Place) (items : List DataItem) (one : DataItem) → items ≡ tables.items → slice_get items p.item.number ≡ Some one → there tables p ≡ item_place one p.offset
-  there_is p items one is here = ap (there_or_none p.offset) (ap (λ (xs : List DataItem). slice_get xs p.item.number) (sym is) ∙ here)
+  pub whole_one : (storage : Storage) (p : Place) (items : List DataItem) (one : DataItem) → items ≡ tables.items → slice_get items p.item.number ≡ Some one → Stands tables storage p → IsEditing one.item one.editing
+  whole_one storage p items one is here s = subst (λ (x : DataItem). IsEditing x.item x.editing) (same_one storage p items one is here s) s.whole
 
   pub still_each : (old new : Storage) (ps : List Place) → map length new ≡ map length old → StandEach tables old ps → StandEach tables new ps
   still_each old new [] same stand = tt
   still_each old new (p ∷ ps) same stand =
-      (record { one = stand.0.one; here = stand.0.here; stands = stands_still stand.0.one old new p.offset same stand.0.stands }, still_each old new ps same stand.1)
+      (record { one = stand.0.one; here = stand.0.here; whole = stand.0.whole; short = stand.0.short; stands = stands_still (shortened stand.0.one p.length) old new p.offset same stand.0.stands }, still_each old new ps same stand.1)
 
   -- the next place
   pub next_stands : (storage : Storage) (ps : List Place) (number : ℕ) (d : Place) → number < length ps → StandEach tables storage (drop number ps)
@@ -140,8 +140,8 @@ module _ (tables : DataTables) (storage : Storage) where
       ap (λ xs. at_places tables (suc (length qs) + n) found go xs s) (turned q qs rest)
       ∙ ap (λ k. at_places tables k found go (reverse qs ++ (q ∷ rest)) s) many
       ∙ at_front qs (q ∷ rest) (suc n) found go s stand.1
-      ∙ ap (λ o. step_at o (λ one. at_places tables n (item_place one q.offset ∷ (map (there tables) qs ++ found)) go rest s)) stand.0.here
-      ∙ ap (λ o. at_places tables n (there_or_none q.offset o ∷ (map (there tables) qs ++ found)) go rest s) (sym stand.0.here)
+      ∙ ap (λ o. step_at o (λ one. at_places tables n (item_place (shortened one q.length) q.offset ∷ (map (there tables) qs ++ found)) go rest s)) stand.0.here
+      ∙ ap (λ o. at_places tables n (there_or_none q o ∷ (map (there tables) qs ++ found)) go rest s) (sym stand.0.here)
 
   behind : {A : Type 0} (n : ℕ) (xs : List A) (x : A) → slice_get xs n ≡ Some x → drop n xs ≡ x ∷ drop (n + 1) xs
   behind n xs x is =
@@ -151,7 +151,7 @@ module _ (tables : DataTables) (storage : Storage) where
 
   pub inspected_is : (one : Inspection) (qs : List Place) (p : Place) (to : DataItem) (s : Scratch) → length qs ≡ length one.counters → s.places ≡ reverse qs ++ drop (length one.counters) s.places → StandEach tables storage qs
       → slice_get s.places (length one.counters) ≡ Some p → slice_get tables.items p.item.number ≡ Some to
-      → inspected_with tables one s ≡ inspected_at one (map (there tables) qs) (item_place to p.offset) (record s { places = drop (length one.counters + 1) s.places })
+      → inspected_with tables one s ≡ inspected_at one (map (there tables) qs) (item_place (shortened to p.length) p.offset) (record s { places = drop (length one.counters + 1) s.places })
   inspected_is one qs p to s many is stand subject here =
       let n : ℕ = length one.counters in
       let go : List ItemPlace → Scratch → Step = λ counters t. at_place tables (inspected_at one counters) t in
@@ -161,7 +161,7 @@ module _ (tables : DataTables) (storage : Storage) where
       ∙ at_front qs (drop n s.places) 0 [] go s stand
       ∙ ap (λ cs. at_place tables (inspected_at one cs) (record s { places = drop n s.places })) (append-nil (map (there tables) qs))
       ∙ ap (λ xs. at_place tables (inspected_at one (map (there tables) qs)) (record s { places = xs })) (behind n s.places p subject)
-      ∙ ap (λ o. step_at o (λ it. inspected_at one (map (there tables) qs) (item_place it p.offset) (record s { places = drop (n + 1) s.places }))) here
+      ∙ ap (λ o. step_at o (λ it. inspected_at one (map (there tables) qs) (item_place (shortened it p.length) p.offset) (record s { places = drop (n + 1) s.places }))) here
 
 -- ---- counts, as far as there are entries
 
@@ -214,15 +214,15 @@ ends_as (Err fault) new r s step adds is = is ∙ ap (λ x. step_with x (stores_
 pub inspect_comes : (tables : DataTables) (one : Inspection) (qs : List Place) (p : Place) (to : DataItem) (s : Scratch) (counts text : List ℕ) (done : Result (Unit {0}) ProgramFault) (new : Storage)
     → length qs ≡ length one.counters → s.places ≡ reverse qs ++ drop (length one.counters) s.places → StandEach tables s.storage qs
     → slice_get s.places (length one.counters) ≡ Some p → slice_get tables.items p.item.number ≡ Some to
-    → ((k : ℕ) → k < length one.tallying → slice_index counts k ≡ tally (padded one.size s.line) one.tallying (part_of s.storage (item_place to p.offset)) k) → total one.counters ≤ length one.tallying
-    → text ≡ replaced (padded one.size s.line) one.replacing (part_of s.storage (item_place to p.offset))
-    → Adds done new (added_and_stored (map (there tables) qs) (meaning.counted (slice_index counts) 0 one.counters) one.replacing (item_place to p.offset) text s.storage)
+    → ((k : ℕ) → k < length one.tallying → slice_index counts k ≡ tally (padded one.size s.line) one.tallying (part_of s.storage (item_place (shortened to p.length) p.offset)) k) → total one.counters ≤ length one.tallying
+    → text ≡ replaced (padded one.size s.line) one.replacing (part_of s.storage (item_place (shortened to p.length) p.offset))
+    → Adds done new (added_and_stored (map (there tables) qs) (meaning.counted (slice_index counts) 0 one.counters) one.replacing (item_place (shortened to p.length) p.offset) text s.storage)
     → Comes done (record s { storage = new; line = []; places = drop (length one.counters + 1) s.places }) (inspected_with tables one s)
 inspect_comes tables one qs p to s counts text done new many is stand subject here counted enough replaced_is adds =
     let t : Scratch = record s { places = drop (length one.counters + 1) s.places } in
-    ends_as done new (added_and_stored (map (there tables) qs) (meaning.counted (slice_index counts) 0 one.counters) one.replacing (item_place to p.offset) text s.storage) t (inspected_with tables one s) adds
+    ends_as done new (added_and_stored (map (there tables) qs) (meaning.counted (slice_index counts) 0 one.counters) one.replacing (item_place (shortened to p.length) p.offset) text s.storage) t (inspected_with tables one s) adds
     (inspected_is tables s.storage one qs p to s many is stand subject here
-    ∙ inspect_ends one (map (there tables) qs) (item_place to p.offset) t counts text counted enough replaced_is)
+    ∙ inspect_ends one (map (there tables) qs) (item_place (shortened to p.length) p.offset) t counts text counted enough replaced_is)
 
 -- an entry of a table, as it was read
 pub entry_read : {X : Type 0} (xs table : List X) (k : ℕ) (x : X) → xs ≡ table → k < length table → x ≡ get_or xs k x → slice_get table k ≡ Some x

@@ -1,4 +1,5 @@
 pub mod AreaBytes
+pub mod Shorter
 pub mod Readies
 pub mod Staying
 pub mod KeptNumbers

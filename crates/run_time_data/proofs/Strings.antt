@@ -1,5 +1,5 @@
 -- Texts put into receivers.
-use Rattle.std.proofs.Common.{◌≡◌, ℕ, zero, suc, ◌+◌, ◌-◌, ◌<◌, ◌≤◌, ◌⊎◌, inl, inr, length, map, List, [], ◌∷◌, refl, sym, ◌∙◌, ap, arith, drop}
+use Rattle.std.proofs.Common.{◌≡◌, ℕ, zero, suc, ◌+◌, ◌-◌, ◌<◌, ◌≤◌, ◌⊎◌, inl, inr, length, map, List, [], ◌∷◌, refl, sym, ◌∙◌, ap, subst, arith, drop}
 use Rattle.std.specs.Prelude.{Bool, true, false, ◌||◌, if◌then◌else◌, nat_lt, pos, slice_get, slice_index_or, Option, Some, Result, Ok, Err}
 use Rattle.std.proofs.lemmas.Bool.Decides.{nat_tests}
 use Rattle.std.proofs.lemmas.List.{length-take, length-drop}
@@ -14,11 +14,12 @@ use Rattle.data_instructions.specs.declared.tables.DataItem.{DataItem}
 use Rattle.data_instructions.specs.declared.tables.DataTables.{DataTables}
 use Rattle.data_instructions.specs.declared.fault.ProgramFault.{ProgramFault}
 use Rattle.data_instructions.specs.Faults.{fault_of}
-use Rattle.data_instructions.specs.Tables.{item_place}
+use Rattle.data_instructions.specs.Tables.{shortened, item_place}
 use Rattle.data_instructions.specs.Scratch.{Scratch, Step, Went, Faulted, step_with, step_at}
 use Rattle.data_instructions.specs.Table.{at_newest, at_place, strung_to, strung_by}
 use Rattle.run_time_data.specs.Finds.{StandsAt}
-use Rattle.run_time_data.specs.Stringing.{put_from, PutsText}
+use Rattle.run_time_data.specs.Comes.{Comes}
+use Rattle.run_time_data.specs.Stringing.{put_from, strung_with}
 
 -- areas of the same lengths
 same_lengths : (xs ys : Storage) (i : ℕ) → map length xs ≡ map length ys → (length xs ≡ length ys) × (length (slice_index_or xs i []) ≡ length (slice_index_or ys i []))
@@ -111,35 +112,36 @@ module _ (receiver pointer : ItemPlace) (text : List ℕ) (old : Storage) where
 
 -- ---- the table's step
 
--- what comes of a STRING
-abbrev pub Strung : Result Bool ProgramFault → Storage → List Place → Scratch → Step → Type 0
-Strung (Ok overflow) new rest s step = step ≡ Went (record s { storage = new; places = rest; truth = overflow; line = [] })
-Strung (Err fault) new rest s step = step ≡ Faulted (fault_of fault)
-
 module _ (tables : DataTables) (s : Scratch) (p q : Place) (rest : List Place) (to one : DataItem) where
   abbrev below : Scratch
   below = record s { places = rest }
 
   abbrev pointed : ItemPlace
-  pointed = item_place to p.offset
+  pointed = item_place (shortened to p.length) p.offset
 
   abbrev received : ItemPlace
-  received = item_place one q.offset
+  received = item_place (shortened one q.length) q.offset
 
   joined : (held : Evaluated ℕ) → step_with held (λ at. strung_to (Some pointed) at received below)
-      ≡ step_with (held >>= (λ at. put_text received (Some pointed) at s.line s.storage)) (λ after. Went (record below { storage = after.storage; truth = after.overflow; line = [] }))
+      ≡ step_with (held >>= (λ at. put_text received (Some pointed) at s.line s.storage)) (strung_with below)
   joined (Ok at) = refl
   joined (Err fault) = refl
 
   found : s.places ≡ p ∷ (q ∷ rest) → slice_get tables.items p.item.number ≡ Some to → slice_get tables.items q.item.number ≡ Some one
-      → strung_by tables true s ≡ step_with (put_from received pointed s.line s.storage) (λ after. Went (record below { storage = after.storage; truth = after.overflow; line = [] }))
+      → strung_by tables true s ≡ step_with (put_from received pointed s.line s.storage) (strung_with below)
   found is here there =
       ap (λ (ps : List Place). at_newest tables ps (λ pointer t. step_with (held_position t.storage pointer) (λ at. at_place tables (strung_to (Some pointer) at) t)) s) is
-      ∙ ap (λ (o : Option DataItem). step_at o (λ to. step_with (held_position s.storage (item_place to p.offset)) (λ at. at_place tables (strung_to (Some (item_place to p.offset)) at) (record s { places = q ∷ rest })))) here
-      ∙ ap (λ (o : Option DataItem). step_with (held_position s.storage pointed) (λ at. step_at o (λ one. strung_to (Some pointed) at (item_place one q.offset) below))) there
+      ∙ ap (λ (o : Option DataItem). step_at o (λ to. step_with (held_position s.storage (item_place (shortened to p.length) p.offset)) (λ at. at_place tables (strung_to (Some (item_place (shortened to p.length) p.offset)) at) (record s { places = q ∷ rest })))) here
+      ∙ ap (λ (o : Option DataItem). step_with (held_position s.storage pointed) (λ at. step_at o (λ one. strung_to (Some pointed) at (item_place (shortened one q.length) q.offset) below))) there
       ∙ joined (held_position s.storage pointed)
 
-  pub strung_comes : (done : Result Bool ProgramFault) (new : Storage) → s.places ≡ p ∷ (q ∷ rest) → slice_get tables.items p.item.number ≡ Some to → slice_get tables.items q.item.number ≡ Some one
-      → PutsText done new (put_from received pointed s.line s.storage) → Strung done new rest s (strung_by tables true s)
-  strung_comes (Ok overflow) new is here there puts = found is here there ∙ ap (λ (e : Evaluated Strings). step_with e (λ after. Went (record below { storage = after.storage; truth = after.overflow; line = [] }))) puts
-  strung_comes (Err fault) new is here there puts = found is here there ∙ ap (λ (e : Evaluated Strings). step_with e (λ after. Went (record below { storage = after.storage; truth = after.overflow; line = [] }))) puts
+  -- the items as they were seen
+  pub strung_as : {A : Type 0} (r : Result A ProgramFault) (now : Scratch) (seen_to seen_one : DataItem) → seen_to ≡ shortened to p.length → seen_one ≡ shortened one q.length
+      → s.places ≡ p ∷ (q ∷ rest) → slice_get tables.items p.item.number ≡ Some to → slice_get tables.items q.item.number ≡ Some one
+      → Comes r now (step_with (put_from (item_place seen_one q.offset) (item_place seen_to p.offset) s.line s.storage) (strung_with below)) → Comes r now (strung_by tables true s)
+  strung_as r now seen_to seen_one to_is one_is is here there comes =
+      subst (Comes r now)
+      (ap (λ (o : DataItem). step_with (put_from (item_place o q.offset) (item_place seen_to p.offset) s.line s.storage) (strung_with below)) one_is
+      ∙ ap (λ (o : DataItem). step_with (put_from received (item_place o p.offset) s.line s.storage) (strung_with below)) to_is
+      ∙ sym (found is here there))
+      comes

@@ -12,7 +12,7 @@ use Rattle.data_instructions.specs.declared.tables.Inspection.{Inspection}
 use Rattle.data_instructions.specs.declared.tables.DataTables.{DataTables}
 use Rattle.data_instructions.specs.declared.fault.ProgramFault.{ProgramFault}
 use Rattle.data_instructions.specs.Faults.{fault_of}
-use Rattle.data_instructions.specs.Tables.{item_place}
+use Rattle.data_instructions.specs.Tables.{shortened, item_place}
 use Rattle.data_instructions.specs.Scratch.{Scratch, Step}
 use Rattle.data_instructions.specs.Table.{at_place, at_places, inspected_at}
 use Rattle.run_time_data.specs.declared.inspect_room.InspectRoom.{InspectRoom}
@@ -32,12 +32,12 @@ pub record SameRoom (old new : InspectRoom) : Type 0 where
   pub text : new.text.room ≡ old.text.room
 
 -- the item at a place; an index of none has no bytes
-abbrev pub there_or_none : ℕ → Option DataItem → ItemPlace
-there_or_none offset None = record { item = record { kind = kind.Group; length = 0 }; editing = None; area = 0; offset = offset }
-there_or_none offset (Some one) = item_place one offset
+abbrev pub there_or_none : Place → Option DataItem → ItemPlace
+there_or_none p None = record { item = record { kind = kind.Group; length = 0 }; editing = None; area = 0; offset = p.offset }
+there_or_none p (Some one) = item_place (shortened one p.length) p.offset
 
 abbrev pub there : DataTables → Place → ItemPlace
-there tables p = there_or_none p.offset (slice_get tables.items p.item.number)
+there tables p = there_or_none p (slice_get tables.items p.item.number)
 
 -- an item stands at each place
 abbrev pub StandEach : DataTables → Storage → List Place → Type 0

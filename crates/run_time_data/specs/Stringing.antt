@@ -1,15 +1,20 @@
 -- What STRING finds out.
-use Rattle.std.specs.Prelude.{◌≡◌, ℕ, ◌≤◌, ◌<◌, ◌⊎◌, Bool, List, Option, Some, None, Result, Ok, Err}
+use Rattle.std.specs.Prelude.{◌≡◌, ℕ, ◌≤◌, ◌<◌, ◌⊎◌, Bool, List, [], Option, Some, None, Result, Ok, Err}
 use Rattle.source_tree.specs.Storage.{Storage}
 use Rattle.source_tree.specs.Evaluated.{Evaluated, ◌>>=◌}
 use Rattle.source_tree.specs.References.{ItemPlace}
 use Rattle.source_tree.specs.Stringing.{Strings, held_position, put_text}
 use Rattle.data_instructions.specs.declared.fault.ProgramFault.{ProgramFault}
 use Rattle.data_instructions.specs.Faults.{fault_of}
+use Rattle.data_instructions.specs.Scratch.{Scratch, Step, Went}
 
 -- a text put into a receiver from the position on that a pointer holds
 abbrev pub put_from : ItemPlace → ItemPlace → List ℕ → Storage → Evaluated Strings
 put_from receiver pointer text storage = held_position storage pointer >>= (λ at. put_text receiver (Some pointer) at text storage)
+
+-- what is left behind it: the truth is whether there was an overflow, and the line is empty
+abbrev pub strung_with : Scratch → Strings → Step
+strung_with s after = Went (record s { storage = after.storage; truth = after.overflow; line = [] })
 
 -- a position, where it is within so many bytes, which count from 1
 abbrev pub IsWithin : Option ℕ → ℕ → ℕ → Type 0

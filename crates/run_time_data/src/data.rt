@@ -26,6 +26,7 @@ use std::alloc::{AllocError, Global};
 const NO_PLACE: Place = Place {
     item: ItemIndex { number: 0 },
     offset: 0,
+    length: 0,
 };
 
 /// The most that the shapes of code ask for.

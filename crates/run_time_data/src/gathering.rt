@@ -14,6 +14,7 @@ ghost use Rattle.run_time_data.specs.Lines.{HasPartRoom, HasTextRoom};
 ghost use Rattle.run_time_data.specs.Ready.{IsReady};
 
 use crate::data::Data;
+use crate::seen::{part_of, seen};
 use data_instructions::{DataItem, DataTables, Gather, ProgramFault, TextIndex};
 use text_ops::delimited;
 
@@ -46,6 +47,8 @@ impl Data {
     {
         let place = self.places.pop();
         let one = &tables.items.as_slice()[place.item.number as usize];
+        let part = part_of(one, place.length);
+        let one = seen(one, &part);
         self.line.append(self.areas.bytes(one, place.offset));
         Ok(())
     }
@@ -63,7 +66,11 @@ impl Data {
         let next = self.places.pop();
         let items = tables.items.as_slice();
         let one = &items[place.item.number as usize];
+        let part = part_of(one, place.length);
+        let one = seen(one, &part);
         let other = &items[next.item.number as usize];
+        let other_part = part_of(other, next.length);
+        let other = seen(other, &other_part);
         let delimiter = self.areas.bytes(other, next.offset);
         let bytes = self.areas.bytes(one, place.offset);
         self.line.append(up_to(delimiter, bytes));
@@ -86,6 +93,8 @@ impl Data {
         let delimiter = tables.texts.as_slice()[delimiter.number as usize].as_slice();
         let place = self.places.pop();
         let one = &tables.items.as_slice()[place.item.number as usize];
+        let part = part_of(one, place.length);
+        let one = seen(one, &part);
         let bytes = self.areas.bytes(one, place.offset);
         self.line.append(up_to(delimiter, bytes));
         Ok(())
@@ -103,6 +112,8 @@ impl Data {
         let bytes = tables.texts.as_slice()[text.number as usize].as_slice();
         let next = self.places.pop();
         let other = &tables.items.as_slice()[next.item.number as usize];
+        let part = part_of(other, next.length);
+        let other = seen(other, &part);
         let delimiter = self.areas.bytes(other, next.offset);
         self.line.append(up_to(delimiter, bytes));
         self.places.push(next);
@@ -118,6 +129,8 @@ impl Data {
     {
         let place = self.places.pop();
         let one = &tables.items.as_slice()[place.item.number as usize];
+        let part = part_of(one, place.length);
+        let one = seen(one, &part);
         self.line
             .append(sized(one, self.areas.bytes(one, place.offset)));
         Ok(())

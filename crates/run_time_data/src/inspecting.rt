@@ -7,7 +7,7 @@ ghost use Rattle.data_instructions.specs.Tables.{item_place, total, IsInspection
 ghost use Rattle.data_instructions.specs.declared.instruction.DataInstruction.TheVariants as instructions;
 ghost use Rattle.run_time_data.specs.Data.{scratch_of};
 ghost use Rattle.run_time_data.specs.Comes.{Comes, Keeps};
-ghost use Rattle.run_time_data.specs.Finds.{HasItemRoom, StandsAt};
+ghost use Rattle.run_time_data.specs.Finds.{HasItemRoom, Stands, StandsAt};
 ghost use Rattle.run_time_data.specs.Inspecting.{there, inspected_with, stored_by, added_and_stored, StandEach, FindsPlaces, Adds};
 ghost use Rattle.run_time_data.specs.Ready.{IsReady};
 
@@ -15,6 +15,7 @@ use crate::areas::Areas;
 use crate::calculating::operate;
 use crate::data::Data;
 use crate::numbers::number_in;
+use crate::seen::{part_of, seen};
 use data_instructions::{DataItem, DataTables, Inspection, InspectionIndex, Place, ProgramFault};
 use decimal18::Dec;
 use source_tree::Operator;
@@ -54,6 +55,25 @@ fn add_fits(
     Ok(())
 }
 
+/// The same to the counter at a place.
+fn add_at(
+    areas: &mut Areas,
+    tables: &DataTables,
+    place: Place,
+    counts: &[u64],
+    from: usize,
+    entries: u32,
+) -> Result<(), ProgramFault>
+    requires stands { Stands tables.now areas.old place }
+    requires counts { from + entries ≤ length counts.now }
+    ensures adds { Adds result areas.new (meaning.add_fits (there tables.now place) (meaning.fits_together (slice_index counts.now) from entries) areas.old) }
+    ensures lengths { map length areas.new ≡ map length areas.old }
+{
+    let one = &tables.items.as_slice()[place.item.number as usize];
+    let part = part_of(one, place.length);
+    add_fits(areas, seen(one, &part), place.offset, counts, from, entries)
+}
+
 /// Adds to each counter in turn: so many entries are the first one's, and so on.
 fn add_each(
     areas: &mut Areas,
@@ -70,10 +90,8 @@ fn add_each(
 {
     let mut from = 0;
     for number in 0..places.len() {
-        let place = places[number];
-        let one = &tables.items.as_slice()[place.item.number as usize];
         let entries = counters[number];
-        match add_fits(areas, one, place.offset, counts, from, entries) {
+        match add_at(areas, tables, places[number], counts, from, entries) {
             Ok(()) => from += entries as usize,
             Err(fault) => return Err(fault),
         }
@@ -139,6 +157,8 @@ impl Data {
         let counters = one.counters.as_slice();
         let subject = self.places.below(counters.len());
         let to = &tables.items.as_slice()[subject.item.number as usize];
+        let part = part_of(to, subject.length);
+        let to = seen(to, &part);
         self.line.fit(one.size as usize);
         self.inspecting.inspect(one, self.line.bytes(), self.areas.bytes(to, subject.offset));
         self.line.clear();

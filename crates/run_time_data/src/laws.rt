@@ -28,7 +28,7 @@ pub fn finding_law()
     ensures date { (tables : DataTables) (d : Data) (shape after : Shape) → IsAt tables d shape → dating tables shape ≡ Some after → FindsItem tables d.areas d.places.newest_first }
 {}
 
-/// Of a console line no more counts than the longest item has.
+/// Of a console line no more counts than the longest item has, where an item stands at the newest place.
 pub fn cutting_law()
-    ensures { (tables : DataTables) (line : List ℕ) (room : ℕ) (s : Scratch) → HasItemRoom tables room → accepted tables (take room line) s ≡ accepted tables line s }
+    ensures { (tables : DataTables) (line : List ℕ) (room : ℕ) (s : Scratch) → HasItemRoom tables room → FindsItem tables s.storage s.places → accepted tables (take room line) s ≡ accepted tables line s }
 {}

@@ -22,6 +22,7 @@ mod occurring;
 mod overlaying;
 mod receiving;
 mod relative_keys;
+mod seen;
 mod sender;
 mod short;
 mod short_arithmetic;

@@ -10,6 +10,7 @@ ghost use Rattle.run_time_data.specs.Finds.{FindsItem};
 ghost use Rattle.run_time_data.specs.Subscripts.{Told, ReachesWithin};
 
 use crate::data::Data;
+use crate::seen::{part_of, seen};
 use data_instructions::{DataTables, NumberIndex, ProgramFault};
 use decimal18::Dec;
 use items::{Kind, number};
@@ -65,6 +66,8 @@ impl Data {
     {
         let place = self.places.pop();
         let one = &tables.items.as_slice()[place.item.number as usize];
+        let part = part_of(one, place.length);
+        let one = seen(one, &part);
         let bytes = self.areas.bytes(one, place.offset);
         let number = number_in(one.item.kind, bytes).ok_or(ProgramFault::Data)?;
         self.numbers.push(Some(number));

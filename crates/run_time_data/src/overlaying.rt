@@ -11,6 +11,7 @@ ghost use Rattle.run_time_data.specs.Overlays.{byte_over};
 ghost use Rattle.run_time_data.specs.Writing.{with_part};
 
 use crate::data::Data;
+use crate::seen::{part_of, seen};
 use data_instructions::{DataItem, DataTables, ProgramFault, TextIndex};
 
 /// The byte that comes in the place of another: the one there of `bytes`, but where its mark is 0 the old one.
@@ -54,6 +55,8 @@ impl Data {
         let marks = texts[text.number as usize + 1].as_slice();
         let place = self.places.pop();
         let one = &tables.items.as_slice()[place.item.number as usize];
+        let part = part_of(one, place.length);
+        let one = seen(one, &part);
         self.areas.overlay(one, place.offset, bytes, marks);
         Ok(())
     }

@@ -9,6 +9,7 @@ ghost use Rattle.run_time_data.specs.Finds.{FindsItem};
 ghost use Rattle.run_time_data.specs.Lines.{HasLineRoom, HasTextRoom};
 
 use crate::data::Data;
+use crate::seen::{part_of, seen};
 use data_instructions::{DataTables, ProgramFault, TextIndex};
 
 impl Data {
@@ -21,6 +22,8 @@ impl Data {
     {
         let place = self.places.pop();
         let one = &tables.items.as_slice()[place.item.number as usize];
+        let part = part_of(one, place.length);
+        let one = seen(one, &part);
         let bytes = self.areas.bytes(one, place.offset);
         self.line.append_shown(one.item, bytes)?;
         Ok(())

@@ -8,6 +8,7 @@ ghost use Rattle.run_time_data.specs.Comes.{Comes, Keeps};
 ghost use Rattle.run_time_data.specs.Finds.{FindsItem};
 
 use crate::data::Data;
+use crate::seen::{part_of, seen};
 use data_instructions::{DataTables, ProgramFault};
 
 impl Data {
@@ -27,6 +28,8 @@ impl Data {
         let place = self.places.pop();
         let number = self.numbers.pop();
         let one = &tables.items.as_slice()[place.item.number as usize];
+        let part = part_of(one, place.length);
+        let one = seen(one, &part);
         let size_error = self.areas.store(one, place.offset, number, rounded, keep)?;
         if size_error {
             self.truth = true;

@@ -5,6 +5,7 @@ ghost use Rattle.text_ops.specs.Strings.{strung};
 ghost use Rattle.source_tree.specs.Evaluated.{needed};
 ghost use Rattle.source_tree.specs.References.{whole_part};
 ghost use Rattle.source_tree.specs.Stringing as meaning;
+ghost use Rattle.data_instructions.specs.Scratch.{step_with};
 ghost use Rattle.data_instructions.specs.Table as spec;
 ghost use Rattle.data_instructions.specs.Tables.{item_place};
 ghost use Rattle.data_instructions.specs.declared.instruction.DataInstruction.TheVariants as instructions;
@@ -12,13 +13,15 @@ ghost use Rattle.run_time_data.specs.Data.{scratch_of};
 ghost use Rattle.run_time_data.specs.Comes.{Comes, Keeps};
 ghost use Rattle.run_time_data.specs.Finds.{FindsItem, FindsNext, StandsAt};
 ghost use Rattle.run_time_data.specs.Ready.{IsReady};
-ghost use Rattle.run_time_data.specs.Stringing.{put_from, IsWithin, PutsText};
+ghost use Rattle.run_time_data.specs.Stringing.{put_from, strung_with, IsWithin, PutsText};
 ghost use Rattle.run_time_data.specs.Subscripts.{Told};
 ghost use Rattle.run_time_data.specs.Writing.{with_part};
 
 use crate::areas::Areas;
 use crate::data::Data;
+use crate::fusing::item_of;
 use crate::numbers::number_in;
+use crate::seen::{part_of, seen};
 use data_instructions::{DataItem, DataTables, ProgramFault};
 use decimal18::Dec;
 use text_ops::string_into;
@@ -110,7 +113,28 @@ impl Data {
     {
         let place = self.places.pop();
         let one = &tables.items.as_slice()[place.item.number as usize];
+        let part = part_of(one, place.length);
+        let one = seen(one, &part);
         self.truth = put_from_first(&mut self.areas, one, place.offset, self.line.bytes());
+        self.line.clear();
+        Ok(())
+    }
+
+    /// The line is put into an item at an offset, from the position on that a pointer holds, or fault 90.
+    fn string_at(
+        &mut self,
+        one: &DataItem,
+        offset: usize,
+        pointer: &DataItem,
+        held: usize,
+    ) -> Result<(), ProgramFault>
+        requires stands { StandsAt one.now self.old.areas offset }
+        requires pointer { StandsAt pointer.now self.old.areas held }
+        ensures does { Comes result (scratch_of self.new) (step_with (put_from (item_place one.now offset) (item_place pointer.now held) self.old.line.bytes self.old.areas) (strung_with (scratch_of self.old))) }
+        ensures keeps { Keeps self.old self.new }
+    {
+        let text = self.line.bytes();
+        self.truth = put_from_pointer(&mut self.areas, one, offset, pointer, held, text)?;
         self.line.clear();
         Ok(())
     }
@@ -124,19 +148,16 @@ impl Data {
     {
         let pointer = self.places.pop();
         let place = self.places.pop();
-        let items = tables.items.as_slice();
-        let to = &items[pointer.item.number as usize];
-        let one = &items[place.item.number as usize];
-        self.truth = put_from_pointer(
-            &mut self.areas,
-            one,
+        let to = item_of(tables, pointer.item);
+        let to_part = part_of(to, pointer.length);
+        let one = item_of(tables, place.item);
+        let part = part_of(one, place.length);
+        self.string_at(
+            seen(one, &part),
             place.offset,
-            to,
+            seen(to, &to_part),
             pointer.offset,
-            self.line.bytes(),
-        )?;
-        self.line.clear();
-        Ok(())
+        )
     }
 
     /// `string`, with a pointer or without. It takes no memory.

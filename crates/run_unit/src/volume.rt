@@ -24,7 +24,7 @@ use station::Station;
 use std::alloc::Global;
 
 /// How many pages of a volume are kept in memory, besides those that a change takes.
-const CACHED_PAGES: usize = 1024;
+const CACHED_PAGES: usize = 4096;
 
 /// Runs code without files. No sector is written.
 pub(crate) fn run_alone<S: Station>(

@@ -7,6 +7,8 @@ mod asserted;
 #[cfg(test)]
 mod call_tests;
 #[cfg(test)]
+mod capacity_tests;
+#[cfg(test)]
 mod cases;
 #[cfg(test)]
 mod damage_tests;

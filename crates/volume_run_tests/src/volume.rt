@@ -9,7 +9,7 @@ use std::process::Abort;
 const BUDGET: u64 = 1000;
 
 /// YYMMDD.
-const DAY: [u8; 6] = *b"000000";
+pub const DAY: [u8; 6] = *b"000000";
 
 fn console(alloc: Global, lines: &[&[u8]]) -> Result<Vec<Vec<u8>>, AllocError> {
     let mut all = Vec::new(alloc);
