@@ -1,4 +1,5 @@
--- EVALUATE: which statements are done, what isn't asked, and the rules of its objects. Expected is what the manual says of it.
+-- EVALUATE: which statements are done, how subjects are taken, what isn't asked, and the rules of its objects. Expected is what the manual
+-- says of it.
 use Prim.Native.String.{String}
 use Rattle.std.proofs.Common.{◌≡◌, ℕ, Bool, true, false, List, [], ◌∷◌, ◌++◌}
 use Rattle.std.specs.Prelude.{codes, map, Option, Some, None}
@@ -21,7 +22,7 @@ use Rattle.source_tree.specs.Places.{Placed, items_of}
 use Rattle.source_tree.specs.Evaluated as fault
 use Rattle.source_tree.specs.Broken.{Broken}
 use Rattle.source_tree.specs.State.{State, Outcome, Done, Over, Faulted, showing}
-use Rattle.source_tree.specs.Evaluate.{selecting}
+use Rattle.source_tree.specs.Evaluate.{evaluating}
 use Rattle.source_tree.specs.EvaluateRules.{when_rules}
 use Rattle.source_tree.proofs.Samples.{at, here, item, entries, one_value, condition, number, the_item, the_literal}
 unfoldable use Rattle.source_tree.proofs.Computing.{computing}
@@ -88,7 +89,8 @@ abbrev show : ℕ → State → Outcome
 show byte s = Done (showing (byte ∷ []) s)
 
 abbrev evaluate : List Subject → List (Selected ℕ) → Option (List ℕ) → String → String → Outcome
-evaluate subjects selected other a b = selecting items show subjects selected other (after a b "")
+evaluate subjects selected other a b =
+    evaluating items show (record { subjects = subjects; selected = selected; other = other }) (after a b "")
 
 -- rows of an EVALUATE, what A and B hold, and what is shown
 abbrev Shows : List ((String → String → Outcome) × String × String × String) → Type 0
@@ -141,21 +143,40 @@ both_or_neither : Shows ((alike, "2", "0", "P") ∷ (alike, "2", "1", "") ∷ (a
 unfolding computing
 both_or_neither = (simp told_by_form, (simp told_by_form, (simp told_by_form, (simp told_by_form, tt))))
 
--- ---- what isn't asked: B holds x, which is no number
+-- ---- subjects are taken, objects are asked: B holds x, which is no number
 
 -- EVALUATE A ALSO B WHEN 2 ALSO this object "P" WHEN OTHER "R"
 abbrev beside_two : Choice → String → String → Outcome
 beside_two object = evaluate (of "A" ∷ of "B" ∷ []) (whens ((is (counted "2") ∷ object ∷ []) ∷ []) "P" ∷ []) (Some (codes "R"))
 
--- A subject isn't looked at beside ANY, behind an object that doesn't fit, and behind a WHEN that does.
-not_asked : Shows ((beside_two choice.Any, "2", "x", "P") ∷ (beside_two (is (counted "1")), "3", "x", "R") ∷ (two_groups, "3", "x", "PQ") ∷ [])
-unfolding computing
-not_asked = (simp told_by_form, (simp told_by_form, (simp told_by_form, tt)))
+-- B = 0 ALSO FALSE
+abbrev zero_also_false : String → String → Outcome
+zero_also_false =
+    evaluate (subject.Condition (is_zero "B") ∷ subject.Truth false ∷ []) (whens ((choice.Any ∷ choice.Truth true ∷ []) ∷ []) "P" ∷ []) (Some (codes "R"))
 
--- Beside 1 it is, which is a fault at the line of EVALUATE.
-asked : beside_two (is (counted "1")) "2" "x" ≡ Over (Faulted fault.Data 9) (after "2" "x" "")
+-- rows of an EVALUATE and what A and B hold: a fault at the line of EVALUATE
+abbrev Faults : List ((String → String → Outcome) × String × String) → Type 0
+Faults [] = Unit {0}
+Faults (row ∷ more) = (row.0 row.1 row.2 ≡ Over (Faulted fault.Data 9) (after row.1 row.2 "")) × Faults more
+
+-- A subject is taken beside ANY, behind an object that isn't met, where another one decides, and alone; and so is a condition.
+taken : Faults ((beside_two choice.Any, "2", "x")
+    ∷ (beside_two (is (counted "1")), "3", "x")
+    ∷ (beside_two (is (counted "1")), "2", "x")
+    ∷ (one_when (of "B") choice.Any, "2", "x")
+    ∷ (zero_also_false, "2", "x")
+    ∷ [])
 unfolding computing
-asked = simp told_by_form
+taken = (simp told_by_form, (simp told_by_form, (simp told_by_form, (simp told_by_form, (simp told_by_form, tt)))))
+
+-- The same with numbers; and an object that isn't asked, behind a WHEN that is met, has no fault.
+no_fault : Shows ((beside_two choice.Any, "2", "0", "P")
+    ∷ (beside_two (is (counted "1")), "3", "0", "R")
+    ∷ (zero_also_false, "2", "1", "R")
+    ∷ (two_groups, "3", "x", "PQ")
+    ∷ [])
+unfolding computing
+no_fault = (simp told_by_form, (simp told_by_form, (simp told_by_form, (simp told_by_form, tt))))
 
 -- ---- rules
 

@@ -3,6 +3,7 @@ pub mod Telling
 pub mod Runs
 pub mod Depth
 pub mod Repeating
+pub mod Subjects
 pub mod FilingRuns
 pub mod FileVerbs
 pub mod SoundFiles

@@ -8,11 +8,12 @@ use Rattle.source_tree.specs.declared.branching.Branching.{Branching}
 use Rattle.source_tree.specs.declared.branching.Branching.TheVariants as branch
 use Rattle.source_tree.specs.declared.evaluate.Subject.{Subject}
 use Rattle.source_tree.specs.declared.evaluate.Selected.{Selected}
+use Rattle.source_tree.specs.declared.evaluate.Evaluate.{Evaluate}
 use Rattle.source_tree.specs.Places.{Placed}
 use Rattle.source_tree.specs.Evaluated.{Evaluated}
 use Rattle.source_tree.specs.Conditions.{Truth, holds}
 use Rattle.source_tree.specs.Branching.{way, branching}
-use Rattle.source_tree.specs.Evaluate.{selected_asked, one_of, selecting}
+use Rattle.source_tree.specs.Evaluate.{selected_asked, one_of, take_subjects, selecting, evaluating}
 use Rattle.source_tree.specs.Until.{done_if, unless_true, until_before, until_after, until_from, vary_begin, vary_on, until}
 use Rattle.source_tree.specs.State.{State, Budget, Outcome, Over, then_do, in_turn, spend, with_value, changing}
 use Rattle.source_tree.proofs.Telling.{itself}
@@ -77,10 +78,15 @@ module _ {S : Type 0} (run : S → State → Outcome) (r : (one : S) → IsRun (
       (one_of_runs (in_turn run one.statements) (selecting items run subjects more other) (in_turn_runs run r one.statements) (selecting_runs items subjects more other))
       (holds items (selected_asked items subjects one))
 
+  evaluating_runs : (items : List Placed) (one : Evaluate S) → IsRun (evaluating items run one)
+  evaluating_runs items one =
+      value_runs (λ (_ : Unit {0}) s. selecting items run one.subjects one.selected one.other s)
+      (λ _. selecting_runs items one.subjects one.selected one.other) (take_subjects items one.subjects)
+
   pub branching_runs : (items : List Placed) (one : Branching S) → IsRun (branching items run one)
   branching_runs items (branch.If condition statements otherwise) =
       value_runs (λ truth s. way run statements otherwise truth s) (way_runs statements otherwise) (holds items condition)
-  branching_runs items (branch.Evaluate one) = selecting_runs items one.subjects one.selected one.other
+  branching_runs items (branch.Evaluate one) = evaluating_runs items one
 
 -- ---- two depths
 
@@ -185,6 +191,15 @@ module _ {S : Type 0} (n : ℕ) (run other : S → State → Outcome) (r : (one 
         (holds items (selected_asked items subjects one) s.storage) s le;
   }
 
+  taken_same : (items : List Placed) (one : Evaluate S) (e : Evaluated (Unit {0})) (s : State) → s.budget ≤ n
+      → with_value e s (λ _. selecting items run one.subjects one.selected one.other s)
+      ≡ with_value e s (λ _. selecting items other one.subjects one.selected one.other s)
+  taken_same items one (Ok value) s le = (selecting_agrees items one.subjects one.selected one.other).by s le
+  taken_same items one (Err fault) s le = refl
+
+  evaluating_agrees : (items : List Placed) (one : Evaluate S) → Agrees n (evaluating items run one) (evaluating items other one)
+  evaluating_agrees items one = record { by = λ s le. taken_same items one (take_subjects items one.subjects s.storage) s le }
+
   pub branching_agrees : (items : List Placed) (one : Branching S) → Agrees n (branching items run one) (branching items other one)
   branching_agrees items (branch.If condition statements otherwise) = record { by = λ s le. ways_same statements otherwise (holds items condition s.storage) s le }
-  branching_agrees items (branch.Evaluate one) = selecting_agrees items one.subjects one.selected one.other
+  branching_agrees items (branch.Evaluate one) = evaluating_agrees items one

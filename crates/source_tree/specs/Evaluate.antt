@@ -1,6 +1,10 @@
--- EVALUATE (COBOL-85, Nucleus, "The EVALUATE statement"), told by the conditions that its objects ask of its subjects (own choice). Nothing
--- is stored between them, so that a subject has one value at all of them.
-use Rattle.std.specs.Prelude.{Bool, true, false, not, List, [], ◌∷◌, Option, Some, None}
+-- EVALUATE (COBOL-85, Nucleus, "The EVALUATE statement"). First the subjects are taken. Which objects are met is then told by the
+-- conditions that they ask of the subjects (own choice): nothing is stored in between, so that a subject has the value with which it was
+-- taken at all of them.
+use Rattle.std.specs.Prelude.{ℕ, Bool, true, false, not, List, [], ◌∷◌, Option, Some, None, Ok}
+use Rattle.items.specs.declared.item.Kind.{Kind}
+use Rattle.items.specs.declared.item.Kind.TheVariants as kind
+use Rattle.items.specs.Values.{value_of}
 use Rattle.source_tree.specs.declared.reference.Reference.{Reference}
 use Rattle.source_tree.specs.declared.expression.Operand.{Operand}
 use Rattle.source_tree.specs.declared.expression.Operand.TheVariants as operand
@@ -18,7 +22,10 @@ use Rattle.source_tree.specs.declared.evaluate.Selected.{Selected}
 use Rattle.source_tree.specs.declared.evaluate.Evaluate.{Evaluate}
 use Rattle.source_tree.specs.Places.{Placed}
 use Rattle.source_tree.specs.LookUp.{NamedCondition, conditions_named}
-use Rattle.source_tree.specs.Conditions.{alone_side, holds}
+use Rattle.source_tree.specs.Storage.{Storage}
+use Rattle.source_tree.specs.Evaluated.{Evaluated, ◌>>=◌, needed}
+use Rattle.source_tree.specs.References.{ItemPlace, part_of, place_of}
+use Rattle.source_tree.specs.Conditions.{alone_side, side_number, holds}
 use Rattle.source_tree.specs.State.{State, Outcome, in_turn, with_value}
 use Rattle.source_tree.specs.Arithmetic.{in_phrase}
 
@@ -104,8 +111,40 @@ asked_of (Asking a) (Truth b) = told_as b a
 asked_of (Asking a) (Asking b) = alike a b
 asked_of _ _ = constant false
 
+-- ---- how a subject is taken: what is left of it is whether that is a fault
+
+abbrev pub without_value : {A : Type 0} → Evaluated A → Evaluated (Unit {0})
+without_value found = found >>= (λ value. Ok tt)
+
+-- The bytes of a numeric item are a number.
+abbrev pub take_bytes : Kind → List ℕ → Evaluated (Unit {0})
+take_bytes (kind.Numeric form) bytes = without_value (needed (value_of form bytes))
+take_bytes _ bytes = Ok tt
+
+abbrev pub take_item : Storage → ItemPlace → Evaluated (Unit {0})
+take_item storage place = take_bytes place.item.kind (part_of storage place)
+
 -- `items` are those of the program.
 module _ (items : List Placed) where
+  -- A value: an item alone by its subscripts and its bytes, and anything else by its number, as in a relation. A literal is there.
+  abbrev pub take_value : Option Operand → Side → Storage → Evaluated (Unit {0})
+  take_value (Some (operand.Item one)) value storage = place_of items one storage >>= take_item storage
+  take_value (Some (operand.Literal one)) value storage = Ok tt
+  take_value None value storage = side_number items value storage >>= (λ x. without_value (needed x))
+
+  -- A condition is taken by its truth.
+  abbrev pub take_looked : Looked Side → Storage → Evaluated (Unit {0})
+  take_looked (Value one) storage = take_value (alone_side one) one storage
+  take_looked (Truth one) storage = Ok tt
+  take_looked (Asking one) storage = without_value (holds items one storage)
+
+  -- each in turn
+  abbrev pub take_subjects : List Subject → Storage → Evaluated (Unit {0})
+  take_subjects [] storage = Ok tt
+  take_subjects (one ∷ more) storage = take_looked (looked_subject items one) storage >>= (λ _. take_subjects more storage)
+
+  -- ---- what objects ask
+
   -- whether an object may stand for a subject: ANY for each, a value for a value, what is true or false for what is true or false
   abbrev pub fits : Subject → Choice → Bool
   fits one choice.Any = true
@@ -142,4 +181,5 @@ module _ (items : List Placed) where
         (λ truth. one_of (in_turn run one.statements) (selecting subjects more other) truth s)
 
     abbrev pub evaluating : Evaluate S → State → Outcome
-    evaluating one s = selecting one.subjects one.selected one.other s
+    evaluating one s =
+        with_value (take_subjects one.subjects s.storage) s (λ _. selecting one.subjects one.selected one.other s)

@@ -1,13 +1,23 @@
 //! What holds of every program's meaning.
 
-ghost use Rattle.std.specs.Prelude.{◌≡◌, ◌≢◌, ◌≤◌, ◌<◌, ℕ, Bool, List, [], ◌∷◌, length, Option};
+ghost use Rattle.std.specs.Prelude.{◌≡◌, ◌≢◌, ◌≤◌, ◌<◌, ℕ, Bool, false, List, [], ◌∷◌, length, Option};
 ghost use Rattle.std.specs.List.{AllByRecursion};
+ghost use Rattle.lexical.specs.declared.place.Place.{Place};
 ghost use Rattle.records.specs.FileStep.{Suits};
+ghost use Rattle.source_tree.specs.declared.condition.Condition.TheVariants.{Relation};
+ghost use Rattle.source_tree.specs.declared.condition.Relation.TheVariants.{Equal};
+ghost use Rattle.source_tree.specs.declared.condition.Side.{Side};
+ghost use Rattle.source_tree.specs.declared.condition.Side.TheVariants as side;
+ghost use Rattle.source_tree.specs.declared.literal.Figurative.TheVariants as figurative;
+ghost use Rattle.source_tree.specs.declared.literal.LiteralValue.TheVariants as literal;
 ghost use Rattle.source_tree.specs.declared.filing.StartKey.{StartKey};
 ghost use Rattle.source_tree.specs.declared.literal.Integer.{Integer};
 ghost use Rattle.source_tree.specs.declared.program.Program.{Program};
 ghost use Rattle.source_tree.specs.declared.reference.Reference.{Reference};
 ghost use Rattle.source_tree.specs.declared.statement.Statement.{Statement};
+ghost use Rattle.source_tree.specs.ConditionRules.{is_literal_alone};
+ghost use Rattle.source_tree.specs.Conditions.{alone_side, holds};
+ghost use Rattle.source_tree.specs.Evaluate.{Value, without_value, take_looked};
 ghost use Rattle.source_tree.specs.Filing.{read_verb, start_verb};
 ghost use Rattle.source_tree.specs.Given.{Given, with_budget};
 ghost use Rattle.source_tree.specs.Integers.{number_of};
@@ -17,6 +27,7 @@ ghost use Rattle.source_tree.specs.Records.{program_areas, storage_areas};
 ghost use Rattle.source_tree.specs.FileRules.{program_file_rules};
 ghost use Rattle.source_tree.specs.SoundFiles.{HasRecordArea, IsSound};
 ghost use Rattle.source_tree.specs.Setting.{Setting};
+ghost use Rattle.source_tree.specs.Storage.{Storage};
 ghost use Rattle.source_tree.specs.State.{State, Budget, in_turn, outcome_state};
 ghost use Rattle.source_tree.specs.Performing.{turns, most_turns, IsDigit, turns_of};
 ghost use Rattle.source_tree.specs.Meaning.{exec, run_from, start, told, meaning};
@@ -58,6 +69,13 @@ pub fn sound_files_law()
 pub fn record_areas_law()
     ensures files { (items : List Placed) (program : Program) → program_file_rules items program ≡ [] →
         AllByRecursion (HasRecordArea (storage_areas program.storage) (program_areas program)) (files_of items program) }
+{}
+
+/// EVALUATE takes a value as a relation takes its left side: it has a fault where a comparison with ZERO has it, and the same one. Each
+/// value but a literal may be compared with ZERO, which has none.
+pub fn subject_law()
+    ensures value { (items : List Placed) (value : Side) (place : Place) (storage : Storage) → is_literal_alone (alone_side value) ≡ false →
+        without_value (holds items (Relation value Equal (side.Literal (record { value = literal.Figurative figurative.Zero; place = place }))) storage) ≡ take_looked items (Value value) storage }
 {}
 
 /// Of an integer of 18 digits no turn is cut. A run with less budget than a loop has turns can't tell whether some were cut: it

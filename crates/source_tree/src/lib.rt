@@ -40,7 +40,8 @@ pub use inspecting::{
     Inspecting, Limits, Occurrences, ReplacedText, Replacing, Tallied, TalliedText, Tallying,
 };
 pub use laws::{
-    budget_law, depth_law, file_verb_law, output_law, record_areas_law, sound_files_law, turns_law,
+    budget_law, depth_law, file_verb_law, output_law, record_areas_law, sound_files_law,
+    subject_law, turns_law,
 };
 pub use lexical::{NumericLiteral, Place, Sign};
 pub use literal::{Figurative, Integer, Literal, LiteralValue};
