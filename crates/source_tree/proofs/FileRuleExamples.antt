@@ -4,7 +4,7 @@ use Rattle.std.proofs.Common.{◌≡◌, ℕ, true, false, List, [], ◌∷◌, 
 use Rattle.std.specs.Prelude.{codes, map, replicate}
 use Rattle.records.specs.declared.select.Access.TheVariants.{Sequential, Random, Dynamic}
 use Rattle.records.specs.declared.verb.OpenMode.TheVariants.{Input, Extend}
-use Rattle.source_tree.specs.declared.condition.Relation.TheVariants.{Less, Equal, GreaterOrEqual}
+use Rattle.source_tree.specs.declared.condition.Relation.TheVariants.{Less, LessOrEqual, Equal, GreaterOrEqual, Greater}
 use Rattle.source_tree.specs.declared.entry.Entry.{Entry}
 use Rattle.source_tree.specs.declared.phrases.FilePhrases.{FilePhrases}
 use Rattle.source_tree.specs.declared.phrases.FilePhrases.TheVariants.{Absent, AtEnd, InvalidKey}
@@ -20,7 +20,7 @@ use Rattle.source_tree.specs.ProgramFiles.{files_of}
 use Rattle.source_tree.specs.FileRules.{file_name_rules, program_file_rules}
 use Rattle.source_tree.specs.FilingRules.{filing_rules}
 use Rattle.source_tree.proofs.Samples.{name, here, item, group, redefining, occurring, valued, entries, condition, one_value, text}
-use Rattle.source_tree.proofs.FileSamples.{select, with_status, relative, indexed, alternate, described, opening, close, read_next, read_by, reading, read_into, write, writing, write_from, delete, start, start_at, program}
+use Rattle.source_tree.proofs.FileSamples.{select, with_status, relative, indexed, alternate, described, opening, close, read_next, read_by, reading, read_into, write, writing, write_from, delete, start, start_at, starting, program}
 unfoldable use Rattle.source_tree.proofs.Computing.{computing}
 
 abbrev rules : List Broken → List ℕ
@@ -172,10 +172,11 @@ record_entries : Holds ((entries (item (codes "01") (codes "R") (codes "XX") ∷
     ∷ (entries (valued (text (codes "A")) (item (codes "01") (codes "R") (codes "X")) ∷ []), 47 ∷ [])
     ∷ (entries (item (codes "01") (codes "R") (codes "X") ∷ []) ++ condition (codes "C") (one_value (text (codes "A")) ∷ []) ∷ [], [])
     ∷ (entries (item (codes "05") (codes "R") (codes "X") ∷ []), 43 ∷ [])
+    ∷ (entries (item (codes "77") (codes "R") (codes "X") ∷ []), 43 ∷ [])
     ∷ ([], 69 ∷ [])
     ∷ [])
 unfolding computing
-record_entries = (refl, (refl, (refl, (refl, (refl, (refl, tt))))))
+record_entries = (refl, (refl, (refl, (refl, (refl, (refl, (refl, tt)))))))
 
 -- ---- file statements: F is sequential, G relative with dynamic access and H with sequential, I indexed with random access and J with
 -- dynamic, L sequential with a number as its only record
@@ -187,12 +188,14 @@ some_files = f ∷ relative Dynamic (Some "N") (select "G") ∷ relative Sequent
 abbrev some_records : List FileDescription
 some_records = described "F" (entries (item (codes "01") (codes "FR") (codes "XXXX") ∷ [])) ∷ described "G" (entries (item (codes "01") (codes "GR") (codes "XXXX") ∷ []))
     ∷ described "H" (entries (item (codes "01") (codes "HR") (codes "XXXX") ∷ []))
-    ∷ described "I" (entries (group (codes "01") (codes "IR") ∷ item (codes "05") (codes "IK") (codes "XX") ∷ item (codes "05") (codes "IV") (codes "99") ∷ []))
-    ∷ described "J" (entries (group (codes "01") (codes "JR") ∷ group (codes "05") (codes "JK") ∷ item (codes "10") (codes "J1") (codes "X") ∷ item (codes "10") (codes "J2") (codes "X") ∷ item (codes "05") (codes "JV") (codes "99") ∷ []))
+    ∷ described "I" (entries (group (codes "01") (codes "IR") ∷ item (codes "05") (codes "IK") (codes "XX") ∷ item (codes "05") (codes "IV") (codes "99")
+    ∷ redefining (codes "IV") (item (codes "05") (codes "I2") (codes "99")) ∷ []))
+    ∷ described "J" (entries (group (codes "01") (codes "JR") ∷ group (codes "05") (codes "JK") ∷ item (codes "10") (codes "J1") (codes "X") ∷ item (codes "10") (codes "J2") (codes "X") ∷ item (codes "05") (codes "JV") (codes "99")
+    ∷ redefining (codes "JV") (item (codes "05") (codes "J3") (codes "99")) ∷ redefining (codes "JV") (item (codes "05") (codes "J4") (codes "XX")) ∷ []))
     ∷ described "L" (entries (item (codes "01") (codes "LR") (codes "9(4)") ∷ [])) ∷ []
 
 abbrev some_storage : List Entry
-some_storage = entries (item (codes "77") (codes "N") (codes "99") ∷ item (codes "77") (codes "X") (codes "XX") ∷ item (codes "77") (codes "A") (codes "AA") ∷ [])
+some_storage = entries (item (codes "01") (codes "N") (codes "99") ∷ redefining (codes "N") (item (codes "01") (codes "N2") (codes "99")) ∷ item (codes "77") (codes "X") (codes "XX") ∷ item (codes "77") (codes "A") (codes "AA") ∷ [])
 
 abbrev some_program : Program
 some_program = program some_files some_records some_storage []
@@ -233,6 +236,7 @@ reads : Broke ((read_next "F", [])
     ∷ (read_by "IK" "I", [])
     ∷ (read_by "IV" "I", [])
     ∷ (read_by "IR" "I", 62 ∷ [])
+    ∷ (read_by "I2" "I", 62 ∷ [])
     ∷ (read_by "JK" "I", 62 ∷ [])
     ∷ (read_by "Z" "I", 40 ∷ [])
     ∷ (read_next "I", 62 ∷ [])
@@ -242,7 +246,7 @@ reads : Broke ((read_next "F", [])
     ∷ (read_into "Z" Absent "F", 40 ∷ [])
     ∷ [])
 unfolding computing
-reads = (refl, (refl, (refl, (refl, (refl, (refl, (refl, (refl, (refl, (refl, (refl, (refl, (refl, (refl, (refl, (refl, (refl, (refl, (refl, (refl, tt))))))))))))))))))))
+reads = (refl, (refl, (refl, (refl, (refl, (refl, (refl, (refl, (refl, (refl, (refl, (refl, (refl, (refl, (refl, (refl, (refl, (refl, (refl, (refl, (refl, tt)))))))))))))))))))))
 
 changes : Broke ((write "FR", [])
     ∷ (write "IK", 40 ∷ [])
@@ -264,13 +268,22 @@ starts : Broke ((start "F", 61 ∷ [])
     ∷ (start "G", [])
     ∷ (start_at GreaterOrEqual "N" "G", [])
     ∷ (start_at Equal "X" "G", 63 ∷ [])
+    ∷ (start_at Equal "N2" "G", 63 ∷ [])
     ∷ (start_at Equal "JK" "J", [])
     ∷ (start_at Equal "J1" "J", [])
     ∷ (start_at Equal "J2" "J", 63 ∷ [])
     ∷ (start_at Equal "JV" "J", [])
     ∷ (start_at Equal "JR" "J", 63 ∷ [])
+    ∷ (start_at Equal "J3" "J", 63 ∷ [])
+    ∷ (start_at Equal "J4" "J", [])
     ∷ (start_at Less "JK" "J", 63 ∷ [])
+    ∷ (start_at LessOrEqual "JK" "J", 63 ∷ [])
+    ∷ (starting true Less "JK" "J", [])
+    ∷ (starting true LessOrEqual "JK" "J", 63 ∷ [])
+    ∷ (starting true Equal "JK" "J", 63 ∷ [])
+    ∷ (starting true Greater "JK" "J", 63 ∷ [])
+    ∷ (starting true GreaterOrEqual "JK" "J", 63 ∷ [])
     ∷ (start_at Equal "Z" "J", 40 ∷ [])
     ∷ [])
 unfolding computing
-starts = (refl, (refl, (refl, (refl, (refl, (refl, (refl, (refl, (refl, (refl, (refl, (refl, (refl, tt)))))))))))))
+starts = (refl, (refl, (refl, (refl, (refl, (refl, (refl, (refl, (refl, (refl, (refl, (refl, (refl, (refl, (refl, (refl, (refl, (refl, (refl, (refl, (refl, (refl, tt))))))))))))))))))))))

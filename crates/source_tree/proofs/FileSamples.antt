@@ -104,8 +104,13 @@ delete file = verb.Filing (filing.Delete (name (codes file)) Absent)
 abbrev pub start : String → Verb Statement
 start file = verb.Filing (filing.Start (name (codes file)) None Absent)
 
+-- with NOT or without
+abbrev pub starting : Bool → Relation → String → String → Verb Statement
+starting negated relation key file =
+    verb.Filing (filing.Start (name (codes file)) (Some (record { operator = record { negated = negated; relation = relation }; key = plain (codes key) })) Absent)
+
 abbrev pub start_at : Relation → String → String → Verb Statement
-start_at relation key file = verb.Filing (filing.Start (name (codes file)) (Some (record { relation = relation; key = plain (codes key) })) Absent)
+start_at relation key file = starting false relation key file
 
 -- MOVE of a text, and DISPLAY of an item WITH NO ADVANCING
 abbrev pub put : String → String → Verb Statement

@@ -47,10 +47,10 @@ abbrev pub level_rules : Entry → List Broken
 level_rules (entry.Item one) = where_so (not (is_level (number_of one.level))) 43 one.level.place
 level_rules (entry.Condition one) = []
 
--- 01 and 77 stand outermost, and 77 holds no items; the items of a group have one level.
-abbrev pub wrong_level : Option ℕ → ℕ → Forest → Bool
-wrong_level None level inner = not ((level == 1) || ((level == 77) && not (has_items inner)))
-wrong_level (Some wanted) level inner = not (level == wanted)
+-- 01 and 77 stand outermost; 77 is no record of a file, and holds no items; the items of a group have one level.
+abbrev pub wrong_level : Bool → Option ℕ → ℕ → Forest → Bool
+wrong_level in_file None level inner = not ((level == 1) || ((level == 77) && not in_file && not (has_items inner)))
+wrong_level in_file (Some wanted) level inner = not (level == wanted)
 
 abbrev pub first_level : Forest → ℕ
 first_level End = 0
@@ -66,7 +66,7 @@ abbrev pub own_rules : Position → ItemEntry → Item → Forest → Option Red
 own_rules at one item inner last =
     where_so (too_many one) 69 one.level.place
     ++ where_so (too_large item) 48 one.level.place
-    ++ where_so (wrong_level at.level (number_of one.level) inner) 43 one.level.place
+    ++ where_so (wrong_level at.in_file at.level (number_of one.level) inner) 43 one.level.place
     ++ where_so (wrong_clause (is_outermost at) at.nesting at.around one item) 44 one.level.place
     ++ where_so (wrong_picture one inner) 45 one.level.place
     ++ redefinition_rules (is_outermost at && at.in_file) one (occurrences one * item.length) one.redefines last

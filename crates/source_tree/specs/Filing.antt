@@ -1,6 +1,6 @@
 -- File statements (COBOL-85, Sequential, Relative and Indexed I-O): the verbs, and what follows a status. Names that name no file, and
 -- records of none, do nothing.
-use Rattle.std.specs.Prelude.{ℕ, ◌+◌, ◌==◌, min, Bool, ◌||◌, if◌then◌else◌, List, [], ◌∷◌, Option, Some, None}
+use Rattle.std.specs.Prelude.{ℕ, ◌+◌, ◌==◌, min, Bool, true, false, ◌||◌, if◌then◌else◌, List, [], ◌∷◌, Option, Some, None}
 use Rattle.records.specs.declared.key.KeyOfReference.{KeyOfReference}
 use Rattle.records.specs.declared.key.KeyOfReference.TheVariants.{Prime, Alternate}
 use Rattle.records.specs.declared.file_spec.AlternateKey.{AlternateKey}
@@ -15,7 +15,8 @@ use Rattle.records.specs.Statuses.{bytes_of}
 use Rattle.source_tree.specs.declared.name.Name.{Name}
 use Rattle.source_tree.specs.declared.reference.Reference.{Reference}
 use Rattle.source_tree.specs.declared.condition.Relation.{Relation}
-use Rattle.source_tree.specs.declared.condition.Relation.TheVariants.{GreaterOrEqual, Greater}
+use Rattle.source_tree.specs.declared.condition.Relation.TheVariants.{Less, GreaterOrEqual, Greater}
+use Rattle.source_tree.specs.declared.condition.RelationalOperator.{RelationalOperator}
 use Rattle.source_tree.specs.declared.expression.Operand.TheVariants as operand
 use Rattle.source_tree.specs.declared.phrases.FilePhrases.{FilePhrases}
 use Rattle.source_tree.specs.declared.phrases.FilePhrases.TheVariants as phrases
@@ -97,20 +98,24 @@ read_key items file (Some one) = key_named items file one
 abbrev pub read_verb : List Placed → ProgramFile → Bool → Option Reference → Verb
 read_verb items file next key = if is_in_sequence file next then verb.ReadNext else verb.Read (read_key items file key)
 
--- the relations that the rules permit
-abbrev pub start_relation : Relation → compared.Relation
-start_relation Greater = relating.Greater
-start_relation GreaterOrEqual = relating.NotLess
-start_relation _ = relating.Equal
+-- the operators that the rules permit
+abbrev pub start_by : Bool → Relation → compared.Relation
+start_by false Greater = relating.Greater
+start_by false GreaterOrEqual = relating.NotLess
+start_by true Less = relating.NotLess
+start_by _ _ = relating.Equal
+
+abbrev pub start_relation : RelationalOperator → compared.Relation
+start_relation one = start_by one.negated one.relation
 
 -- So many bytes of a key are compared as the item has, from the key's first on; of RELATIVE KEY none.
-abbrev pub start_on : ProgramFile → Relation → KeyOfReference → ℕ → Verb
-start_on file relation key size = verb.Start (start_relation relation) key (min size (key_length file.entry.spec key))
+abbrev pub start_on : ProgramFile → RelationalOperator → KeyOfReference → ℕ → Verb
+start_on file operator key size = verb.Start (start_relation operator) key (min size (key_length file.entry.spec key))
 
 -- without KEY, EQUAL on the prime key or on RELATIVE KEY
 abbrev pub start_verb : List Placed → ProgramFile → Option StartKey → Verb
 start_verb items file None = verb.Start relating.Equal Prime (key_length file.entry.spec Prime)
-start_verb items file (Some one) = start_on file one.relation (key_named items file one.key) (key_place items one.key).length
+start_verb items file (Some one) = start_on file one.operator (key_named items file one.key) (key_place items one.key).length
 
 -- ---- moves: READ INTO after a success, FROM before the file statement
 

@@ -15,12 +15,14 @@ use Rattle.records.specs.declared.select.Access.{Access}
 use Rattle.records.specs.declared.select.Access.TheVariants as access
 use Rattle.records.specs.declared.verb.OpenMode.{OpenMode}
 use Rattle.records.specs.declared.verb.OpenMode.TheVariants as mode
-use Rattle.records.specs.Spec.{same_place}
 use Rattle.records.specs.Steps.{is_relative}
 use Rattle.source_tree.specs.declared.name.Name.{Name}
 use Rattle.source_tree.specs.declared.reference.Reference.{Reference}
 use Rattle.source_tree.specs.declared.condition.Relation.{Relation}
 use Rattle.source_tree.specs.declared.condition.Relation.TheVariants as relation
+use Rattle.source_tree.specs.declared.condition.RelationalOperator.{RelationalOperator}
+use Rattle.source_tree.specs.declared.select.AlternateKeyClause.{AlternateKeyClause}
+use Rattle.source_tree.specs.declared.select.Select.{Select}
 use Rattle.source_tree.specs.declared.expression.Operand.TheVariants as operand
 use Rattle.source_tree.specs.declared.phrases.FilePhrases.{FilePhrases}
 use Rattle.source_tree.specs.declared.phrases.FilePhrases.TheVariants as phrases
@@ -30,13 +32,13 @@ use Rattle.source_tree.specs.declared.filing.Filing.{Filing}
 use Rattle.source_tree.specs.declared.filing.Filing.TheVariants.{Open, Close, Read, Write, Rewrite, Delete, Start}
 use Rattle.source_tree.specs.Levels.{level_of}
 use Rattle.source_tree.specs.Places.{Placed}
-use Rattle.source_tree.specs.References.{ItemPlace}
+use Rattle.source_tree.specs.LookUp.{is_item}
 use Rattle.source_tree.specs.ProgramFiles.{ProgramFile, files_named, files_with, place_in_record}
 use Rattle.source_tree.specs.Filing.{is_in_sequence}
 use Rattle.source_tree.specs.Broken.{Broken, where_so, each}
 use Rattle.source_tree.specs.NameRules.{named, item_rules}
 use Rattle.source_tree.specs.MoveRules.{receives, move_rules}
-use Rattle.source_tree.specs.FileRules.{is_plain, is_key_kind, clause_item}
+use Rattle.source_tree.specs.FileRules.{is_plain, clause_item}
 
 -- ---- files and phrases
 
@@ -74,9 +76,20 @@ keys_of file = keys_by file.entry.spec.organization file.entry.spec.alternates
 abbrev pub is_in_record : ProgramFile → Reference → Placed → Bool
 is_in_record file reference one = is_plain reference one && (one.area == file.places.area)
 
+-- A clause names the item. Where the rules of SELECTs are kept it names no other.
+abbrev pub clause_names : Option Reference → Placed → Bool
+clause_names None one = false
+clause_names (Some clause) one = is_item clause.item one
+
+abbrev pub alternate_names : Placed → AlternateKeyClause → Bool
+alternate_names one clause = is_item clause.key.item one
+
+-- RECORD KEY or ALTERNATE RECORD KEY names the item.
+abbrev pub names_key : Select → Placed → Bool
+names_key select one = clause_names select.record_key one || list_any (alternate_names one) select.alternate_keys
+
 abbrev pub is_key_of : ProgramFile → Reference → Placed → Bool
-is_key_of file reference one =
-    is_in_record file reference one && is_key_kind one.item.kind && list_any (same_place (place_in_record (Some one))) (keys_of file)
+is_key_of file reference one = is_plain reference one && names_key file.select one
 
 abbrev pub read_key_item : ProgramFile → Reference → Placed → List Broken
 read_key_item file reference one = where_so (not (is_key_of file reference one)) 62 reference.item.name.place
@@ -94,23 +107,24 @@ abbrev pub begins_key_of : ProgramFile → Reference → Placed → Bool
 begins_key_of file reference one =
     is_in_record file reference one && is_text one.item.kind && list_any (begins_key (place_in_record (Some one))) (keys_of file)
 
-abbrev pub is_at : Option ItemPlace → Placed → Bool
-is_at None one = false
-is_at (Some place) one = (place.area == one.area) && (place.offset == one.offset) && (place.item.length == one.item.length)
-
 -- the RELATIVE KEY of a relative file
 abbrev pub is_relative_key : ProgramFile → Reference → Placed → Bool
-is_relative_key file reference one = is_relative file.entry.spec.organization && is_plain reference one && is_at file.places.relative_key one
+is_relative_key file reference one = is_relative file.entry.spec.organization && is_plain reference one && clause_names file.select.relative_key one
 
 abbrev pub start_key_item : ProgramFile → Reference → Placed → List Broken
 start_key_item file reference one =
     where_so (not (is_key_of file reference one || begins_key_of file reference one || is_relative_key file reference one)) 63 reference.item.name.place
 
-abbrev pub is_start_relation : Relation → Bool
-is_start_relation relation.Equal = true
-is_start_relation relation.Greater = true
-is_start_relation relation.GreaterOrEqual = true
-is_start_relation _ = false
+-- =, > and >=, and < behind NOT
+abbrev pub may_start : Bool → Relation → Bool
+may_start false relation.Equal = true
+may_start false relation.Greater = true
+may_start false relation.GreaterOrEqual = true
+may_start true relation.Less = true
+may_start _ _ = false
+
+abbrev pub is_start_operator : RelationalOperator → Bool
+is_start_operator one = may_start one.negated one.relation
 
 -- ---- statements; `place` is where the file or the record is named
 
@@ -172,7 +186,7 @@ module _ (items : List Placed) (files : List ProgramFile) where
   abbrev pub start_key_rules : ProgramFile → Option StartKey → List Broken
   start_key_rules file None = []
   start_key_rules file (Some one) =
-      where_so (not (is_start_relation one.relation)) 63 one.key.item.name.place ++ clause_item items (start_key_item file) one.key
+      where_so (not (is_start_operator one.operator)) 63 one.key.item.name.place ++ clause_item items (start_key_item file) one.key
 
   abbrev pub start_rules : {S : Type 0} → Place → Option StartKey → FilePhrases S → ProgramFile → List Broken
   start_rules place key phrases file =

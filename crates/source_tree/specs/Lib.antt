@@ -53,6 +53,7 @@ pub mod FileRules
 pub mod SoundFiles
 pub mod FilingRules
 pub mod Recursion
+pub mod StatementCount
 pub mod Rules
 pub mod Meaning
 pub use Rattle.station.specs.State as Events

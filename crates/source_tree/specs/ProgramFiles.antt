@@ -39,6 +39,7 @@ pub record FilePlaces : Type 0 where
 
 pub record ProgramFile : Type 0 where
   pub name : Name
+  pub select : Select
   -- what its connector goes by
   pub entry : connector.Entry
   pub places : FilePlaces
@@ -124,6 +125,7 @@ module _ (items : List Placed) where
   abbrev pub file_by : ℕ → Select → Described → ProgramFile
   file_by number one there = record {
     name = one.name;
+    select = one;
     entry = entry_by one (record_length there.entries);
     places = record { number = number; area = there.area; relative_key = item_place one.relative_key; status = item_place one.status };
     sent = sent_of (record_length there.entries) (nested there.entries);

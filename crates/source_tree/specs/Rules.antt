@@ -1,5 +1,5 @@
 -- The rules of a program: those that it breaks, and where; its entries first, then its files, the names of its procedures, its statements
--- in order, and then whether there is a procedure. Rule 54 looks at the whole program, and comes after these.
+-- in order, and then whether there is a procedure, and how many statements there are. Rule 54 looks at the whole program, and comes after these.
 use Rattle.std.specs.Prelude.{Bool, true, false, not, ◌&&◌, List, [], ◌∷◌, ◌++◌, Option, Some, None}
 use Rattle.lexical.specs.declared.place.Place.{Place}
 use Rattle.source_tree.specs.declared.name.Name.{Name}
@@ -45,6 +45,7 @@ use Rattle.source_tree.specs.Filing.{phrases_of}
 use Rattle.source_tree.specs.declared.phrases.FilePhrases.{FilePhrases}
 use Rattle.source_tree.specs.declared.phrases.FilePhrases.TheVariants.{Absent, AtEnd, InvalidKey}
 use Rattle.source_tree.specs.EvaluateRules.{subject_rules, selected_rules}
+use Rattle.source_tree.specs.StatementCount.{statement_count_rules}
 use Rattle.source_tree.specs.declared.branching.Branching.{Branching}
 use Rattle.source_tree.specs.declared.branching.Branching.TheVariants as branch
 use Rattle.source_tree.specs.declared.evaluate.Evaluate.{Evaluate}
@@ -155,9 +156,10 @@ abbrev pub are_empty : List Section → Bool
 are_empty [] = true
 are_empty (one ∷ more) = is_empty one.paragraphs && are_empty more
 
--- 56: sections without any paragraph or sentence are no procedure.
+-- 56: sections without any paragraph or sentence are no procedure; 69: more statements than may be.
 abbrev pub procedure_rules : Program → List Broken
-procedure_rules program = where_so (are_empty program.sections) 56 (procedures_place program.name.place program.sections)
+procedure_rules program =
+    where_so (are_empty program.sections) 56 (procedures_place program.name.place program.sections) ++ statement_count_rules program
 
 -- all ranges may be performed
 abbrev pub all_permitted : Range → Bool

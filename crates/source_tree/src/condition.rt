@@ -16,6 +16,14 @@ pub enum Relation {
     Greater,
 }
 
+/// A relational operator as it is written.
+#[derive(Clone, Copy, PartialEq, Eq)]
+pub struct RelationalOperator {
+    /// NOT stands before the relation.
+    pub negated: bool,
+    pub relation: Relation,
+}
+
 #[derive(Clone, Copy, PartialEq, Eq)]
 pub enum SignTest {
     Positive,

@@ -1,6 +1,6 @@
 //! File statements (COBOL-85, Sequential, Relative and Indexed I-O).
 
-use crate::condition::Relation;
+use crate::condition::RelationalOperator;
 use crate::name::Name;
 use crate::phrases::FilePhrases;
 use crate::reference::Reference;
@@ -17,7 +17,7 @@ pub struct Opening {
 /// The KEY phrase of START.
 #[derive(Drop)]
 pub struct StartKey {
-    pub relation: Relation,
+    pub operator: RelationalOperator,
     pub key: Reference,
 }
 

@@ -27,7 +27,7 @@ mod until;
 
 pub use arithmetic::{Arithmetic, DivisionOrder, Operation, Receiver};
 pub use branching::Branching;
-pub use condition::{Class, Condition, Relation, Side, SignTest};
+pub use condition::{Class, Condition, Relation, RelationalOperator, Side, SignTest};
 pub use ending::Ending;
 pub use entry::{
     Around, ConditionEntry, Entry, ItemEntry, PictureText, SignClause, SignPosition, UsageClause,
