@@ -25,8 +25,7 @@ use Rattle.source_tree.proofs.Samples.{group, item, occurring, binary, packed, e
 unfoldable use Rattle.source_tree.proofs.Computing.{computing}
 use Rattle.decimal18.specs.Arithmetic as arithmetic
 use Rattle.decimal18.specs.Receiver as receivers
-unfoldable use Rattle.text_ops.specs.Inspect.{tally, replaced}
-unfoldable use Rattle.text_ops.specs.Walk.{walk}
+unfoldable use Rattle.source_tree.specs.InspectWalk.{tallies, replaced_subject, walk}
 
 -- ---- entries
 
@@ -62,7 +61,7 @@ six = entries (item (codes "77") (codes "T") (codes "X(6)") ∷ item (codes "77"
 abbrev inspected : List ℕ → List ℕ → List Tallying → List Replacing → Evaluated Storage
 inspected subject n tallying replacing = inspect (items_of six) (inspection (codes "T") tallying replacing) (subject ∷ n ∷ codes "98" ∷ [])
 
--- the subject, the counter, what is counted and replaced, and what subject and counter become
+-- the subject, the counter, what is tallied and replaced, and what subject and counter become
 abbrev Inspects : List (List ℕ × List ℕ × List Tallying × List Replacing × List ℕ × List ℕ) → Type 0
 Inspects [] = Unit {0}
 Inspects (row ∷ more) = (inspected row.0 row.1 row.2 row.3 ≡ Ok (row.4 ∷ row.5 ∷ codes "98" ∷ [])) × Inspects more
@@ -78,7 +77,7 @@ worked_rows : Inspects ((codes "000120", codes "0", for_n (counting how.Leading 
     ∷ (codes "ABCABC", codes "0", [], replacing.Characters (the_literal (text (codes "*"))) (before_text (codes "C")) ∷ [], codes "**CABC", codes "0")
     ∷ (codes "ABCABC", codes "0", for_n (counting how.All (codes "B") anywhere ∷ counting how.All (codes "C") anywhere ∷ []), [], codes "ABCABC", codes "4")
     ∷ [])
-unfolding computing arithmetic.sum tally replaced walk receivers.fitted
+unfolding computing arithmetic.sum tallies replaced_subject walk receivers.fitted
 worked_rows = (refl, (refl, (refl, (refl, (refl, (refl, (refl, tt)))))))
 
 -- The tens are cut; both phrases look at the text as it was; ALL "AB" BY ZERO takes two zeros; the last "BC" before "CA" doesn't end before
@@ -87,17 +86,17 @@ more_rows : Inspects ((codes "ABABAB", codes "8", for_n (counting how.All (codes
     ∷ (codes "ABCABC", codes "0", for_n (counting how.All (codes "A") anywhere ∷ []), by_text how.All (codes "A") (codes "B") anywhere ∷ [], codes "BBCBBC", codes "2")
     ∷ (codes "ABCABC", codes "0", [], replacing_by how.All (the_literal (text (codes "AB"))) (the_literal (constant figurative.Zero)) anywhere ∷ [], codes "00C00C", codes "0")
     ∷ (codes "ABCABC", codes "0", for_n (counting how.All (codes "B") anywhere ∷ []), by_text how.All (codes "BC") (codes "XY") (before_text (codes "CA")) ∷ by_text how.All (codes "C") (codes "Z") anywhere ∷ [], codes "ABZABZ", codes "2") ∷ [])
-unfolding computing arithmetic.sum tally replaced walk receivers.fitted
+unfolding computing arithmetic.sum tallies replaced_subject walk receivers.fitted
 more_rows = (refl, (refl, (refl, (refl, tt))))
 
 -- One walk for both: what fits for M's entry isn't N's. M holds 9.8, and its tens are cut.
 two_counters : inspected (codes "ABCABC") (codes "0") (counter (codes "M") (counting how.All (codes "AB") anywhere ∷ []) ∷ counter (codes "N") (tallied.Characters anywhere ∷ []) ∷ []) []
     ≡ Ok (codes "ABCABC" ∷ codes "2" ∷ codes "18" ∷ [])
-unfolding computing arithmetic.sum tally walk receivers.fitted
+unfolding computing arithmetic.sum tallies walk receivers.fitted
 two_counters = refl
 
 no_number : inspected (codes "ABCABC") (codes "x") (for_n (tallied.Characters anywhere ∷ [])) [] ≡ Err fault.Data
-unfolding computing arithmetic.sum tally walk
+unfolding computing arithmetic.sum tallies walk
 no_number = refl
 
 -- ---- C is a counter in T: what is replaced is T as it was, and the store comes last; without REPLACING nothing is stored behind C.
@@ -110,7 +109,7 @@ inspects replacing = inspect (items_of overlapping) (inspection (codes "T") (cou
 
 counter_in_subject : (inspects [] ≡ Ok (codes "3AB" ∷ []))
     × (inspects (by_text how.All (codes "A") (codes "X") anywhere ∷ []) ≡ Ok (codes "0XB" ∷ []))
-unfolding computing arithmetic.sum tally replaced walk receivers.fitted
+unfolding computing arithmetic.sum tallies replaced_subject walk receivers.fitted
 counter_in_subject = (refl, refl)
 
 -- ---- Faults come in the order of writing: I is no number, and 5 is past the table.
@@ -138,7 +137,7 @@ between after_first = inspect (items_of of_table)
     (codes "ABC" ∷ codes "1" ∷ codes "1" ∷ [])
 
 either_order : (between false ≡ Ok (codes "AXC" ∷ codes "1" ∷ codes "1" ∷ [])) × (between true ≡ Ok (codes "AXC" ∷ codes "1" ∷ codes "1" ∷ []))
-unfolding computing replaced walk
+unfolding computing replaced_subject walk
 either_order = (refl, refl)
 
 -- ---- the rules: each broken alone, and nearly broken
@@ -157,7 +156,7 @@ operands = entries (
     ∷ packed (item (codes "77") (codes "P") (codes "9"))
     ∷ item (codes "77") (codes "E") (codes "Z9") ∷ [])
 
--- subject, counter, what is counted and what replaces it
+-- subject, counter, what is tallied and what replaces it
 abbrev the_rules : List ℕ → List ℕ → Operand → Operand → List ℕ
 the_rules subject called one by = rules (inspect_rules (items_of operands)
     (inspection subject (counter called (tallied.Characters anywhere ∷ []) ∷ []) (replacing_by how.All one by anywhere ∷ [])))

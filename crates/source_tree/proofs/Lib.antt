@@ -19,6 +19,10 @@ pub mod PlaceExamples
 pub mod EntryExamples
 pub mod MoveExamples
 pub mod StringExamples
+pub mod InspectWalks
+pub mod InspectTaking
+pub mod InspectMeaning
+pub mod InspectKept
 pub mod InspectExamples
 pub mod DataExamples
 pub mod UntilExamples

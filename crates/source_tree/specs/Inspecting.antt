@@ -1,21 +1,15 @@
 -- INSPECT (COBOL-85, Nucleus, "The INSPECT statement"). All places and texts are taken in the order of writing before anything is stored;
--- then INSPECT adds to its counters in turn, and then it stores its text (own choice). `text_ops` says how entries fit.
-use Rattle.std.specs.Prelude.{ℕ, zero, suc, ◌+◌, pos, false, if◌then◌else◌, List, [], ◌∷◌, ◌++◌, length, map, replicate, Option, Some, None, Ok}
+-- then INSPECT adds to its counters in turn, and then it stores its text (own choice). `InspectWalk` says what entries count and replace.
+use Rattle.std.specs.Prelude.{ℕ, pos, false, if◌then◌else◌, List, [], ◌∷◌, ◌++◌, length, map, take, drop, replicate, Option, Some, None, Ok}
+use Rattle.std.specs.List.{flat_map, sum}
 use Rattle.items.specs.Texts.{padded}
-use Rattle.text_ops.specs.declared.entry.Span.{Span}
-use Rattle.text_ops.specs.declared.entry.Fit.{Fit}
-use Rattle.text_ops.specs.declared.entry.Fit.TheVariants as fit
-use Rattle.text_ops.specs.declared.entry.Entry.{Entry}
-use Rattle.text_ops.specs.Inspect.{tally, replaced}
 use Rattle.source_tree.specs.declared.literal.LiteralValue.{LiteralValue}
 use Rattle.source_tree.specs.declared.literal.LiteralValue.TheVariants as literal
-use Rattle.source_tree.specs.declared.reference.Reference.{Reference}
 use Rattle.source_tree.specs.declared.expression.Operand.{Operand}
 use Rattle.source_tree.specs.declared.expression.Operand.TheVariants as operand
 use Rattle.source_tree.specs.declared.expression.Operator.TheVariants as operator
 use Rattle.source_tree.specs.declared.inspecting.Limits.{Limits}
 use Rattle.source_tree.specs.declared.inspecting.Occurrences.{Occurrences}
-use Rattle.source_tree.specs.declared.inspecting.Occurrences.TheVariants as occurrences
 use Rattle.source_tree.specs.declared.inspecting.TalliedText.{TalliedText}
 use Rattle.source_tree.specs.declared.inspecting.Tallied.{Tallied}
 use Rattle.source_tree.specs.declared.inspecting.Tallied.TheVariants as tallied
@@ -26,247 +20,100 @@ use Rattle.source_tree.specs.declared.inspecting.Replacing.TheVariants as replac
 use Rattle.source_tree.specs.declared.inspecting.Inspecting.{Inspecting}
 use Rattle.source_tree.specs.Display.{figurative_byte, shown_literal}
 use Rattle.source_tree.specs.Places.{Placed}
-use Rattle.source_tree.specs.LookUp.{items_named, first}
 use Rattle.source_tree.specs.Storage.{Storage}
 use Rattle.source_tree.specs.Evaluated.{Evaluated, ◌>>=◌}
 use Rattle.source_tree.specs.References.{ItemPlace, part_of, storing, place_of}
 use Rattle.source_tree.specs.Computed.{operate, number_at}
 use Rattle.source_tree.specs.Arithmetic.{begun, store}
+use Rattle.source_tree.specs.InspectWalk as walk
+use Rattle.source_tree.specs.InspectWalk.{Pattern, AnyCharacter, Occurrence, TextEntry}
 
--- ---- texts, and what is taken
-
--- An item's bytes, or characters that are known beforehand.
-pub data Source : Type 0 where
-  Bytes : Reference → Source
-  Characters : List ℕ → Source
-
--- A literal's characters; a figurative constant is one.
-abbrev pub source : Operand → Source
-source (operand.Item one) = Bytes one
-source (operand.Literal one) = Characters (shown_literal one.value)
-
--- a counter's place, or a text
-pub data Taking : Type 0 where
-  Counter : Reference → Taking
-  Text : Source → Taking
-
--- the size of an item's text
-abbrev pub found_size : Option Placed → ℕ
-found_size None = 0
-found_size (Some found) = found.item.length
-
-abbrev pub text_size : List Placed → Source → ℕ
-text_size items (Bytes one) = found_size (first (items_named items one.item))
-text_size items (Characters text) = length text
-
--- the size of all joined
-abbrev pub text_sizes : List Placed → List Source → ℕ
-text_sizes items [] = 0
-text_sizes items (one ∷ more) = text_size items one + text_sizes items more
-
--- the size of the texts among what is taken
-abbrev pub taken_size : List Placed → List Taking → ℕ
-taken_size items [] = 0
-taken_size items (Counter one ∷ more) = taken_size items more
-taken_size items (Text one ∷ more) = text_size items one + taken_size items more
-
--- A replacing text: a figurative constant takes the size of the text that it replaces.
-abbrev pub replacing_literal : ℕ → LiteralValue → Source
-replacing_literal size (literal.Figurative constant) = Characters (replicate size (figurative_byte constant))
-replacing_literal size value = Characters (shown_literal value)
-
-abbrev pub replacing_text : ℕ → Operand → Source
-replacing_text size (operand.Item one) = Bytes one
-replacing_text size (operand.Literal one) = replacing_literal size one.value
-
--- ---- entries, of TALLYING and REPLACING the same
-
--- What an entry fits: any character, or a text.
-pub data What : Type 0 where
-  Any : What
-  Occurs : Occurrences → Source → What
-
-pub record Inspected : Type 0 where
-  pub what : What
-  pub by : Option Source
-  pub limits : Limits
-
-abbrev pub tallied_text : Occurrences → TalliedText → Inspected
-tallied_text how one = record { what = Occurs how (source one.text); by = None; limits = one.limits }
-
-abbrev pub replaced_text : List Placed → Occurrences → ReplacedText → Inspected
-replaced_text items how one = record {
-  what = Occurs how (source one.text);
-  by = Some (replacing_text (text_size items (source one.text)) one.by);
-  limits = one.limits;
-}
-
--- those of each, in the order of writing
-abbrev pub all_inspected : {A : Type 0} → (A → List Inspected) → List A → List Inspected
-all_inspected inspected [] = []
-all_inspected inspected (one ∷ more) = inspected one ++ all_inspected inspected more
-
-abbrev pub tallied_entries : Tallied → List Inspected
-tallied_entries (tallied.Characters limits) = record { what = Any; by = None; limits = limits } ∷ []
-tallied_entries (tallied.Texts how texts) = all_inspected (λ one. tallied_text how one ∷ []) texts
-
-abbrev pub counter_entries : Tallying → List Inspected
-counter_entries one = all_inspected tallied_entries one.tallied
-
-abbrev pub replacing_entries : List Placed → Replacing → List Inspected
-replacing_entries items (replacing.Characters by limits) = record { what = Any; by = Some (replacing_text 1 by); limits = limits } ∷ []
-replacing_entries items (replacing.Texts how texts) = all_inspected (λ one. replaced_text items how one ∷ []) texts
-
--- ---- the order of writing: what an entry fits, what replaces it, and BEFORE and AFTER as they stand
-
-abbrev pub what_texts : What → List Source
-what_texts Any = []
-what_texts (Occurs how text) = text ∷ []
-
-abbrev pub by_texts : Option Source → List Source
-by_texts None = []
-by_texts (Some one) = one ∷ []
-
-abbrev pub limit_text : Option Operand → List Source
-limit_text None = []
-limit_text (Some one) = source one ∷ []
-
-abbrev pub limit_texts : Limits → List Source
-limit_texts one =
-    if one.after_first then limit_text one.after ++ limit_text one.before
-    else limit_text one.before ++ limit_text one.after
-
-abbrev pub entry_texts : Inspected → List Source
-entry_texts one = what_texts one.what ++ by_texts one.by ++ limit_texts one.limits
-
-abbrev pub entries_texts : List Inspected → List Source
-entries_texts [] = []
-entries_texts (one ∷ more) = entry_texts one ++ entries_texts more
-
-abbrev pub tallying_takings : List Tallying → List Taking
-tallying_takings [] = []
-tallying_takings (one ∷ more) = Counter one.counter ∷ (map Text (entries_texts (counter_entries one)) ++ tallying_takings more)
-
--- ---- entries as `text_ops` has them: their texts are spans of all texts joined. `at` is the size of those before.
-
-abbrev pub fit_of : Occurrences → Span → Fit
-fit_of occurrences.All span = fit.All span
-fit_of occurrences.Leading span = fit.Leading span
-fit_of occurrences.First span = fit.First span
-
-module _ (items : List Placed) where
-  abbrev pub span_at : ℕ → Source → Span
-  span_at at one = record { start = at; length = text_size items one }
-
-  abbrev pub what_fit : ℕ → What → Fit
-  what_fit at Any = fit.Characters
-  what_fit at (Occurs how text) = fit_of how (span_at at text)
-
-  abbrev pub by_span : ℕ → Option Source → Option Span
-  by_span at None = None
-  by_span at (Some one) = Some (span_at at one)
-
-  abbrev pub limit_span : ℕ → Option Operand → Option Span
-  limit_span at None = None
-  limit_span at (Some one) = Some (span_at at (source one))
-
-  -- where BEFORE's text stands, and AFTER's
-  abbrev pub before_at : ℕ → Limits → ℕ
-  before_at at one = if one.after_first then at + text_sizes items (limit_text one.after) else at
-
-  abbrev pub after_at : ℕ → Limits → ℕ
-  after_at at one = if one.after_first then at else at + text_sizes items (limit_text one.before)
-
-  abbrev pub by_at : ℕ → Inspected → ℕ
-  by_at at one = at + text_sizes items (what_texts one.what)
-
-  abbrev pub limits_at : ℕ → Inspected → ℕ
-  limits_at at one = by_at at one + text_sizes items (by_texts one.by)
-
-  abbrev pub entry_at : ℕ → Inspected → Entry
-  entry_at at one = record {
-    fit = what_fit at one.what;
-    before = limit_span (before_at (limits_at at one) one.limits) one.limits.before;
-    after = limit_span (after_at (limits_at at one) one.limits) one.limits.after;
-    by = by_span (by_at at one) one.by;
-  }
-
-  abbrev pub entries_at : ℕ → List Inspected → List Entry
-  entries_at at [] = []
-  entries_at at (one ∷ more) = entry_at at one ∷ entries_at (at + text_sizes items (entry_texts one)) more
-
--- What an INSPECT does with the texts that it takes: how many entries of TALLYING each counter has, those entries, and those of REPLACING.
-pub record Inspection : Type 0 where
-  pub counters : List ℕ
-  pub tallying : List Entry
-  pub replacing : List Entry
-
-abbrev pub entry_counts : List Tallying → List ℕ
-entry_counts [] = []
-entry_counts (one ∷ more) = length (counter_entries one) ∷ entry_counts more
-
-module _ (items : List Placed) where
-  -- All counters' entries are one list.
-  abbrev pub all_tallied : Inspecting → List Inspected
-  all_tallied one = all_inspected counter_entries one.tallying
-
-  abbrev pub all_replaced : Inspecting → List Inspected
-  all_replaced one = all_inspected (replacing_entries items) one.replacing
-
-  abbrev pub takings : Inspecting → List Taking
-  takings one = tallying_takings one.tallying ++ map Text (entries_texts (all_replaced one))
-
-  -- The size of TALLYING's texts, behind which REPLACING's stand.
-  abbrev pub tallied_size : Inspecting → ℕ
-  tallied_size one = text_sizes items (entries_texts (all_tallied one))
-
-  -- the size of all texts
-  abbrev pub inspected_size : Inspecting → ℕ
-  inspected_size one = taken_size items (takings one)
-
-  abbrev pub inspection : Inspecting → Inspection
-  inspection one = record {
-    counters = entry_counts one.tallying;
-    tallying = entries_at items 0 (all_tallied one);
-    replacing = entries_at items (tallied_size one) (all_replaced one);
-  }
-
--- ---- taking, in the order of writing
-
--- the counters' places, and all texts joined
-pub record InspectTaken : Type 0 where
-  pub counters : List ItemPlace
-  pub texts : List ℕ
-
-abbrev pub with_counter : ItemPlace → InspectTaken → InspectTaken
-with_counter place taken = record taken { counters = place ∷ taken.counters }
-
-abbrev pub with_text : List ℕ → InspectTaken → InspectTaken
-with_text text taken = record taken { texts = text ++ taken.texts }
+-- ---- what is taken
 
 -- The bytes of an item, as many as it has.
 abbrev pub text_at : Storage → ItemPlace → List ℕ
 text_at storage place = padded place.item.length (part_of storage place)
 
-abbrev pub take_each : List Placed → List Taking → Storage → Evaluated InspectTaken
-take_each items [] storage = Ok (record { counters = []; texts = [] })
-take_each items (Counter one ∷ more) storage =
-    place_of items one storage >>= (λ place. take_each items more storage >>= (λ taken. Ok (with_counter place taken)))
-take_each items (Text (Bytes one) ∷ more) storage =
-    place_of items one storage >>= (λ place. take_each items more storage >>= (λ taken. Ok (with_text (text_at storage place) taken)))
-take_each items (Text (Characters text) ∷ more) storage = take_each items more storage >>= (λ taken. Ok (with_text text taken))
+-- A literal as replacing text: a figurative constant takes the size of the text that it replaces.
+abbrev pub replacing_characters : ℕ → LiteralValue → List ℕ
+replacing_characters size (literal.Figurative constant) = replicate size (figurative_byte constant)
+replacing_characters size value = shown_literal value
+
+-- the texts of BEFORE and AFTER
+pub record LimitTexts : Type 0 where
+  pub before : Option (List ℕ)
+  pub after : Option (List ℕ)
+
+abbrev pub text_entry : Pattern → List ℕ → LimitTexts → TextEntry
+text_entry pattern by limits = record { pattern = pattern; by = by; before = limits.before; after = limits.after }
+
+-- a counter's place, and its entries
+pub record Counter : Type 0 where
+  pub place : ItemPlace
+  pub entries : List TextEntry
+
+-- ---- taking, in the order of writing
+
+-- what is taken of each
+abbrev pub take_all : {A B : Type 0} → (A → Evaluated (List B)) → List A → Evaluated (List B)
+take_all take_one [] = Ok []
+take_all take_one (one ∷ more) = take_one one >>= (λ front. take_all take_one more >>= (λ back. Ok (front ++ back)))
+
+module _ (items : List Placed) (storage : Storage) where
+  -- An item's bytes, or a literal's characters; a figurative constant is one.
+  abbrev pub take_text : Operand → Evaluated (List ℕ)
+  take_text (operand.Item one) = place_of items one storage >>= (λ place. Ok (text_at storage place))
+  take_text (operand.Literal one) = Ok (shown_literal one.value)
+
+  -- a replacing text, for a text of this size
+  abbrev pub take_by : ℕ → Operand → Evaluated (List ℕ)
+  take_by size (operand.Item one) = take_text (operand.Item one)
+  take_by size (operand.Literal one) = Ok (replacing_characters size one.value)
+
+  abbrev pub take_limit : Option Operand → Evaluated (Option (List ℕ))
+  take_limit None = Ok None
+  take_limit (Some one) = take_text one >>= (λ text. Ok (Some text))
+
+  -- BEFORE and AFTER as they stand
+  abbrev pub take_limits : Limits → Evaluated LimitTexts
+  take_limits one =
+      if one.after_first
+      then take_limit one.after >>= (λ after. take_limit one.before >>= (λ before. Ok (record { before = before; after = after })))
+      else take_limit one.before >>= (λ before. take_limit one.after >>= (λ after. Ok (record { before = before; after = after })))
+
+  abbrev pub take_tallied_text : Occurrences → TalliedText → Evaluated (List TextEntry)
+  take_tallied_text how one =
+      take_text one.text >>= (λ text. take_limits one.limits >>= (λ limits. Ok (text_entry (Occurrence how text) [] limits ∷ [])))
+
+  abbrev pub take_tallied : Tallied → Evaluated (List TextEntry)
+  take_tallied (tallied.Characters limits) = take_limits limits >>= (λ found. Ok (text_entry AnyCharacter [] found ∷ []))
+  take_tallied (tallied.Texts how texts) = take_all (take_tallied_text how) texts
+
+  abbrev pub take_counter : Tallying → Evaluated (List Counter)
+  take_counter one =
+      place_of items one.counter storage
+      >>= (λ place. take_all take_tallied one.tallied >>= (λ entries. Ok (record { place = place; entries = entries } ∷ [])))
+
+  abbrev pub take_replaced_text : Occurrences → ReplacedText → Evaluated (List TextEntry)
+  take_replaced_text how one =
+      take_text one.text >>= (λ text.
+      take_by (length text) one.by >>= (λ by.
+      take_limits one.limits >>= (λ limits. Ok (text_entry (Occurrence how text) by limits ∷ []))))
+
+  abbrev pub take_replacing : Replacing → Evaluated (List TextEntry)
+  take_replacing (replacing.Characters by limits) =
+      take_by 1 by >>= (λ text. take_limits limits >>= (λ found. Ok (text_entry AnyCharacter text found ∷ [])))
+  take_replacing (replacing.Texts how texts) = take_all (take_replaced_text how) texts
 
 -- ---- counters
 
--- how often the entries from this number on fit together, so many of them
-abbrev pub fits_together : (ℕ → ℕ) → ℕ → ℕ → ℕ
-fits_together count from zero = 0
-fits_together count from (suc more) = count from + fits_together count (from + 1) more
+-- For each counter how often its entries fit together; the entries of all counters are tried in one walk.
+abbrev pub counter_fits : List Counter → List ℕ → List ℕ
+counter_fits [] counts = []
+counter_fits (one ∷ more) counts = sum (take (length one.entries) counts) ∷ counter_fits more (drop (length one.entries) counts)
 
--- for each counter, which has so many entries
-abbrev pub counted : (ℕ → ℕ) → ℕ → List ℕ → List ℕ
-counted count from [] = []
-counted count from (entries ∷ more) = fits_together count from entries ∷ counted count (from + entries) more
+abbrev pub all_entries : List Counter → List TextEntry
+all_entries = flat_map (λ one. one.entries)
 
 -- One for each fit, cut to the counter's size. Bytes that are no number are a fault.
 abbrev pub add_fits : ItemPlace → ℕ → Storage → Evaluated Storage
@@ -283,18 +130,19 @@ add_each (place ∷ places) (one ∷ more) storage = add_fits place one storage 
 -- ---- INSPECT
 
 -- Without REPLACING no text is stored.
-abbrev pub store_replaced : List ℕ → List Entry → List ℕ → ItemPlace → Storage → Storage
-store_replaced texts [] bytes subject storage = storage
-store_replaced texts (one ∷ more) bytes subject storage = storing subject (replaced texts (one ∷ more) bytes) storage
+abbrev pub store_text : List TextEntry → List ℕ → ItemPlace → Storage → Storage
+store_text [] bytes subject storage = storage
+store_text (one ∷ more) bytes subject storage = storing subject (walk.replaced_subject (one ∷ more) bytes) storage
 
--- With the texts and places that were taken. Both phrases look at the subject's bytes as they are before anything is stored.
-abbrev pub inspect_at : Inspection → List ℕ → List ItemPlace → ItemPlace → Storage → Evaluated Storage
-inspect_at how texts counters subject storage =
-    add_each counters (counted (tally texts how.tallying (part_of storage subject)) 0 how.counters) storage
-    >>= (λ after. Ok (store_replaced texts how.replacing (part_of storage subject) subject after))
+-- Both phrases look at the subject's bytes as they are before anything is stored.
+abbrev pub count_and_replace : List Counter → List TextEntry → List ℕ → ItemPlace → Storage → Evaluated Storage
+count_and_replace counters replacing bytes subject storage =
+    add_each (map (λ one. one.place) counters) (counter_fits counters (walk.tallies (all_entries counters) bytes)) storage
+    >>= (λ after. Ok (store_text replacing bytes subject after))
 
 abbrev pub inspect : List Placed → Inspecting → Storage → Evaluated Storage
 inspect items one storage =
     place_of items one.subject storage >>= (λ subject.
-    take_each items (takings items one) storage >>= (λ taken.
-    inspect_at (inspection items one) taken.texts taken.counters subject storage))
+    take_all (take_counter items storage) one.tallying >>= (λ counters.
+    take_all (take_replacing items storage) one.replacing >>= (λ replacing.
+    count_and_replace counters replacing (part_of storage subject) subject storage)))

@@ -28,7 +28,9 @@ pub mod Evaluate
 pub mod Branching
 pub mod Until
 pub mod Showing
+pub mod InspectWalk
 pub mod Inspecting
+pub mod InspectLayout
 pub mod Texts
 pub mod Accepting
 pub mod Stringing

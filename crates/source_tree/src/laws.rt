@@ -1,6 +1,6 @@
 //! What holds of every program's meaning.
 
-ghost use Rattle.std.specs.Prelude.{◌≡◌, ◌≢◌, ◌≤◌, ◌<◌, ℕ, Bool, false, List, [], ◌∷◌, length, Option};
+ghost use Rattle.std.specs.Prelude.{◌≡◌, ◌≢◌, ◌≤◌, ◌<◌, ℕ, Bool, false, List, [], ◌∷◌, length, Option, Some, slice_get};
 ghost use Rattle.std.specs.List.{AllByRecursion};
 ghost use Rattle.lexical.specs.declared.place.Place.{Place};
 ghost use Rattle.records.specs.FileStep.{Suits};
@@ -11,6 +11,7 @@ ghost use Rattle.source_tree.specs.declared.condition.Side.TheVariants as side;
 ghost use Rattle.source_tree.specs.declared.literal.Figurative.TheVariants as figurative;
 ghost use Rattle.source_tree.specs.declared.literal.LiteralValue.TheVariants as literal;
 ghost use Rattle.source_tree.specs.declared.filing.StartKey.{StartKey};
+ghost use Rattle.source_tree.specs.declared.inspecting.Inspecting.{Inspecting};
 ghost use Rattle.source_tree.specs.declared.literal.Integer.{Integer};
 ghost use Rattle.source_tree.specs.declared.program.Program.{Program};
 ghost use Rattle.source_tree.specs.declared.reference.Reference.{Reference};
@@ -20,6 +21,9 @@ ghost use Rattle.source_tree.specs.Conditions.{alone_side, holds};
 ghost use Rattle.source_tree.specs.Evaluate.{Value, without_value, take_looked};
 ghost use Rattle.source_tree.specs.Filing.{read_verb, start_verb};
 ghost use Rattle.source_tree.specs.Given.{Given, with_budget};
+ghost use Rattle.source_tree.specs.InspectLayout.{inspect_by_spans};
+ghost use Rattle.source_tree.specs.InspectRules.{inspect_rules};
+ghost use Rattle.source_tree.specs.Inspecting.{inspect};
 ghost use Rattle.source_tree.specs.Integers.{number_of};
 ghost use Rattle.source_tree.specs.Places.{Placed};
 ghost use Rattle.source_tree.specs.ProgramFiles.{ProgramFile, files_of};
@@ -84,4 +88,11 @@ pub fn turns_law()
     ensures digits { (count : Integer) → AllByRecursion IsDigit count.digits → length count.digits ≤ 18 → turns_of count ≡ number_of count }
     ensures cut { (around : Setting) (count : Integer) (line depth : ℕ) (statements : List Statement) (s : State) → s.budget < most_turns →
         turns line (turns_of count) (in_turn (exec around depth) statements) s ≡ turns line (number_of count) (in_turn (exec around depth) statements) s }
+{}
+
+/// Where INSPECT keeps its rules, and each item has a byte or more, it does what entries do that are spans of all its texts
+/// joined, whatever is in storage.
+pub fn inspect_law()
+    ensures spans { (items : List Placed) → ((n : ℕ) (item : Placed) → slice_get items n ≡ Some item → 1 ≤ item.item.length) →
+        (one : Inspecting) (storage : Storage) → inspect_rules items one ≡ [] → inspect items one storage ≡ inspect_by_spans items one storage }
 {}

@@ -1,0 +1,281 @@
+-- INSPECT as a machine lays it out (own choice): the texts of all entries are joined in one buffer, and entries are spans of it, by the sizes
+-- of items and literals alone. `inspect_law` says that this is what INSPECT means.
+use Rattle.std.specs.Prelude.{ℕ, zero, suc, ◌+◌, if◌then◌else◌, List, [], ◌∷◌, ◌++◌, length, map, replicate, Option, Some, None, Ok}
+use Rattle.text_ops.specs.declared.entry.Span.{Span}
+use Rattle.text_ops.specs.declared.entry.Fit.{Fit}
+use Rattle.text_ops.specs.declared.entry.Fit.TheVariants as fit
+use Rattle.text_ops.specs.declared.entry.Entry.{Entry}
+use Rattle.text_ops.specs.Inspect.{tally, replaced}
+use Rattle.source_tree.specs.declared.literal.LiteralValue.{LiteralValue}
+use Rattle.source_tree.specs.declared.literal.LiteralValue.TheVariants as literal
+use Rattle.source_tree.specs.declared.reference.Reference.{Reference}
+use Rattle.source_tree.specs.declared.expression.Operand.{Operand}
+use Rattle.source_tree.specs.declared.expression.Operand.TheVariants as operand
+use Rattle.source_tree.specs.declared.inspecting.Limits.{Limits}
+use Rattle.source_tree.specs.declared.inspecting.Occurrences.{Occurrences}
+use Rattle.source_tree.specs.declared.inspecting.Occurrences.TheVariants as occurrences
+use Rattle.source_tree.specs.declared.inspecting.TalliedText.{TalliedText}
+use Rattle.source_tree.specs.declared.inspecting.Tallied.{Tallied}
+use Rattle.source_tree.specs.declared.inspecting.Tallied.TheVariants as tallied
+use Rattle.source_tree.specs.declared.inspecting.Tallying.{Tallying}
+use Rattle.source_tree.specs.declared.inspecting.ReplacedText.{ReplacedText}
+use Rattle.source_tree.specs.declared.inspecting.Replacing.{Replacing}
+use Rattle.source_tree.specs.declared.inspecting.Replacing.TheVariants as replacing
+use Rattle.source_tree.specs.declared.inspecting.Inspecting.{Inspecting}
+use Rattle.source_tree.specs.Display.{figurative_byte, shown_literal}
+use Rattle.source_tree.specs.Places.{Placed}
+use Rattle.source_tree.specs.LookUp.{items_named, first}
+use Rattle.source_tree.specs.Storage.{Storage}
+use Rattle.source_tree.specs.Evaluated.{Evaluated, ◌>>=◌}
+use Rattle.source_tree.specs.References.{ItemPlace, part_of, storing, place_of}
+use Rattle.source_tree.specs.Inspecting.{text_at, add_each}
+
+-- ---- texts, and what is taken
+
+-- An item's bytes, or characters that are known beforehand.
+pub data Source : Type 0 where
+  Bytes : Reference → Source
+  Characters : List ℕ → Source
+
+-- A literal's characters; a figurative constant is one.
+abbrev pub source : Operand → Source
+source (operand.Item one) = Bytes one
+source (operand.Literal one) = Characters (shown_literal one.value)
+
+-- a counter's place, or a text
+pub data Taking : Type 0 where
+  Counter : Reference → Taking
+  Text : Source → Taking
+
+-- the size of an item's text
+abbrev pub found_size : Option Placed → ℕ
+found_size None = 0
+found_size (Some found) = found.item.length
+
+abbrev pub text_size : List Placed → Source → ℕ
+text_size items (Bytes one) = found_size (first (items_named items one.item))
+text_size items (Characters text) = length text
+
+-- the size of all joined
+abbrev pub text_sizes : List Placed → List Source → ℕ
+text_sizes items [] = 0
+text_sizes items (one ∷ more) = text_size items one + text_sizes items more
+
+-- the size of the texts among what is taken
+abbrev pub taken_size : List Placed → List Taking → ℕ
+taken_size items [] = 0
+taken_size items (Counter one ∷ more) = taken_size items more
+taken_size items (Text one ∷ more) = text_size items one + taken_size items more
+
+-- A replacing text: a figurative constant takes the size of the text that it replaces.
+abbrev pub replacing_literal : ℕ → LiteralValue → Source
+replacing_literal size (literal.Figurative constant) = Characters (replicate size (figurative_byte constant))
+replacing_literal size value = Characters (shown_literal value)
+
+abbrev pub replacing_text : ℕ → Operand → Source
+replacing_text size (operand.Item one) = Bytes one
+replacing_text size (operand.Literal one) = replacing_literal size one.value
+
+-- ---- entries, of TALLYING and REPLACING the same
+
+-- What an entry fits: any character, or a text.
+pub data What : Type 0 where
+  Any : What
+  Occurs : Occurrences → Source → What
+
+pub record Inspected : Type 0 where
+  pub what : What
+  pub by : Option Source
+  pub limits : Limits
+
+abbrev pub tallied_text : Occurrences → TalliedText → Inspected
+tallied_text how one = record { what = Occurs how (source one.text); by = None; limits = one.limits }
+
+abbrev pub replaced_text : List Placed → Occurrences → ReplacedText → Inspected
+replaced_text items how one = record {
+  what = Occurs how (source one.text);
+  by = Some (replacing_text (text_size items (source one.text)) one.by);
+  limits = one.limits;
+}
+
+-- those of each, in the order of writing
+abbrev pub all_inspected : {A : Type 0} → (A → List Inspected) → List A → List Inspected
+all_inspected inspected [] = []
+all_inspected inspected (one ∷ more) = inspected one ++ all_inspected inspected more
+
+abbrev pub tallied_entries : Tallied → List Inspected
+tallied_entries (tallied.Characters limits) = record { what = Any; by = None; limits = limits } ∷ []
+tallied_entries (tallied.Texts how texts) = all_inspected (λ one. tallied_text how one ∷ []) texts
+
+abbrev pub counter_entries : Tallying → List Inspected
+counter_entries one = all_inspected tallied_entries one.tallied
+
+abbrev pub replacing_entries : List Placed → Replacing → List Inspected
+replacing_entries items (replacing.Characters by limits) = record { what = Any; by = Some (replacing_text 1 by); limits = limits } ∷ []
+replacing_entries items (replacing.Texts how texts) = all_inspected (λ one. replaced_text items how one ∷ []) texts
+
+-- ---- the order of writing: what an entry fits, what replaces it, and BEFORE and AFTER as they stand
+
+abbrev pub what_texts : What → List Source
+what_texts Any = []
+what_texts (Occurs how text) = text ∷ []
+
+abbrev pub by_texts : Option Source → List Source
+by_texts None = []
+by_texts (Some one) = one ∷ []
+
+abbrev pub limit_text : Option Operand → List Source
+limit_text None = []
+limit_text (Some one) = source one ∷ []
+
+abbrev pub limit_texts : Limits → List Source
+limit_texts one =
+    if one.after_first then limit_text one.after ++ limit_text one.before
+    else limit_text one.before ++ limit_text one.after
+
+abbrev pub entry_texts : Inspected → List Source
+entry_texts one = what_texts one.what ++ by_texts one.by ++ limit_texts one.limits
+
+abbrev pub entries_texts : List Inspected → List Source
+entries_texts [] = []
+entries_texts (one ∷ more) = entry_texts one ++ entries_texts more
+
+abbrev pub tallying_takings : List Tallying → List Taking
+tallying_takings [] = []
+tallying_takings (one ∷ more) = Counter one.counter ∷ (map Text (entries_texts (counter_entries one)) ++ tallying_takings more)
+
+-- ---- entries as `text_ops` has them: their texts are spans of all texts joined. `at` is the size of those before.
+
+abbrev pub fit_of : Occurrences → Span → Fit
+fit_of occurrences.All span = fit.All span
+fit_of occurrences.Leading span = fit.Leading span
+fit_of occurrences.First span = fit.First span
+
+module _ (items : List Placed) where
+  abbrev pub span_at : ℕ → Source → Span
+  span_at at one = record { start = at; length = text_size items one }
+
+  abbrev pub what_fit : ℕ → What → Fit
+  what_fit at Any = fit.Characters
+  what_fit at (Occurs how text) = fit_of how (span_at at text)
+
+  abbrev pub by_span : ℕ → Option Source → Option Span
+  by_span at None = None
+  by_span at (Some one) = Some (span_at at one)
+
+  abbrev pub limit_span : ℕ → Option Operand → Option Span
+  limit_span at None = None
+  limit_span at (Some one) = Some (span_at at (source one))
+
+  -- where BEFORE's text stands, and AFTER's
+  abbrev pub before_at : ℕ → Limits → ℕ
+  before_at at one = if one.after_first then at + text_sizes items (limit_text one.after) else at
+
+  abbrev pub after_at : ℕ → Limits → ℕ
+  after_at at one = if one.after_first then at else at + text_sizes items (limit_text one.before)
+
+  abbrev pub by_at : ℕ → Inspected → ℕ
+  by_at at one = at + text_sizes items (what_texts one.what)
+
+  abbrev pub limits_at : ℕ → Inspected → ℕ
+  limits_at at one = by_at at one + text_sizes items (by_texts one.by)
+
+  abbrev pub entry_at : ℕ → Inspected → Entry
+  entry_at at one = record {
+    fit = what_fit at one.what;
+    before = limit_span (before_at (limits_at at one) one.limits) one.limits.before;
+    after = limit_span (after_at (limits_at at one) one.limits) one.limits.after;
+    by = by_span (by_at at one) one.by;
+  }
+
+  abbrev pub entries_at : ℕ → List Inspected → List Entry
+  entries_at at [] = []
+  entries_at at (one ∷ more) = entry_at at one ∷ entries_at (at + text_sizes items (entry_texts one)) more
+
+-- What an INSPECT does with the texts that it takes: how many entries of TALLYING each counter has, those entries, and those of REPLACING.
+pub record Inspection : Type 0 where
+  pub counters : List ℕ
+  pub tallying : List Entry
+  pub replacing : List Entry
+
+abbrev pub entry_counts : List Tallying → List ℕ
+entry_counts [] = []
+entry_counts (one ∷ more) = length (counter_entries one) ∷ entry_counts more
+
+module _ (items : List Placed) where
+  -- All counters' entries are one list.
+  abbrev pub all_tallied : Inspecting → List Inspected
+  all_tallied one = all_inspected counter_entries one.tallying
+
+  abbrev pub all_replaced : Inspecting → List Inspected
+  all_replaced one = all_inspected (replacing_entries items) one.replacing
+
+  abbrev pub takings : Inspecting → List Taking
+  takings one = tallying_takings one.tallying ++ map Text (entries_texts (all_replaced one))
+
+  -- The size of TALLYING's texts, behind which REPLACING's stand.
+  abbrev pub tallied_size : Inspecting → ℕ
+  tallied_size one = text_sizes items (entries_texts (all_tallied one))
+
+  -- the size of all texts
+  abbrev pub inspected_size : Inspecting → ℕ
+  inspected_size one = taken_size items (takings one)
+
+  abbrev pub inspection : Inspecting → Inspection
+  inspection one = record {
+    counters = entry_counts one.tallying;
+    tallying = entries_at items 0 (all_tallied one);
+    replacing = entries_at items (tallied_size one) (all_replaced one);
+  }
+
+-- ---- taking, in the order of writing
+
+-- the counters' places, and all texts joined
+pub record InspectTaken : Type 0 where
+  pub counters : List ItemPlace
+  pub texts : List ℕ
+
+abbrev pub with_counter : ItemPlace → InspectTaken → InspectTaken
+with_counter place taken = record taken { counters = place ∷ taken.counters }
+
+abbrev pub with_text : List ℕ → InspectTaken → InspectTaken
+with_text text taken = record taken { texts = text ++ taken.texts }
+
+abbrev pub take_each : List Placed → List Taking → Storage → Evaluated InspectTaken
+take_each items [] storage = Ok (record { counters = []; texts = [] })
+take_each items (Counter one ∷ more) storage =
+    place_of items one storage >>= (λ place. take_each items more storage >>= (λ taken. Ok (with_counter place taken)))
+take_each items (Text (Bytes one) ∷ more) storage =
+    place_of items one storage >>= (λ place. take_each items more storage >>= (λ taken. Ok (with_text (text_at storage place) taken)))
+take_each items (Text (Characters text) ∷ more) storage = take_each items more storage >>= (λ taken. Ok (with_text text taken))
+
+-- ---- counters
+
+-- how often the entries from this number on fit together, so many of them
+abbrev pub fits_together : (ℕ → ℕ) → ℕ → ℕ → ℕ
+fits_together count from zero = 0
+fits_together count from (suc more) = count from + fits_together count (from + 1) more
+
+-- for each counter, which has so many entries
+abbrev pub counted : (ℕ → ℕ) → ℕ → List ℕ → List ℕ
+counted count from [] = []
+counted count from (entries ∷ more) = fits_together count from entries ∷ counted count (from + entries) more
+
+-- ---- INSPECT
+
+-- Without REPLACING no text is stored.
+abbrev pub store_replaced : List ℕ → List Entry → List ℕ → ItemPlace → Storage → Storage
+store_replaced texts [] bytes subject storage = storage
+store_replaced texts (one ∷ more) bytes subject storage = storing subject (replaced texts (one ∷ more) bytes) storage
+
+-- With the texts and places that were taken. Both phrases look at the subject's bytes as they are before anything is stored.
+abbrev pub inspect_at : Inspection → List ℕ → List ItemPlace → ItemPlace → Storage → Evaluated Storage
+inspect_at how texts counters subject storage =
+    add_each counters (counted (tally texts how.tallying (part_of storage subject)) 0 how.counters) storage
+    >>= (λ after. Ok (store_replaced texts how.replacing (part_of storage subject) subject after))
+
+abbrev pub inspect_by_spans : List Placed → Inspecting → Storage → Evaluated Storage
+inspect_by_spans items one storage =
+    place_of items one.subject storage >>= (λ subject.
+    take_each items (takings items one) storage >>= (λ taken.
+    inspect_at (inspection items one) taken.texts taken.counters subject storage))
