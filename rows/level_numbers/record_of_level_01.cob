@@ -1,0 +1,16 @@
+       IDENTIFICATION DIVISION.
+       PROGRAM-ID. P.
+       ENVIRONMENT DIVISION.
+       INPUT-OUTPUT SECTION.
+       FILE-CONTROL.
+           SELECT F ASSIGN TO "FILE".
+       DATA DIVISION.
+       FILE SECTION.
+       FD  F.
+       01  R PIC XX.
+       WORKING-STORAGE SECTION.
+       77  S PIC XX.
+       PROCEDURE DIVISION.
+       MAIN.
+           DISPLAY "KEPT".
+           STOP RUN.

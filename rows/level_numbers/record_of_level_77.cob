@@ -1,0 +1,14 @@
+       IDENTIFICATION DIVISION.
+       PROGRAM-ID. P.
+       ENVIRONMENT DIVISION.
+       INPUT-OUTPUT SECTION.
+       FILE-CONTROL.
+           SELECT F ASSIGN TO "FILE".
+       DATA DIVISION.
+       FILE SECTION.
+       FD  F.
+       77  R PIC XX.
+       PROCEDURE DIVISION.
+       MAIN.
+           DISPLAY "KEPT".
+           STOP RUN.
