@@ -71,9 +71,8 @@ fn image_of_tree(alloc: Global, tree: &Program) -> Result<Vec<u8>, CompileError>
 
 /// The image of a source text.
 ///
-/// `Refused` with the first fault that a stage meets: 10 to 14 for its lines, 15 to 18 for its tokens, 30, 31 and 20
-/// for its tree, 43 to 48, 55 and 69 for the rules of its entries, 42 for the names of its procedures, 17, 18, 40, 41, 49 to 52, 55
-/// and 67 for the rules of its statements, 56 where it has no procedure, and 54 where a PERFORM leads back to its paragraph.
+/// `Refused` with the first fault that a stage meets: 10 to 14 for its lines, 15 to 18 for its tokens, 30, 31 and 20 for its tree, and
+/// 17, 18 and 40 to 69 for its rules, in the order of `check_rules::check`.
 pub fn compile(alloc: Global, source: &[u8]) -> Result<Vec<u8>, CompileError>
     // What is answered is an image of the source text's tree: whatever it is given, its run is what the tree means.
     ensures image { IfOk result (λ image. IsCompiled source.now image.items) }

@@ -20,7 +20,7 @@ pub enum CompileFault {
     Tokens(tokens::TokenFault),
     /// 20, 30 and 31.
     Tree(divisions::ParseFault),
-    /// 17, 18, 40, 41, 43 to 51, 55, 67 and 69.
+    /// 17, 18 and 40 to 69.
     Rules(check_rules::BrokenRule),
 }
 
