@@ -4,7 +4,9 @@ use crate::{Access, HostDevice, HostVolume, NewVolume, rewrite_roots};
 use station::{Device, MemoryStation};
 use std::fs::{File, OpenOptions};
 use std::io::ErrorKind;
+use std::os::unix::fs::MetadataExt;
 use std::test::Fail;
+use std::time::SystemTime;
 use std::{fs, io};
 
 /// The kind of an error, or none.
@@ -74,6 +76,22 @@ fn one_writer_or_some_readers(rt: HostRuntime) -> Result<(), Fail> {
     volume.read(0, &mut bytes)?;
     assert!(rt; bytes == [7; 4096]);
     fs::remove_file(&rt, "locks.V")?;
+    Ok(())
+}
+
+/// An opening to write writes the roots again. One to read writes nothing. A file that is written gets a new time.
+#[test]
+fn openings_that_write(rt: HostRuntime) -> Result<(), Fail> {
+    let volume = NewVolume::open(&rt, "time.V")?.fill(rt.alloc(), 2, |_| {})?;
+    drop(volume);
+    for (access, writes) in [(Access::Read, false), (Access::ReadWrite, true)] {
+        let file = OpenOptions::new().write(true).open(&rt, "time.V")?;
+        file.set_modified(SystemTime::UNIX_EPOCH)?;
+        let volume = HostVolume::open(&rt, "time.V", access)?;
+        drop(volume);
+        assert_eq!(rt; fs::metadata(&rt, "time.V")?.mtime() != 0, writes);
+    }
+    fs::remove_file(&rt, "time.V")?;
     Ok(())
 }
 
