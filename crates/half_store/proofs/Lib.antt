@@ -16,3 +16,4 @@ mod Formatted
 mod Opened
 mod PrimeOrder
 mod OneList
+mod Rooms

@@ -18,8 +18,8 @@ use Rattle.records.specs.declared.fault.StoreFault.TheVariants.{Device, Full, Da
 use Rattle.records.specs.Files.{Files, AreFiles}
 use Rattle.half_store.specs.Spelled.{spelled}
 use Rattle.half_store.specs.Stored.{files_of}
-use Rattle.half_store.specs.Half.{marks, named_length, named_bytes, IsHalfRoot, AreEarly, HoldsAt, Holds, Rests}
-use Rattle.half_store.specs.Opened.{HoldsNone, Refused, of_roots, IsReadCause}
+use Rattle.half_store.specs.Half.{marks, named_length, named_bytes, IsHalfRoot, IsForeign, AreEarly, HoldsAt, Holds, Rests}
+use Rattle.half_store.specs.Opened.{HoldsNone, Refused, Tells, of_roots, IsReadCause}
 use Rattle.half_store.specs.Stands.{Stands}
 use Rattle.half_store.specs.declared.store.HalfStore.{HalfStore}
 
@@ -44,6 +44,15 @@ module _ (image : List Sector) where
   roots_refused error.Device gives = tt
   roots_refused (error.Roots fault.Damaged) gives = no_roots fault.Damaged gives
   roots_refused (error.Roots fault.ForeignMark) gives = gives
+
+  pub roots_foreign : (T : Type 0) (e : RootsError) → Gives (λ (r : Roots). r) fault_of (Err e) (roots_in marks 1 image) → IsForeign image → Tells {T = T} Layout (Err (of_roots e))
+  roots_foreign T error.Device gives is = inr (inl refl)
+  roots_foreign T (error.Roots fault.Damaged) gives is = let e = sym gives ∙ is in cc
+  roots_foreign T (error.Roots fault.ForeignMark) gives is = inl refl
+
+  -- own roots aren't the other format's
+  pub not_foreign : (roots : Roots) → roots_in marks 1 image ≡ Ok roots → IsForeign image → ⊥
+  not_foreign roots reads is = let e = sym reads ∙ is in cc
 
   pub holds_now : (roots : Roots) (bytes : List ℕ) (files : Files) → roots_in marks 1 image ≡ Ok roots → EachRoot IsHalfRoot roots → bytes ≡ named_bytes image roots.newest → length bytes ≡ named_length roots.newest
       → (bytes ≡ spelled files) × AreFiles files × AreEarly roots.newest.generation files → HoldsAt roots.newest.sectors roots.newest.generation image files

@@ -117,6 +117,7 @@ becomes_in files spec i old new held result change lt here found has are becomes
           (λ outcome told file same idle. changed_at spec.name.items files i old new (change held) lt are.ascend found.1 (same ∙ ap (λ (f : StoredFile). f.spec) (sym here))
           (file ∙ ap (λ (f : File). (change f).file) (sym is)) (λ none. idle (ap is_change (told ∙ ap (λ (f : File). (change f).outcome) (sym is)) ∙ none) ∙ sym here));
       full = λ e. let late = becomes.full e in omega (arith, late, ap (λ (f : File). f.next_arrival) is);
+      changes = λ e. ap (λ (f : File). is_change (change f).outcome) is ∙ becomes.changes e;
       sound = becomes.sound;
     }
 

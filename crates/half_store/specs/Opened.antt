@@ -1,5 +1,5 @@
 -- What is told of a volume that is opened.
-use Rattle.std.specs.Prelude.{◌≡◌, ◌⊎◌, List}
+use Rattle.std.specs.Prelude.{◌≡◌, ◌⊎◌, List, Result, Ok, Err}
 use Rattle.station.specs.Disk.{Sector}
 use Rattle.roots.specs.declared.error.RootsError.{RootsError}
 use Rattle.roots.specs.declared.error.RootsError.TheVariants as roots
@@ -34,3 +34,8 @@ of_roots (roots.Roots f) = of_fault f
 -- the causes of a read that is refused
 abbrev pub IsReadCause : StoreFault → Type 0
 IsReadCause fault = (fault ≡ Device) ⊎ (fault ≡ Memory)
+
+-- this fault, unless the device or memory failed
+abbrev pub Tells : {T : Type 0} → StoreFault → Result T StoreFault → Type 0
+Tells fault (Ok x) = ⊥
+Tells fault (Err e) = (e ≡ fault) ⊎ IsReadCause e

@@ -1,10 +1,12 @@
--- What the store stands for.
-use Rattle.std.specs.Prelude.{◌≡◌, ◌⊎◌, ◌<◌, length}
-use Rattle.station.specs.Disk.{Disk}
+-- What the store stands for, and when its volume lacks room.
+use Rattle.std.specs.Prelude.{◌≡◌, ◌⊎◌, ◌<◌, List, length, Ok}
+use Rattle.station.specs.Disk.{Disk, Sector}
+use Rattle.roots.specs.declared.pair.Roots.{Roots}
+use Rattle.roots.specs.Reading.{roots_in}
 use Rattle.records.specs.Files.{Files}
 use Rattle.half_store.specs.Spelled.{spelled}
 use Rattle.half_store.specs.Stored.{files_of}
-use Rattle.half_store.specs.Half.{Rests}
+use Rattle.half_store.specs.Half.{marks, Rests}
 use Rattle.half_store.specs.Write.{IsFull}
 use Rattle.half_store.specs.declared.store.HalfStore.{HalfStore}
 
@@ -13,6 +15,8 @@ pub record Stands (store : HalfStore) (disk : Disk) (files : Files) : Type 0 whe
   pub rests : Rests store.sectors store.generation disk files
   pub memory : files_of store.files.items ≡ files
 
--- these files don't fit a half, are more than 255, or no generation is left
-abbrev pub IsShort : HalfStore → Files → Type 0
-IsShort store files = IsFull store.sectors store.generation (length (spelled files)) ⊎ (255 < length files)
+-- The volume in an image lacks room for these files: they don't fit a half of it, are more than 255, or no generation is left.
+pub record LacksRoom (image : List Sector) (files : Files) : Type 0 where
+  pub roots : Roots
+  pub reads : roots_in marks 1 image ≡ Ok roots
+  pub short : IsFull roots.newest.sectors roots.newest.generation (length (spelled files)) ⊎ (255 < length files)

@@ -96,6 +96,7 @@ pub(crate) fn write_half<D: Device>(
     ensures only { OnlyWrites D.Device (result ≡ Err StoreFault.Device) device.old device.new }
     ensures cause { IfErr result IsCause }
     ensures full { result ≡ Err StoreFault.Full → IsFull sectors generation (length bytes.old.items) }
+    ensures unwritten { result ≡ Err StoreFault.Full → D.is_honest device.old → D.state device.new ≡ D.state device.old }
 
     // At each moment a crash leaves the files before, or those that the bytes spell.
     ensures moments { D.is_honest device.old → (before after : Files) → Rests sectors generation (D.state device.old).disk before

@@ -1,7 +1,7 @@
 //! What the store keeps, and its calls.
 ghost use Rattle.std.specs.Prelude.{◌≡◌, ℕ, List};
 ghost use Rattle.half_store.specs.Half.{Holds};
-ghost use Rattle.half_store.specs.Stands.{Stands, IsShort};
+ghost use Rattle.half_store.specs.Stands.{Stands, LacksRoom};
 ghost use Rattle.half_store.specs.Held.{held_law};
 
 use crate::changing::{insert_in, remove_in, replace_in};
@@ -21,7 +21,7 @@ impl Keeps for HalfStore {
 
     ghost is_spent = { λ store. store.spent };
 
-    ghost lacks_room = { λ store is_new name before after. IsShort store after };
+    ghost lacks_room = { λ image is_new name before after. LacksRoom image after };
 }
 
 impl Store for HalfStore {

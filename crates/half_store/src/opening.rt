@@ -14,7 +14,7 @@ ghost use Rattle.records.specs.Rows.{same_bytes};
 ghost use Rattle.half_store.specs.Spelled.{spelled};
 ghost use Rattle.half_store.specs.Stored.{files_of};
 ghost use Rattle.half_store.specs.Half.{marks, half, joined, named_length, named_bytes, IsHalfRoot, AreEarly, HoldsAt, Holds, IsForeign};
-ghost use Rattle.half_store.specs.Opened.{HoldsNone, Refused, of_roots, IsReadCause};
+ghost use Rattle.half_store.specs.Opened.{HoldsNone, Refused, Tells, of_roots, IsReadCause};
 ghost use Rattle.half_store.specs.Stands.{Stands};
 
 use crate::checking::are_files;
@@ -178,6 +178,7 @@ fn own_roots<D: Device>(device: &mut D) -> Result<Roots, StoreFault>
     ensures roots { D.is_honest device.old → IfOk result (λ roots. roots_in marks 1 (D.state device.old).disk.present ≡ Ok roots) }
     ensures within { IfOk result (λ roots. EachRoot (IsWithin (D.sectors device.old)) roots) }
     ensures refused { D.is_honest device.old → IfErr result (λ fault. Refused (D.state device.old).disk.present fault) }
+    ensures foreign { D.is_honest device.old → IsForeign (D.state device.old).disk.present → Tells StoreFault.Layout result }
 {
     match read_roots(device, &[MARK, FOREIGN_MARK], 1) {
         Ok(roots) => Ok(roots),
@@ -191,6 +192,7 @@ fn read_volume<D: Device>(alloc: Global, device: &mut D) -> Result<HalfStore, St
     ensures holds { D.is_honest device.old → IfOk result (λ store. HoldsAt store.sectors store.generation (D.state device.old).disk.present (files_of store.files.items)) }
     ensures there { IfOk result (λ store. (store.sectors ≤ D.sectors device.old) × (store.spent ≡ false)) }
     ensures refused { D.is_honest device.old → IfErr result (λ fault. Refused (D.state device.old).disk.present fault) }
+    ensures foreign { D.is_honest device.old → IsForeign (D.state device.old).disk.present → Tells StoreFault.Layout result }
 {
     let roots = own_roots(device)?;
     if !are_half_roots(&roots) {
@@ -228,8 +230,9 @@ impl HalfStore {
         ensures there { IfOk result (λ store. (store.sectors ≤ D.sectors device.old) × (store.spent ≡ false)) }
         ensures refused { D.is_honest device.old → IfErr result (λ fault. Refused (D.state device.old).disk.present fault) }
 
-        // Where it holds files, only the device and memory refuse.
+        // Where it holds files, only the device and memory refuse. `Layout` comes exactly where its newest root has the other format's mark.
         ensures opens { D.is_honest device.old → (files : Files) → Holds (D.state device.old).disk.present files → IfErr result IsReadCause }
+        ensures foreign { D.is_honest device.old → IsForeign (D.state device.old).disk.present → Tells StoreFault.Layout result }
     {
         device.sync()?;
         read_volume(alloc, device)
@@ -245,6 +248,7 @@ pub fn recover<D: Device>(alloc: Global, device: &mut D) -> Result<Vec<StoredFil
     ensures holds { D.is_honest device.old → IfOk result (λ files. Holds (D.state device.old).disk.present (files_of files.items)) }
     ensures refused { D.is_honest device.old → IfErr result (λ fault. Refused (D.state device.old).disk.present fault) }
     ensures opens { D.is_honest device.old → (files : Files) → Holds (D.state device.old).disk.present files → IfErr result IsReadCause }
+    ensures foreign { D.is_honest device.old → IsForeign (D.state device.old).disk.present → Tells StoreFault.Layout result }
 {
     match HalfStore::open(alloc, device) {
         Ok(store) => Ok(store.files),

@@ -1,5 +1,5 @@
 //! What is in memory is written.
-ghost use Rattle.std.specs.Prelude.{◌≡◌, ◌≤◌, ◌<◌, ◌+◌, false, ℕ, List, length, Err, OnOk, OnErr, IfOk, IfErr};
+ghost use Rattle.std.specs.Prelude.{◌≡◌, ◌≤◌, ◌<◌, ◌+◌, true, false, ℕ, List, length, Err, OnOk, OnErr, IfOk, IfErr};
 ghost use Rattle.station.specs.History.{Through};
 ghost use Rattle.station.specs.Blocks.{CrashLeaves};
 ghost use Rattle.station.specs.Calls.{OnlyWrites};
@@ -36,6 +36,7 @@ impl HalfStore {
         ensures rest { self.new ≡ record self.old { generation = self.new.generation } }
         ensures cause { IfErr result IsCause }
         ensures full { result ≡ Err StoreFault.Full → IsFull self.old.sectors self.old.generation (length (spelled (files_of self.old.files.items))) }
+        ensures unwritten { result ≡ Err StoreFault.Full → D.is_honest device.old → D.state device.new ≡ D.state device.old }
         ensures moments { D.is_honest device.old → (before : Files) → Rests self.old.sectors self.old.generation (D.state device.old).disk before
             → AreFiles (files_of self.old.files.items) → AreEarly (self.old.generation + 1) (files_of self.old.files.items) →
             Through (D.history device.old) (D.history device.new) (D.state device.new) (CrashLeaves (D.state device.old).events (Either Holds before (files_of self.old.files.items))) }
@@ -69,6 +70,8 @@ impl HalfStore {
         ensures spent { OnErr result (self.new.spent ≡ self.old.spent) }
         ensures cause { IfErr result IsCause }
         ensures idle { is_change outcome ≡ false → D.is_honest device.old → D.state device.new ≡ D.state device.old }
+        ensures changes { result ≡ Err StoreFault.Full → is_change outcome ≡ true }
+        ensures unwritten { result ≡ Err StoreFault.Full → D.is_honest device.old → D.state device.new ≡ D.state device.old }
         ensures settles { (before after : Files) → D.is_honest device.old → Rests self.old.sectors self.old.generation (D.state device.old).disk before
             → files_of self.old.files.items ≡ after → AreFiles after → AreEarly (self.old.generation + 1) after → (is_change outcome ≡ false → after ≡ before)
             → Settles D.Device result self.old.sectors self.old.generation before after device.old self.new device.new }

@@ -28,5 +28,6 @@ returns-in-Some-clause-becomes c = λ ascend.
       spec = refl;
       idle = λ none. absurd cc;
       full = λ e. absurd cc;
+      changes = λ e. absurd cc;
       sound = λ e. absurd cc;
     })

@@ -38,6 +38,7 @@ returns-then-has_other_taken-clause-becomes c = λ ascend.
       spec = refl;
       idle = λ none. refl;
       full = λ e. absurd cc;
+      changes = λ e. absurd cc;
       sound = λ e. absurd cc;
     })
 
@@ -79,5 +80,6 @@ returns-clause-becomes c = λ ascend.
       spec = refl;
       idle = λ none. let yes : is_change c.outcome_of.result ≡ true = ap is_change told ∙ done_changes (D old.bytes.items keys pair rows) in absurd {0} cc;
       full = λ e. absurd cc;
+      changes = λ e. absurd cc;
       sound = λ e. absurd cc;
     })

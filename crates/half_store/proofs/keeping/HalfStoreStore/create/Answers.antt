@@ -7,6 +7,7 @@ use Rattle.half_store.specs.Stored.{files_of}
 use Rattle.half_store.specs.Half.{AreEarly}
 use Rattle.half_store.proofs.Written.{at_rest}
 use Rattle.half_store.proofs.Placed.{early_with, counted}
+use Rattle.half_store.proofs.Rooms.{lacks_room}
 use Rattle.half_store.proofs.Turned.{cause_sound}
 use Rattle.half_store.proofs.keeping.HalfStoreStore.create.Goals as goal
 
@@ -30,7 +31,8 @@ returns-in_err-create_in-clause-turns g c = λ files stands.
       moments = stays (g.D.Device.history c.args.device.now) old _ (at_rest c.args.self.now.sectors c.args.self.now.generation files (with_file name (empty_file (spec_of c.args.file.now)) files) old stands.there.rests);
       sound = search rules;
       room = λ e. let told = rw e at c.from_residual.ensures.1 in
-          inr (subst (λ (l : Files). 255 < length (with_file name (empty_file (spec_of c.args.file.now)) l)) stands.there.memory (c.in_err-create_in.ensures.full (cc (told))));
+          lacks_room c.args.self.now.sectors c.args.self.now.generation old.disk files (with_file name (empty_file (spec_of c.args.file.now)) files) stands.there.rests
+          (inr (subst (λ (l : Files). 255 < length (with_file name (empty_file (spec_of c.args.file.now)) l)) stands.there.memory (c.in_err-create_in.ensures.full (cc (told)))));
     }
 
 pub returns-in_err-settle-clause-turns : goal.returns-in_err-settle-clause-turns
@@ -51,7 +53,8 @@ returns-in_err-settle-clause-turns g c = λ files stands.
       there = search rules;
       moments = settles.moments;
       sound = search rules;
-      room = λ e. let told = rw e at c.from_residual-in_err-settle.ensures.1 in settles.full (cc (told));
+      room = λ e. let told = rw e at c.from_residual-in_err-settle.ensures.1 in
+          lacks_room c.args.self.now.sectors generation (g.D.Device.state c.args.device.now).disk files after stands.there.rests (settles.full (cc (told)));
     }
 
 pub returns-clause-turns : goal.returns-clause-turns

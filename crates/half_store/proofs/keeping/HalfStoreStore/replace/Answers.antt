@@ -10,6 +10,7 @@ use Rattle.half_store.specs.Stored.{files_of}
 use Rattle.half_store.specs.Half.{AreEarly}
 use Rattle.half_store.proofs.Written.{at_rest}
 use Rattle.half_store.proofs.Placed.{early_held, early_after, no_change}
+use Rattle.half_store.proofs.Rooms.{lacks_room}
 use Rattle.half_store.proofs.Turned.{all_bytes, replaced_next, cause_sound}
 use Rattle.half_store.proofs.keeping.HalfStoreStore.replace.Goals as goal
 
@@ -37,7 +38,8 @@ returns-in_err-outcome-clause-turns g c = λ files held stands has.
       sound = search rules;
       room = λ e. let told = rw e at c.from_residual.ensures.1 in
           let late = full (cc (told)) in
-          inl (inr (omega (arith, late, early_held c.args.self.now.generation c.args.file.now.name.items files held stands.there.rests.holds.early has.there)));
+          lacks_room c.args.self.now.sectors c.args.self.now.generation old.disk files (files_after c.args.file.now.name.items files (replaced c.args.number c.args.bytes.now held)) stands.there.rests
+          (inl (inr (omega (arith, late, early_held c.args.self.now.generation c.args.file.now.name.items files held stands.there.rests.holds.early has.there))));
     }
 
 pub returns-clause-turns : goal.returns-clause-turns
@@ -59,5 +61,21 @@ returns-clause-turns g c = λ files held stands has.
       there = on_ok c.settle.result (λ there. record { honest = c.settle.ensures.only.honest.0 stands.honest; there = there }) settles.stands;
       moments = settles.moments;
       sound = cause_sound c.settle.result c.settle.ensures.cause;
-      room = settles.full;
+      room = λ e. lacks_room c.args.self.now.sectors generation (g.D.Device.state c.args.device.now).disk files after stands.there.rests (settles.full e);
     }
+
+pub returns-in_err-outcome-clause-full : goal.returns-in_err-outcome-clause-full
+returns-in_err-outcome-clause-full g c = λ files held stands has e.
+    let has' = subst (λ (l : Files). Has l c.args.file.now held) (sym stands.there.memory) has in
+    let are' = subst AreFiles (sym stands.there.memory) stands.there.rests.holds.sound in
+    let becomes = c.in_err-outcome.ensures.becomes held has' are' in
+    let changes = becomes.changes in
+    let told = rw e at c.from_residual.ensures.1 in
+    changes (cc (told))
+
+pub returns-clause-full : goal.returns-clause-full
+returns-clause-full g c = λ files held stands has e.
+    let has' = subst (λ (l : Files). Has l c.args.file.now held) (sym stands.there.memory) has in
+    let are' = subst AreFiles (sym stands.there.memory) stands.there.rests.holds.sound in
+    let becomes = c.in_ok-outcome.ensures.becomes held has' are' in
+    sym (ap is_change becomes.outcome) ∙ c.settle.ensures.changes e
