@@ -138,7 +138,6 @@ file_clauses = record {
   clause = file_clause;
   kind_of = λ one. one;
   at = file_clause_at;
-  reader = file_clause_reader;
   has = has;
   with_clause = with_clause;
 }

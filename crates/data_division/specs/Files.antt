@@ -10,7 +10,7 @@ use Rattle.grammar.specs.Reading.{Parser, ◌>>=◌, ◌>>◌, pure, begins_word
 use Rattle.expressions.specs.Subscripts.{begins_integer}
 use Rattle.data_division.specs.Gathering.{gathering, gathering_reader}
 use Rattle.data_division.specs.Listed.{listed_from, list_from}
-use Rattle.data_division.specs.FileClauses.{file_clauses, none}
+use Rattle.data_division.specs.FileClauses.{file_clauses, none, file_clause_reader}
 use Rattle.data_division.specs.Entries.{entry}
 use Rattle.data_division.specs.EntryReading.{entry_reader}
 
@@ -35,7 +35,7 @@ unfoldable pub file_reader : Parser FileDescription
 file_reader = do
   expect w.Fd
   given ← r.name
-  clauses ← gathering_reader file_clauses none
+  clauses ← gathering_reader file_clauses file_clause_reader none
   r.period
   records ← r.several entry_reader begins_integer
   pure (record { name = given; entries = records })

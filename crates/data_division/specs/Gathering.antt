@@ -10,9 +10,8 @@ pub record Clauses (Clause Kind All : Type 0) : Type 1 where
   -- which tokens spell a clause, and which kind it is of
   pub clause : Clause → Part
   pub kind_of : Clause → Kind
-  -- the kind of the clause that begins here, and how one of that kind is read
+  -- the kind of the clause that begins here
   pub at : List Token → Option Kind
-  pub reader : Kind → Parser Clause
   -- whether one of that kind stands already and can't come again
   pub has : All → Kind → Bool
   pub with_clause : All → Clause → All
@@ -30,17 +29,18 @@ module _ {Clause Kind All : Type 0} (c : Clauses Clause Kind All) where
   abbrev pub gathering : All → All → Part
   gathering before all = λ from rest. (clauses : List Clause) × any c.clause (tested begins) clauses from rest × (gathered before clauses ≡ Some all)
 
-  -- ---- reading
+  -- ---- reading, where this is how a clause of each kind is read
 
-  -- a clause that can't come again is refused where it does
-  abbrev pub further : (All → Parser All) → All → Option Kind → Parser All
-  further again all None i = Ok (all, i)
-  further again all (Some one) i = if c.has all one then refuse i else (c.reader one >>= (λ found. again (c.with_clause all found))) i
+  module _ (reader : Kind → Parser Clause) where
+    -- a clause that can't come again is refused where it does
+    abbrev pub further : (All → Parser All) → All → Option Kind → Parser All
+    further again all None i = Ok (all, i)
+    further again all (Some one) i = if c.has all one then refuse i else (reader one >>= (λ found. again (c.with_clause all found))) i
 
-  -- The number bounds the turns, and each turn takes a token, so the count of tokens is enough.
-  unfoldable pub gathering_turns : ℕ → All → Parser All
-  gathering_turns zero all i = if begins i then refuse i else Ok (all, i)
-  gathering_turns (suc turns) all i = further (gathering_turns turns) all (c.at i) i
+    -- The number bounds the turns, and each turn takes a token, so the count of tokens is enough.
+    unfoldable pub gathering_turns : ℕ → All → Parser All
+    gathering_turns zero all i = if begins i then refuse i else Ok (all, i)
+    gathering_turns (suc turns) all i = further (gathering_turns turns) all (c.at i) i
 
-  unfoldable pub gathering_reader : All → Parser All
-  gathering_reader before i = gathering_turns (length i) before i
+    unfoldable pub gathering_reader : All → Parser All
+    gathering_reader before i = gathering_turns (length i) before i

@@ -61,11 +61,11 @@ with_clause all (clause_as.Value one) = record all { value = Some one }
 
 -- the clauses of an entry
 abbrev pub entry_clauses : Clauses Clause ClauseKind Stated
-entry_clauses = record { clause = clause; kind_of = kind_of; at = clause_at; reader = clause_reader; has = has; with_clause = with_clause }
+entry_clauses = record { clause = clause; kind_of = kind_of; at = clause_at; has = has; with_clause = with_clause }
 
 -- Clauses in any order, up to where no more can begin, each at most once.
 abbrev pub stated : Stated → Part
 stated = gathering entry_clauses none
 
 unfoldable pub stated_reader : Parser Stated
-stated_reader = gathering_reader entry_clauses none
+stated_reader = gathering_reader entry_clauses clause_reader none

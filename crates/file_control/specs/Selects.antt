@@ -20,6 +20,7 @@ use Rattle.data_division.specs.Gathering.{gathering, gathering_reader}
 use Rattle.data_division.specs.Listed.{listed_from, list_from}
 use Rattle.file_control.specs.declared.stated.Stated.{Stated}
 use Rattle.file_control.specs.Stated.{none, select_clauses}
+use Rattle.file_control.specs.ClauseReading.{clause_reader}
 
 -- the file's name on the volume: a nonnumeric literal's characters, or a word, which tokens have in upper case
 abbrev pub assigned_by : Kind → Place → Option AssignedName
@@ -86,7 +87,7 @@ select_reader = do
   expect w.Select
   optional ← r.stands (after_word w.Optional)
   head ← assigned_reader
-  clauses ← gathering_reader select_clauses none
+  clauses ← gathering_reader select_clauses clause_reader none
   r.period
   pure (select_of optional head.0 head.1 clauses)
 

@@ -6,7 +6,6 @@ use Rattle.file_control.specs.declared.clause.Clause.{Clause}
 use Rattle.file_control.specs.declared.clause.Clause.TheVariants as clause_as
 use Rattle.file_control.specs.declared.stated.Stated.{Stated}
 use Rattle.file_control.specs.Clauses.{clause, kind_of, clause_at}
-use Rattle.file_control.specs.ClauseReading.{clause_reader}
 use Rattle.data_division.specs.Gathering.{Clauses}
 
 abbrev pub none : Stated
@@ -30,4 +29,4 @@ with_clause all (clause_as.AlternateKey one) = record all { alternate_keys = all
 with_clause all (clause_as.Status one) = record all { status = Some one }
 
 abbrev pub select_clauses : Clauses Clause ClauseKind Stated
-select_clauses = record { clause = clause; kind_of = kind_of; at = clause_at; reader = clause_reader; has = has; with_clause = with_clause }
+select_clauses = record { clause = clause; kind_of = kind_of; at = clause_at; has = has; with_clause = with_clause }

@@ -3,6 +3,7 @@
 ghost use Rattle.std.specs.Prelude.{◌≡◌, OnOk};
 ghost use Rattle.grammar.specs.Reading.{Reads};
 ghost use Rattle.data_division.specs.Gathering.{gathering_reader};
+ghost use Rattle.file_control.specs.ClauseReading.{clause_reader};
 ghost use Rattle.file_control.specs.Stated as spec;
 
 use crate::clause::{Clause, ClauseKind};
@@ -73,7 +74,7 @@ impl Stated {
 /// Clauses up to where no more can begin. One that can't come a second time is refused where it does.
 #[tactic(auto, unfolding(data_division::specs::Gathering::gathering_reader, data_division::specs::Gathering::gathering_turns))]
 pub fn stated_clauses(alloc: Global, tokens: &mut Tokens<'_>) -> Result<Stated, ReadFault>
-    ensures { Reads (gathering_reader spec.select_clauses spec.none tokens.old) result tokens.new }
+    ensures { Reads (gathering_reader spec.select_clauses clause_reader spec.none tokens.old) result tokens.new }
 {
     let mut stated = Stated::none(alloc);
     for _turn in 0..tokens.len() {

@@ -22,7 +22,7 @@ use Rattle.data_division.specs.Clauses.{either}
 use Rattle.data_division.specs.ClauseReading.{either_reader, skip_either}
 use Rattle.data_division.specs.Gathering.{gathering, gathering_reader}
 use Rattle.data_division.specs.FileClauses as g
-use Rattle.data_division.specs.FileClauses.{file_clause, file_clauses, file_clause_of, file_clause_in, file_clause_at, none}
+use Rattle.data_division.specs.FileClauses.{file_clause, file_clauses, file_clause_of, file_clause_in, file_clause_at, none, file_clause_reader}
 use Rattle.data_division.proofs.Exact.Optional.{either_sound, either_complete, either_shrinks, skip_either_sound, skip_either_complete, skip_either_shrinks}
 use Rattle.data_division.proofs.Exact.Listed.{unless_sound, unless_complete, unless_shrinks}
 use Rattle.data_division.proofs.Exact.Gathering.{gathering_sound, gathering_complete, gathering_shrinks}
@@ -224,11 +224,11 @@ clause_shrinks clause_as.DataRecords i rest (i1, first, (i2, rows, (i3, is, (all
 
 -- ---- all clauses
 
-pub clauses_sound : Sound (gathering file_clauses none) (gathering_reader file_clauses none)
-clauses_sound = gathering_sound file_clauses (λ kind x i rest begun e. clause_sound kind x i rest e) none
+pub clauses_sound : Sound (gathering file_clauses none) (gathering_reader file_clauses file_clause_reader none)
+clauses_sound = gathering_sound file_clauses file_clause_reader (λ kind x i rest begun e. clause_sound kind x i rest e) none
 
-pub clauses_complete : {Allowed : Halt → Type 0} → Complete Allowed (gathering file_clauses none) (gathering_reader file_clauses none)
-clauses_complete {Allowed = Allowed} = gathering_complete file_clauses Allowed clause_stands clause_shrinks (clause_complete {Allowed = Allowed}) none
+pub clauses_complete : {Allowed : Halt → Type 0} → Complete Allowed (gathering file_clauses none) (gathering_reader file_clauses file_clause_reader none)
+clauses_complete {Allowed = Allowed} = gathering_complete file_clauses file_clause_reader Allowed clause_stands clause_shrinks (clause_complete {Allowed = Allowed}) none
 
 pub clauses_shrink : (all : FileClauses) (i rest : List Token) → gathering file_clauses none all i rest → length rest ≤ length i
-clauses_shrink = gathering_shrinks file_clauses clause_shrinks none
+clauses_shrink = gathering_shrinks file_clauses file_clause_reader clause_shrinks none

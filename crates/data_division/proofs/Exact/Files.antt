@@ -15,7 +15,7 @@ use Rattle.grammar.proofs.Lists.{Sound, Complete, Shrinks, Starts}
 use Rattle.grammar.proofs.Parts.{name_sound, name_complete, name_shrinks, word_sound, word_complete, word_shrinks, period_sound, period_complete, period_shrinks, heading_sound, heading_complete}
 use Rattle.expressions.specs.Subscripts.{begins_integer}
 use Rattle.data_division.specs.Gathering.{gathering_reader}
-use Rattle.data_division.specs.FileClauses.{file_clauses, none}
+use Rattle.data_division.specs.FileClauses.{file_clauses, none, file_clause_reader}
 use Rattle.data_division.specs.Entries.{entry}
 use Rattle.data_division.specs.EntryReading.{entry_reader}
 use Rattle.data_division.specs.Files as g
@@ -46,7 +46,7 @@ unfolding g.file_reader
 file_sound x i rest e =
     unstep (read.expect w.Fd i) _ e (λ u i1 is1 e1.
     unstep (read.name i1) _ e1 (λ given i2 is2 e2.
-    unstep (gathering_reader file_clauses none i2) _ e2 (λ clauses i3 is3 e3.
+    unstep (gathering_reader file_clauses file_clause_reader none i2) _ e2 (λ clauses i3 is3 e3.
     unstep (read.period i3) _ e3 (λ v i4 is4 e4.
     unstep (read.several entry_reader begins_integer i4) _ e4 (λ all i5 is5 e5.
     subst (λ y. g.file y i rest) (value e5) (
@@ -60,7 +60,7 @@ unfolding g.file_reader
 file_complete x i rest (i1, fd, (i2, named, (i3, (clauses, stated), (i4, end, all)))) =
     step (read.expect w.Fd i) _ (word_complete w.Fd tt i i1 fd)
     (step (read.name i1) _ (name_complete x.name i1 i2 named)
-    (step (gathering_reader file_clauses none i2) _ (clauses_complete clauses i2 i3 stated)
+    (step (gathering_reader file_clauses file_clause_reader none i2) _ (clauses_complete clauses i2 i3 stated)
     (step (read.period i3) _ (period_complete tt i3 i4 end)
     (step (read.several entry_reader begins_integer i4) _ (records_complete x.entries i4 rest all) (Reached refl)))))
 

@@ -12,10 +12,10 @@ use Rattle.grammar.proofs.Lists.{Sound, Complete, Shrinks, any_shrinks}
 use Rattle.data_division.specs.Gathering as g
 use Rattle.data_division.specs.Gathering.{Clauses, begins, gathered, gathering, further, gathering_turns, gathering_reader}
 
-module _ {Clause Kind All : Type 0} (c : Clauses Clause Kind All) where
+module _ {Clause Kind All : Type 0} (c : Clauses Clause Kind All) (reader : Kind → Parser Clause) where
   -- what is read where a clause of that kind begins is spelled, and of that kind
   abbrev pub ClausesSound : Type 0
-  ClausesSound = (kind : Kind) (x : Clause) (i rest : List Token) → c.at i ≡ Some kind → c.reader kind i ≡ Ok (x, rest)
+  ClausesSound = (kind : Kind) (x : Clause) (i rest : List Token) → c.at i ≡ Some kind → reader kind i ≡ Ok (x, rest)
       → c.clause x i rest × (c.kind_of x ≡ kind)
 
   -- what is spelled begins as one of its kind
@@ -24,7 +24,7 @@ module _ {Clause Kind All : Type 0} (c : Clauses Clause Kind All) where
 
   -- what is spelled is read by the reader of its kind
   abbrev pub ClausesComplete : (Halt → Type 0) → Type 0
-  ClausesComplete Allowed = (x : Clause) (i rest : List Token) → c.clause x i rest → Answers Allowed (c.reader (c.kind_of x) i) x rest
+  ClausesComplete Allowed = (x : Clause) (i rest : List Token) → c.clause x i rest → Answers Allowed (reader (c.kind_of x) i) x rest
 
   -- ---- what is read is spelled
 
@@ -37,7 +37,7 @@ module _ {Clause Kind All : Type 0} (c : Clauses Clause Kind All) where
   no_more : (before all : All) (i rest : List Token) → begins c i ≡ false → read.pure before i ≡ Ok (all, rest) → gathering c before all i rest
   no_more before all i rest none e = ([], (after e, (tests_tested (begins c)).fails i none), ap Some (value e))
 
-  sound_from : ClausesSound → (turns : ℕ) (before : All) (i : List Token) (all : All) (rest : List Token) → gathering_turns c turns before i ≡ Ok (all, rest)
+  sound_from : ClausesSound → (turns : ℕ) (before : All) (i : List Token) (all : All) (rest : List Token) → gathering_turns c reader turns before i ≡ Ok (all, rest)
       → gathering c before all i rest
   unfolding gathering_turns
   sound_from each zero before i all rest e = go (begins c i) refl e
@@ -47,22 +47,22 @@ module _ {Clause Kind All : Type 0} (c : Clauses Clause Kind All) where
       go false is e = no_more before all i rest is e
   sound_from each (suc turns) before i all rest e = go (λ f j. sound_from each turns f j all rest) (c.at i) refl e
     where
-      turn : ((f : All) (j : List Token) → gathering_turns c turns f j ≡ Ok (all, rest) → gathering c f all j rest)
+      turn : ((f : All) (j : List Token) → gathering_turns c reader turns f j ≡ Ok (all, rest) → gathering c f all j rest)
           → (one : Kind) → c.at i ≡ Some one → (b : Bool) → c.has before one ≡ b
-          → (if b then read.refuse i else (c.reader one >>= (λ found. gathering_turns c turns (c.with_clause before found))) i) ≡ Ok (all, rest)
+          → (if b then read.refuse i else (reader one >>= (λ found. gathering_turns c reader turns (c.with_clause before found))) i) ≡ Ok (all, rest)
           → gathering c before all i rest
       turn again one begun true is e = cc
       turn again one begun false is e =
-          unstep (c.reader one i) _ e (λ found middle here next.
+          unstep (reader one i) _ e (λ found middle here next.
           let s = each one found i middle begun here in
           in_front before all found i middle rest s.0 (ap (c.has before) s.1 ∙ is) (again (c.with_clause before found) middle next))
 
-      go : ((f : All) (j : List Token) → gathering_turns c turns f j ≡ Ok (all, rest) → gathering c f all j rest)
-          → (o : Option Kind) → c.at i ≡ o → further c (gathering_turns c turns) before o i ≡ Ok (all, rest) → gathering c before all i rest
+      go : ((f : All) (j : List Token) → gathering_turns c reader turns f j ≡ Ok (all, rest) → gathering c f all j rest)
+          → (o : Option Kind) → c.at i ≡ o → further c reader (gathering_turns c reader turns) before o i ≡ Ok (all, rest) → gathering c before all i rest
       go again None is e = no_more before all i rest (ap is_some is) e
       go again (Some one) is e = turn again one is (c.has before one) refl e
 
-  pub gathering_sound : ClausesSound → (before : All) → Sound (gathering c before) (gathering_reader c before)
+  pub gathering_sound : ClausesSound → (before : All) → Sound (gathering c before) (gathering_reader c reader before)
   unfolding gathering_reader
   gathering_sound each before all i rest e = sound_from each (length i) before i all rest e
 
@@ -82,7 +82,7 @@ module _ {Clause Kind All : Type 0} (c : Clauses Clause Kind All) where
   module _ (Allowed : Halt → Type 0) (stand : ClausesStand) (fewer : Shrinks c.clause) (each : ClausesComplete Allowed) where
     complete_from : (clauses : List Clause) (turns : ℕ) (before all : All) (i rest : List Token)
         → any c.clause (tested (begins c)) clauses i rest → gathered c before clauses ≡ Some all → length i ≤ turns
-        → Answers Allowed (gathering_turns c turns before i) all rest
+        → Answers Allowed (gathering_turns c reader turns before i) all rest
     unfolding gathering_turns
     complete_from [] zero before all i rest s e enough =
         Reached (rw ((tests_tested (begins c)).refuses i s.1) (kept before all i rest s.0 e))
@@ -93,10 +93,10 @@ module _ {Clause Kind All : Type 0} (c : Clauses Clause Kind All) where
         let less = fewer one i s.0 s.1 in
         let f = fresh (c.has before (c.kind_of one)) (gathered c (c.with_clause before one) more) all e in
         rw (stand one i s.0 s.1) (rw f.0
-        (step (c.reader (c.kind_of one) i) _ (each one i s.0 s.1)
+        (step (reader (c.kind_of one) i) _ (each one i s.0 s.1)
         (complete_from more turns (c.with_clause before one) all s.0 rest s.2 f.1 (omega arith))))
 
-    pub gathering_complete : (before : All) → Complete Allowed (gathering c before) (gathering_reader c before)
+    pub gathering_complete : (before : All) → Complete Allowed (gathering c before) (gathering_reader c reader before)
     unfolding gathering_reader
     gathering_complete before all i rest (clauses, s, e) = complete_from clauses (length i) before all i rest s e (omega arith)
 

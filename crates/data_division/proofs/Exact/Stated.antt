@@ -6,16 +6,17 @@ use Rattle.grammar.proofs.Lists.{Sound, Complete}
 use Rattle.data_division.specs.declared.stated.Stated.{Stated}
 use Rattle.data_division.specs.Stated as g
 use Rattle.data_division.specs.Stated.{entry_clauses}
+use Rattle.data_division.specs.ClauseReading.{clause_reader}
 use Rattle.data_division.proofs.Exact.Gathering.{gathering_sound, gathering_complete, gathering_shrinks}
 use Rattle.data_division.proofs.Exact.Clauses.{clause_sound, clause_complete, clause_stands, clause_shrinks}
 
 pub stated_sound : Sound g.stated g.stated_reader
 unfolding g.stated_reader
-stated_sound = gathering_sound entry_clauses (λ kind x i rest begun e. clause_sound kind x i rest e) g.none
+stated_sound = gathering_sound entry_clauses clause_reader (λ kind x i rest begun e. clause_sound kind x i rest e) g.none
 
 pub stated_complete : {Allowed : Halt → Type 0} → Complete Allowed g.stated g.stated_reader
 unfolding g.stated_reader
-stated_complete {Allowed = Allowed} = gathering_complete entry_clauses Allowed clause_stands clause_shrinks (clause_complete {Allowed = Allowed}) g.none
+stated_complete {Allowed = Allowed} = gathering_complete entry_clauses clause_reader Allowed clause_stands clause_shrinks (clause_complete {Allowed = Allowed}) g.none
 
 pub stated_shrinks : (all : Stated) (i rest : List Token) → g.stated all i rest → length rest ≤ length i
-stated_shrinks = gathering_shrinks entry_clauses clause_shrinks g.none
+stated_shrinks = gathering_shrinks entry_clauses clause_reader clause_shrinks g.none

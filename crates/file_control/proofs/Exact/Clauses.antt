@@ -25,6 +25,7 @@ use Rattle.file_control.specs.declared.clause.Clause.TheVariants as clause_as
 use Rattle.file_control.specs.Clauses as g
 use Rattle.file_control.specs.Clauses.{organization_in, access_in, begins_relative_key, clause_at, kind_of}
 use Rattle.file_control.specs.ClauseReading as r
+use Rattle.file_control.specs.ClauseReading.{clause_reader}
 use Rattle.file_control.specs.Stated.{select_clauses}
 use Rattle.file_control.proofs.Exact.Words.{stands, organization_stands, no_key, relative_stands}
 
@@ -116,7 +117,7 @@ status_sound x i rest e =
       refl,
     )))))
 
-pub clause_sound : ClausesSound select_clauses
+pub clause_sound : ClausesSound select_clauses clause_reader
 unfolding r.clause_reader
 clause_sound kind.Organization x i rest begun e = organization_sound x i rest begun e
 clause_sound kind.Access x i rest begun e = access_sound x i rest e
@@ -133,7 +134,7 @@ key_complete x i rest (i1, key, (i2, is, item)) =
     step (read.skip w.Key i) _ (skip_complete w.Key tt i i1 key)
     (step (read.skip w.Is i1) _ (skip_complete w.Is tt i1 i2 is) (reference_complete x i2 rest item))
 
-pub clause_complete : {Allowed : Halt → Type 0} → ClausesComplete select_clauses Allowed
+pub clause_complete : {Allowed : Halt → Type 0} → ClausesComplete select_clauses clause_reader Allowed
 unfolding r.clause_reader r.organization_reader r.access_reader r.relative_key_reader r.record_key_reader r.alternate_key_reader r.status_reader
 clause_complete (clause_as.Organization one) i rest ((i1, led, told), others) =
     step (skip_led w.Organization i) _ (skip_led_complete w.Organization tt i i1 led)
@@ -180,7 +181,7 @@ status_word : same_word w.Status w.Relative ≡ false
 unfolding same_word
 status_word = refl
 
-pub clause_stands : ClausesStand select_clauses
+pub clause_stands : ClausesStand select_clauses clause_reader
 clause_stands (clause_as.Organization one) i rest s = organization_stands one i rest s
 clause_stands (clause_as.Access one) i rest s = stands w.Access access_word i s.0 s.1
 clause_stands (clause_as.RelativeKey one) i rest s = relative_stands one i s.0 rest s.1 s.2

@@ -21,6 +21,7 @@ use Rattle.data_division.proofs.Exact.Gathering.{gathering_sound, gathering_comp
 use Rattle.data_division.proofs.Exact.Listed.{BeginsWith, listed_sound, listed_complete}
 use Rattle.file_control.specs.declared.stated.Stated.{Stated}
 use Rattle.file_control.specs.Stated.{none, select_clauses}
+use Rattle.file_control.specs.ClauseReading.{clause_reader}
 use Rattle.file_control.specs.Selects as g
 use Rattle.file_control.specs.Selects.{assigned_in, assigned_reader, select_of, begins_select}
 use Rattle.file_control.proofs.Exact.Clauses.{clause_sound, clause_complete, clause_stands, clause_shrinks}
@@ -30,11 +31,11 @@ use Rattle.file_control.proofs.Exact.Clauses.{clause_sound, clause_complete, cla
 abbrev clauses : Stated → Part
 clauses = gathering select_clauses none
 
-clauses_sound : Sound clauses (gathering_reader select_clauses none)
-clauses_sound = gathering_sound select_clauses clause_sound none
+clauses_sound : Sound clauses (gathering_reader select_clauses clause_reader none)
+clauses_sound = gathering_sound select_clauses clause_reader clause_sound none
 
-clauses_complete : {Allowed : Halt → Type 0} → Complete Allowed clauses (gathering_reader select_clauses none)
-clauses_complete {Allowed = Allowed} = gathering_complete select_clauses Allowed clause_stands clause_shrinks (clause_complete {Allowed = Allowed}) none
+clauses_complete : {Allowed : Halt → Type 0} → Complete Allowed clauses (gathering_reader select_clauses clause_reader none)
+clauses_complete {Allowed = Allowed} = gathering_complete select_clauses clause_reader Allowed clause_stands clause_shrinks (clause_complete {Allowed = Allowed}) none
 
 -- ---- up to the file's name on the volume
 
@@ -72,7 +73,7 @@ select_sound x i rest e =
     unstep (read.expect w.Select i) _ e (λ u i1 is1 e1.
     unstep (read.stands (after_word w.Optional) i1) _ e1 (λ optional i2 is2 e2.
     unstep (assigned_reader i2) _ e2 (λ head i3 is3 e3.
-    unstep (gathering_reader select_clauses none i3) _ e3 (λ all i4 is4 e4.
+    unstep (gathering_reader select_clauses clause_reader none i3) _ e3 (λ all i4 is4 e4.
     unstep (read.period i4) _ e4 (λ v i5 is5 e5.
     let s = assigned_sound head i2 i3 is3 in
     let whole : spelled optional head.0 head.1 all i rest = (
@@ -92,7 +93,7 @@ select_complete x i rest (all, is, (i1, first, (i2, optional, (a1, named, (a2, a
     step (read.expect w.Select i) _ (word_complete w.Select tt i i1 first)
     (step (read.stands (after_word w.Optional) i1) _ (stands_complete (finds_word w.Optional) x.optional i1 i2 optional)
     (step (assigned_reader i2) _ (assigned_complete (x.name, x.assigned) i2 i3 (a1, named, (a2, assign, (a3, to, told))))
-    (step (gathering_reader select_clauses none i3) _ (clauses_complete all i3 i4 stated)
+    (step (gathering_reader select_clauses clause_reader none i3) _ (clauses_complete all i3 i4 stated)
     (step (read.period i4) _ (period_complete tt i4 rest end) (Reached (ap (λ y. Ok (y, rest)) (sym is)))))))
 
 optional_below : (i rest : List Token) → word w.Optional i rest → length rest ≤ length i
@@ -106,7 +107,7 @@ select_shrinks x i rest (all, is, (i1, first, (i2, optional, (a1, named, (a2, as
     let d = word_shrinks w.Assign a1 a2 assign in
     let e = skip_shrinks w.To a2 a3 to in
     let f = telling_shrinks assigned_in x.assigned a3 i3 told in
-    let h = gathering_shrinks select_clauses clause_shrinks none all i3 i4 stated in
+    let h = gathering_shrinks select_clauses clause_reader clause_shrinks none all i3 i4 stated in
     let k = period_shrinks i4 rest end in omega arith
 
 select_starts : Starts begins_select g.select
