@@ -5,7 +5,7 @@ use Rattle.records.specs.declared.fault.StoreFault.{StoreFault}
 use Rattle.pages.specs.declared.error.PagesError.{PagesError}
 use Rattle.pages.specs.declared.error.PagesError.TheVariants as pages
 use Rattle.records.specs.declared.fault.StoreFault.TheVariants.{Device, Full, Damaged, Memory, Spent}
-use Rattle.alternate_keys.specs.Faults.{fault_of}
+use Rattle.alternate_keys.specs.Faults.{fault_of, IsReadFault}
 
 pub damaged_back : (error : PagesError) → fault_of error ≡ Damaged → error ≡ pages.Damaged
 damaged_back pages.Device is = cc
@@ -33,3 +33,7 @@ commit_sound error (inr (inr (inr is))) told = let clash : Spent ≡ Damaged = s
 -- where memory alone may be wanting the device isn't to blame
 pub never_device : {T : Type 0} (result : Result T StoreFault) → IsOkUnless result Memory → result ≡ Err Device → ⊥
 never_device result only is = let clash : Device ≡ Memory = subst (λ r. IfErr r (λ x. x ≡ Memory)) is only in cc
+
+-- a call that only reads is never refused for want of room
+pub never_full : {T : Type 0} (result : Result T StoreFault) → IfErr result IsReadFault → result ≡ Err Full → ⊥
+never_full result cause is = subst (λ r. IfErr r IsReadFault) is cause

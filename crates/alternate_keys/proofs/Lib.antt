@@ -41,3 +41,4 @@ pub mod Empties
 pub mod Counted
 pub mod Added
 pub mod MadeFile
+mod TakenRow

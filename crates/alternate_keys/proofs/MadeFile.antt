@@ -9,7 +9,7 @@ use Rattle.pages.specs.Pages.{map_now, catalog_of, committed_of, changed_pages_o
 use Rattle.pages.specs.declared.page_map.PageMap.{PageMap}
 use Rattle.records.specs.Files.{File, Files, with_file}
 use Rattle.file_trees.specs.Volume.{Kept, Keeps, MapHolds}
-use Rattle.alternate_keys.specs.Stands.{LacksRoom}
+use Rattle.alternate_keys.specs.Stands.{IsShort}
 use Rattle.alternate_keys.proofs.Preparing.{map_with}
 use Rattle.alternate_keys.proofs.Splits.{Found, named_of, put_at}
 use Rattle.alternate_keys.proofs.Still.{same_volume}
@@ -38,17 +38,17 @@ pub next_with : (p q : PageMap) (image : List Sector) → SameCommitted p q → 
 next_with p q image same = ap (λ v. map_with (v.generation + 1) (catalog_of q) (map_now q image).pages) (sym same.volume)
 
 -- where room is wanting
-pub lacks_filled : (p q : PageMap) (name : List ℕ) (after : Files) → SameCommitted p q → filled_of q ≤ 1 → (free_count (committed_of q) < filled_of q + map_count (sectors_of q)) ⊎ (2 ^ 63 ≤ generation_of q + 1) → LacksRoom (committed_of p) true name after
+pub lacks_filled : (p q : PageMap) (name : List ℕ) (after : Files) → SameCommitted p q → filled_of q ≤ 1 → (free_count (committed_of q) < filled_of q + map_count (sectors_of q)) ⊎ (2 ^ 63 ≤ generation_of q + 1) → IsShort (committed_of p) true name after
 lacks_filled p q name after same few short =
     let volume = same_volume p q same in
     ⊎_elim (λ low. let free = ap free_count volume in let size = ap (λ (v : Volume). map_count v.root.sectors) volume in inl (omega (arith, low, few, free, size)))
     (λ last. inr (inr (let own = ap (λ v. v.generation) same.volume in omega (arith, last, own)))) short
 
-pub lacks_needed : (p q : PageMap) (name : List ℕ) (after : Files) → SameCommitted p q → needed_of q ≤ 2 * length (changed_pages_of q) → length (changed_pages_of q) ≤ 42 → IsFull q → LacksRoom (committed_of p) true name after
+pub lacks_needed : (p q : PageMap) (name : List ℕ) (after : Files) → SameCommitted p q → needed_of q ≤ 2 * length (changed_pages_of q) → length (changed_pages_of q) ≤ 42 → IsFull q → IsShort (committed_of p) true name after
 lacks_needed p q name after same needs few full =
     let volume = same_volume p q same in
     ⊎_elim (λ short. let free = ap free_count volume in inl (omega (arith, needs, few, short, free)))
     (λ last. inr (inr (let own = ap (λ v. v.generation) same.volume in omega (arith, last, own)))) full.1
 
-pub lacks_first : (volume : Volume) (name : List ℕ) (after : Files) → free_count volume < 42 → LacksRoom volume true name after
+pub lacks_first : (volume : Volume) (name : List ℕ) (after : Files) → free_count volume < 42 → IsShort volume true name after
 lacks_first volume name after low = inl (omega (arith, low))

@@ -13,7 +13,7 @@ use Rattle.records.specs.declared.fault.StoreFault.TheVariants.{Layout}
 use Rattle.records.specs.Files.{Files}
 use Rattle.file_trees.specs.Volume.{MapHolds, Holds}
 use Rattle.alternate_keys.specs.Faults.{fault_of}
-use Rattle.alternate_keys.specs.Opened.{Refused, IsReadCause}
+use Rattle.alternate_keys.specs.Opened.{HasMap, Refused, IsReadCause}
 use Rattle.alternate_keys.specs.Stands.{Stands}
 
 -- what the pages read stands for what the disk holds
@@ -28,6 +28,10 @@ stands_for p disk files agrees map rested holds =
       rested = rested;
       holds = subst (λ (x : Map). MapHolds x files) (same ∙ sym (map disk.present)) holds.2;
     }
+
+-- and is a map that the disk holds
+pub map_there : (p : PageMap) (disk : Disk) → Agrees p disk → HasMap disk.present
+map_there p disk agrees = (map_of disk.present (committed_of p), (committed_of p, agrees.committed.reads, refl))
 
 pub refused_of : (image : List Sector) (error : PagesError) → Refuses image error → Refused image (fault_of error)
 refused_of image pages.Device is = tt

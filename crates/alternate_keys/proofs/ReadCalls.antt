@@ -11,7 +11,7 @@ use Rattle.records.specs.declared.fault.StoreFault.TheVariants.{Device, Spent}
 use Rattle.records.specs.Calls.{Reads}
 use Rattle.alternate_keys.specs.Faults.{IsReadFault}
 use Rattle.alternate_keys.specs.Opened.{Opened}
-use Rattle.alternate_keys.specs.Stands.{Stands, LacksRoom}
+use Rattle.alternate_keys.specs.Stands.{Stands}
 use Rattle.alternate_keys.specs.contracts.keeps.PagedStoreKeeps.TheImpl.{ghosts}
 use Rattle.alternate_keys.proofs.Still.{same_volume, stands_still}
 
@@ -33,6 +33,5 @@ reads_of d result old new spent device device' only unchanged agrees unspent tol
           record { honest = only.honest.0 stands.honest; there = subst (λ (s : State). Stands new s.disk files) (sym still) (stands_still old new (d.state device).disk files unchanged here stands.there) };
       spent = λ is. let clash : true ≡ false = sym (told is) ∙ unspent in cc;
       has_room = λ is. subst (λ r. IfErr r IsReadFault) is cause;
-      room_as_was = λ is_new name before after lacks. subst (λ (v : Volume). LacksRoom v is_new name after) same lacks;
       own_layout = λ is. subst (λ r. IfErr r IsReadFault) is cause;
     }

@@ -1,5 +1,5 @@
 -- What a call that only reads leaves.
-use Rattle.std.proofs.Common.{◌≡◌, sym, ap, subst, ◌∙◌}
+use Rattle.std.proofs.Common.{◌≡◌, Bool, ℕ, List, sym, ap, subst, ◌∙◌}
 use Rattle.station.specs.Disk.{Disk}
 use Rattle.pages.specs.Image.{Map, map_of}
 use Rattle.pages.specs.Volumes.{volume_of}
@@ -7,7 +7,7 @@ use Rattle.pages.specs.Pages.{committed_of, Agrees, Unchanged, SameCommitted}
 use Rattle.pages.specs.declared.page_map.PageMap.{PageMap}
 use Rattle.records.specs.Files.{Files}
 use Rattle.file_trees.specs.Volume.{MapHolds}
-use Rattle.alternate_keys.specs.Stands.{Stands}
+use Rattle.alternate_keys.specs.Stands.{Stands, IsShort, LacksRoom}
 
 pub same_volume : (old new : PageMap) → SameCommitted old new → committed_of new ≡ committed_of old
 same_volume old new same = ap volume_of same.volume
@@ -19,3 +19,7 @@ stands_still old new disk files unchanged agrees stands = record {
   rested = unchanged.changed_pages ∙ stands.rested;
   holds = subst (λ (m : Map). MapHolds m files) (sym (unchanged.map disk.present)) stands.holds;
 }
+
+-- the volume of the last commit is that of the disk
+pub lacks_room : (pages : PageMap) (disk : Disk) (is_new : Bool) (name : List ℕ) (after : Files) → Agrees pages disk → IsShort (committed_of pages) is_new name after → LacksRoom disk.present is_new name after
+lacks_room pages disk is_new name after agrees short = record { volume = committed_of pages; reads = agrees.committed.reads; short = short }

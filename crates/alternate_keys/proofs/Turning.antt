@@ -20,7 +20,7 @@ use Rattle.alternate_keys.specs.declared.row_verb.RowVerb.{RowVerb}
 use Rattle.alternate_keys.specs.declared.row_verb.RowVerb.TheVariants.{Insert, Replace, Remove}
 use Rattle.alternate_keys.specs.Moved.{changed_by}
 use Rattle.alternate_keys.specs.NewRow.{file_with}
-use Rattle.alternate_keys.specs.Stands.{LacksRoom, keys_of}
+use Rattle.alternate_keys.specs.Stands.{IsShort, keys_of}
 use Rattle.alternate_keys.proofs.ReplaceRow.{file_changed}
 use Rattle.alternate_keys.proofs.Still.{same_volume}
 
@@ -56,10 +56,10 @@ pub keys_then : (name : List ℕ) (files : Files) (held : File) (changed : Chang
 keys_then name files held changed spec there is same = keys_by (is_change changed.outcome) name files held changed.file (length spec.alternates) there (ap (λ (s : Spec). length s.alternates) is) same
 
 -- where room is wanting
-pub lacks_before : (volume : Volume) (name : List ℕ) (after : Files) (n : ℕ) → keys_of (file_at name after) ≡ n → free_count volume < 84 * n + 43 → LacksRoom volume false name after
+pub lacks_before : (volume : Volume) (name : List ℕ) (after : Files) (n : ℕ) → keys_of (file_at name after) ≡ n → free_count volume < 84 * n + 43 → IsShort volume false name after
 lacks_before volume name after n keys low = inl (omega (arith, keys, low))
 
-pub lacks_then : (p q : PageMap) (name : List ℕ) (after : Files) (n : ℕ) → keys_of (file_at name after) ≡ n → SameCommitted p q → needed_of q ≤ 2 * length (changed_pages_of q) → length (changed_pages_of q) ≤ 84 * n + 43 → IsFull q → LacksRoom (committed_of p) false name after
+pub lacks_then : (p q : PageMap) (name : List ℕ) (after : Files) (n : ℕ) → keys_of (file_at name after) ≡ n → SameCommitted p q → needed_of q ≤ 2 * length (changed_pages_of q) → length (changed_pages_of q) ≤ 84 * n + 43 → IsFull q → IsShort (committed_of p) false name after
 lacks_then p q name after n keys same needs few full =
     let volume = same_volume p q same in
     ⊎_elim (λ short. let free = ap free_count volume in inl (omega (arith, keys, needs, few, short, free)))

@@ -6,7 +6,7 @@ use Rattle.pages.specs.Pages.{sectors_of}
 use Rattle.pages.specs.declared.page_map.PageMap.{PageMap}
 use Rattle.records.specs.Calls.{Changes, Turns}
 use Rattle.records.specs.declared.fault.StoreFault.{StoreFault}
-use Rattle.records.specs.declared.fault.StoreFault.TheVariants.{Device, Spent}
+use Rattle.records.specs.declared.fault.StoreFault.TheVariants.{Device, Full, Spent}
 use Rattle.records.specs.Files.{Files}
 use Rattle.alternate_keys.specs.Faults.{IsWriteFault}
 use Rattle.alternate_keys.specs.Turned.{Turned}
@@ -15,13 +15,15 @@ use Rattle.alternate_keys.proofs.ReadCalls.{opened}
 
 pub changes_of : {D : Type 0} (d : Devices D) {T : Type 0} (result : Result T StoreFault) (old new : PageMap) (spent spent' : Bool) (device device' : D) →
     OnlyWrites d (result ≡ Err Device) device device' → sectors_of new ≡ sectors_of old → OnOk result (spent' ≡ spent) → (result ≡ Err Spent → spent ≡ true) → IfErr result IsWriteFault →
+    (result ≡ Err Full → d.is_honest device → d.state device' ≡ d.state device) →
     Changes ghosts d result (opened old spent) device (opened new spent') device'
-changes_of d result old new spent spent' device device' only sectors same told cause = record {
+changes_of d result old new spent spent' device device' only sectors same told cause unwritten = record {
   only = only;
   needs = sectors;
   same = same;
   spent = told;
   own_layout = λ is. subst (λ r. IfErr r IsWriteFault) is cause;
+  unwritten = unwritten;
 }
 
 ok_then : {T E : Type 0} (A B : Type 0) (result : Result T E) → (A → B) → OnOk result A → OnOk result B

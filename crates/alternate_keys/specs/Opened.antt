@@ -1,6 +1,7 @@
 -- What is told of a volume that is opened.
 use Rattle.std.specs.Prelude.{◌≡◌, ◌⊎◌, Bool, List, Result, Ok, Err, ⊤}
 use Rattle.station.specs.Disk.{Sector}
+use Rattle.pages.specs.Image.{Map, Holds as HoldsMap}
 use Rattle.pages.specs.Layout.{IsForeign}
 use Rattle.pages.specs.declared.page_map.PageMap.{PageMap}
 use Rattle.records.specs.declared.fault.StoreFault.{StoreFault}
@@ -12,6 +13,10 @@ use Rattle.file_trees.specs.Volume.{Holds}
 pub record Opened : Type 0 where
   pub pages : PageMap
   pub spent : Bool
+
+-- an image that holds a map of pages: its roots and map sectors are sound
+abbrev pub HasMap : List Sector → Type 0
+HasMap image = (m : Map) × HoldsMap image m
 
 -- an image that holds no files
 abbrev pub HoldsNone : List Sector → Type 0

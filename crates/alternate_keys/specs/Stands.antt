@@ -1,8 +1,8 @@
--- What the store stands for.
+-- What the store stands for, and when its volume lacks room.
 use Rattle.std.specs.Prelude.{◌≡◌, ◌<◌, ◌≤◌, ◌⊎◌, ◌+◌, ◌*◌, ◌^◌, Bool, ℕ, List, [], length, Option, Some, None, if◌then◌else◌}
-use Rattle.station.specs.Disk.{Disk}
+use Rattle.station.specs.Disk.{Disk, Sector}
 use Rattle.pages.specs.Layout.{map_count}
-use Rattle.pages.specs.Image.{Volume, map_of}
+use Rattle.pages.specs.Image.{Volume, Reads, map_of}
 use Rattle.pages.specs.Use.{free_count}
 use Rattle.pages.specs.Pages.{map_now, committed_of, changed_pages_of, Agrees}
 use Rattle.pages.specs.declared.page_map.PageMap.{PageMap}
@@ -26,6 +26,12 @@ abbrev pub enough : Volume → Bool → ℕ → ℕ
 enough volume is_new keys = 200 * (keys + 2) + (if is_new then map_count volume.root.sectors else 0)
 
 -- too few sectors are free, the files are more than 255, or no generation is left
-abbrev pub LacksRoom : Volume → Bool → List ℕ → Files → Type 0
-LacksRoom volume is_new name after =
+abbrev pub IsShort : Volume → Bool → List ℕ → Files → Type 0
+IsShort volume is_new name after =
     (free_count volume < enough volume is_new (keys_of (file_at name after))) ⊎ (255 < length after) ⊎ (2 ^ 63 ≤ volume.root.generation + 1)
+
+-- The volume in an image lacks room for these files after a change of the file of this name.
+pub record LacksRoom (image : List Sector) (is_new : Bool) (name : List ℕ) (after : Files) : Type 0 where
+  pub volume : Volume
+  pub reads : Reads image volume
+  pub short : IsShort volume is_new name after

@@ -3,7 +3,7 @@ use Rattle.std.specs.Prelude.{◌≡◌, ◌≢◌, Bool, ℕ, List, Result, Err
 use Rattle.station.specs.History.{Through}
 use Rattle.station.specs.Blocks.{CrashLeaves}
 use Rattle.station.specs.declared.device.Device.{Ghosts as Devices}
-use Rattle.pages.specs.Pages.{map_now, committed_of, Agrees}
+use Rattle.pages.specs.Pages.{map_now, Agrees}
 use Rattle.pages.specs.declared.page_map.PageMap.{PageMap}
 use Rattle.records.specs.declared.fault.StoreFault.{StoreFault}
 use Rattle.records.specs.declared.fault.StoreFault.TheVariants.{Full, Damaged}
@@ -24,4 +24,4 @@ module _ {D : Type 0} (d : Devices D) where
     pub stands : OnOk result (Stands pages' (d.state device').disk after)
     pub moments : Through (d.history device) (d.history device') (d.state device') (CrashLeaves (d.state device).events (Either Holds before after))
     pub sound : result ≢ Err Damaged
-    pub room : result ≡ Err Full → LacksRoom (committed_of pages) is_new name after
+    pub room : result ≡ Err Full → LacksRoom (d.state device).disk.present is_new name after

@@ -43,6 +43,8 @@ fn prepare<D: Device>(
     ensures few { OnFile D.Device file.now pages.old device.old (λ files held. OnOk result (FewChanged (84 * length file.now.alternates.items + 43) pages.old pages.new)) }
     ensures room { OnFile D.Device file.now pages.old device.old (λ files held. result ≡ Err StoreFault.Full →
         free_count (committed_of pages.old) < length (changed_pages_of pages.old) + (84 * length file.now.alternates.items + 43)) }
+    ensures full { OnFile D.Device file.now pages.old device.old (λ files held. result ≡ Err StoreFault.Full →
+        is_change (changed_by verb file.now.organization number bytes.now held).outcome ≡ true) }
     ensures damaged { OnFile D.Device file.now pages.old device.old (λ files held. result ≡ Err StoreFault.Damaged → ⊥) }
     ensures same { IfOk result (λ outcome. is_change outcome ≡ false → Unchanged pages.old pages.new) }
     ensures spent { result ≡ Err StoreFault.Spent → is_spent pages.old ≡ true }
@@ -90,6 +92,9 @@ pub(crate) fn change_in<D: Device>(
     ensures turned { D.is_honest device.old → (files : Files) (held : File) → Stands pages.old (D.state device.old).disk files → Has files file.now held →
         Turned D.Device result false file.now.name.items files (files_after file.now.name.items files (changed_by verb file.now.organization number bytes.now held)) pages.old device.old pages.new device.new }
     ensures idle { D.is_honest device.old → IfOk result (λ outcome. is_change outcome ≡ false → D.state device.new ≡ D.state device.old) }
+    ensures full { D.is_honest device.old → (files : Files) (held : File) → Stands pages.old (D.state device.old).disk files → Has files file.now held →
+        result ≡ Err StoreFault.Full → is_change (changed_by verb file.now.organization number bytes.now held).outcome ≡ true }
+    ensures unwritten { result ≡ Err StoreFault.Full → D.is_honest device.old → D.state device.new ≡ D.state device.old }
     ensures unspent { OnOk result (is_spent pages.new ≡ false) }
     ensures open { IsOpen pages.new }
     ensures same_sectors { sectors_of pages.new ≡ sectors_of pages.old }

@@ -16,7 +16,7 @@ ghost use Rattle.file_trees.specs.Volume.{MapHolds, trees_of, catalog_entry};
 ghost use Rattle.alternate_keys.specs.Created.{OnFiles, Prepares};
 ghost use Rattle.alternate_keys.specs.Faults.{IsWriteFault};
 ghost use Rattle.alternate_keys.specs.Listed.{catalog_at};
-ghost use Rattle.alternate_keys.specs.Stands.{Stands, LacksRoom};
+ghost use Rattle.alternate_keys.specs.Stands.{Stands, IsShort};
 ghost use Rattle.alternate_keys.specs.Turned.{Turned};
 
 use crate::clearing::clear_trees;
@@ -90,9 +90,9 @@ fn prepare_file<D: Device>(
     ensures will { OnFiles D.Device pages.old device.old (λ files holds. OnOk result
         (MapHolds (advanced (map_now pages.new (D.state device.old).disk.present)) (with_file file.now.name.items (empty_file (spec_of file.now)) files))) }
     ensures full { OnFiles D.Device pages.old device.old (λ files holds. changed_pages_of pages.old ≡ [] → OnOk result (IsFull pages.new →
-        LacksRoom (committed_of pages.old) true file.now.name.items (with_file file.now.name.items (empty_file (spec_of file.now)) files))) }
+        IsShort (committed_of pages.old) true file.now.name.items (with_file file.now.name.items (empty_file (spec_of file.now)) files))) }
     ensures room { OnFiles D.Device pages.old device.old (λ files holds. changed_pages_of pages.old ≡ [] → result ≡ Err StoreFault.Full →
-        LacksRoom (committed_of pages.old) true file.now.name.items (with_file file.now.name.items (empty_file (spec_of file.now)) files)) }
+        IsShort (committed_of pages.old) true file.now.name.items (with_file file.now.name.items (empty_file (spec_of file.now)) files)) }
     ensures damaged { OnFiles D.Device pages.old device.old (λ files holds. result ≡ Err StoreFault.Damaged → ⊥) }
     ensures spent { result ≡ Err StoreFault.Spent → is_spent pages.old ≡ true }
     ensures cause { IfErr result IsWriteFault }
@@ -128,6 +128,7 @@ pub(crate) fn create_in<D: Device>(
     ensures only { OnlyWrites D.Device (result ≡ Err StoreFault.Device) device.old device.new }
     ensures turned { D.is_honest device.old → (files : Files) → Stands pages.old (D.state device.old).disk files →
         Turned D.Device result true file.now.name.items files (with_file file.now.name.items (empty_file (spec_of file.now)) files) pages.old device.old pages.new device.new }
+    ensures unwritten { result ≡ Err StoreFault.Full → D.is_honest device.old → D.state device.new ≡ D.state device.old }
     ensures unspent { OnOk result (is_spent pages.new ≡ false) }
     ensures open { IsOpen pages.new }
     ensures same_sectors { sectors_of pages.new ≡ sectors_of pages.old }

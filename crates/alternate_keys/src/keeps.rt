@@ -1,5 +1,5 @@
 //! What the store keeps, and its calls.
-ghost use Rattle.pages.specs.Pages.{committed_of, sectors_of};
+ghost use Rattle.pages.specs.Pages.{sectors_of};
 ghost use Rattle.file_trees.specs.Volume.{Holds};
 ghost use Rattle.alternate_keys.specs.Held.{held_law};
 ghost use Rattle.alternate_keys.specs.Stands.{Stands, LacksRoom};
@@ -21,7 +21,7 @@ impl Keeps for PagedStore {
 
     ghost is_spent = { λ store. store.spent };
 
-    ghost lacks_room = { λ store is_new name before after. LacksRoom (committed_of store.pages) is_new name after };
+    ghost lacks_room = { λ image is_new name before after. LacksRoom image is_new name after };
 }
 
 impl Store for PagedStore {

@@ -34,6 +34,7 @@ mod seeking;
 mod settling;
 mod store;
 mod stored;
+mod taken_row;
 mod tell;
 mod values;
 

@@ -9,7 +9,7 @@ ghost use Rattle.pages.specs.Pages.{sectors_of, committed_of};
 ghost use Rattle.pages.specs.Use.{free_count};
 ghost use Rattle.records.specs.Files.{Files};
 ghost use Rattle.file_trees.specs.Volume.{Holds};
-ghost use Rattle.alternate_keys.specs.Opened.{Refused, IsReadCause, Tells};
+ghost use Rattle.alternate_keys.specs.Opened.{HasMap, Refused, IsReadCause, Tells};
 ghost use Rattle.alternate_keys.specs.Stands.{Stands};
 
 use crate::fault::to_fault;
@@ -59,8 +59,9 @@ impl PagedStore {
             IfOk result (λ store. Stands store.pages (D.state device.new).disk files) }
         ensures ready { IfOk result (λ store. (store.spent ≡ false) × (sectors_of store.pages ≤ D.sectors device.old)) }
 
-        // Where it holds files, the device and memory alone refuse. `Layout` comes exactly where the newest root is the other store's, and
-        // `Damaged` only where the disk holds no files.
+        // Only a disk that holds a map is opened. Where it holds files, the device and memory alone refuse. `Layout` comes exactly where the
+        // newest root is the other store's, and `Damaged` only where the disk holds no files.
+        ensures map { D.is_honest device.old → OnOk result (HasMap (D.state device.old).disk.present) }
         ensures refused { D.is_honest device.old → IfErr result (Refused (D.state device.old).disk.present) }
         ensures opens { D.is_honest device.old → (files : Files) → Holds (D.state device.old).disk.present files → IfErr result IsReadCause }
         ensures foreign { D.is_honest device.old → IsForeign (D.state device.old).disk.present → Tells StoreFault.Layout result }

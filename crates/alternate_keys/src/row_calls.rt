@@ -1,5 +1,5 @@
 //! The call of the store that changes a row.
-ghost use Rattle.std.specs.Prelude.{◌≡◌, ◌≤◌, false, length, IfOk};
+ghost use Rattle.std.specs.Prelude.{◌≡◌, ◌≤◌, true, false, Err, length, IfOk};
 ghost use Rattle.records.specs.Changes.{inserted, replaced, removed};
 ghost use Rattle.records.specs.Files.{File, Files};
 ghost use Rattle.records.specs.Stores.{spec_of, Has, IsNumber, key_length, pair_of, is_change, files_after};
@@ -30,6 +30,8 @@ impl PagedStore {
             IfOk result (λ outcome. outcome ≡ (changed_by verb file.now.organization number bytes.now held).outcome) }
         ensures turns { (files : Files) (held : File) → StandsFor ⟦<PagedStore as Keeps>⟧ D.Device self.old device.old files → Has files file.now held →
             Turns ⟦<PagedStore as Keeps>⟧ D.Device result false file.now.name.items files (files_after file.now.name.items files (changed_by verb file.now.organization number bytes.now held)) self.old device.old self.new device.new }
+        ensures full { (files : Files) (held : File) → StandsFor ⟦<PagedStore as Keeps>⟧ D.Device self.old device.old files → Has files file.now held →
+            result ≡ Err StoreFault.Full → is_change (changed_by verb file.now.organization number bytes.now held).outcome ≡ true }
         ensures idle { D.is_honest device.old → IfOk result (λ outcome. is_change outcome ≡ false → D.state device.new ≡ D.state device.old) }
     {
         if self.spent {

@@ -21,6 +21,7 @@ use crate::row_trees::move_row;
 use crate::row_turn::RowTurn;
 use crate::row_verb::RowVerb;
 use crate::settling::is_done;
+use crate::taken_row::look_at_new_row;
 use crate::values::look_at_values;
 use file_trees::next_arrival;
 use pages::PageMap;
@@ -50,22 +51,15 @@ fn insert_trees<D: Device>(
     ensures few { OnTrees D.Device (spec_of file.now) pages.old device.old listing.now (λ named generation left right. OnOk result (FewChanged (84 * length file.now.alternates.items + 42) pages.old pages.new)) }
     ensures room { OnTrees D.Device (spec_of file.now) pages.old device.old listing.now (λ named generation left right. result ≡ Err StoreFault.Full →
         free_count (committed_of pages.old) < length (changed_pages_of pages.old) + (84 * length file.now.alternates.items + 42)) }
+    ensures full { is_spent pages.old ≡ false → OnTrees D.Device (spec_of file.now) pages.old device.old listing.now (λ named generation left right. result ≡ Err StoreFault.Full →
+        is_change (inserted number bytes.now named.file).outcome ≡ true) }
     ensures damaged { OnTrees D.Device (spec_of file.now) pages.old device.old listing.now (λ named generation left right. result ≡ Err StoreFault.Damaged → ⊥) }
     ensures same { IfOk result (λ turn. is_change turn.outcome ≡ false → Unchanged pages.old pages.new) }
     ensures long { IfOk result (λ turn. is_change turn.outcome ≡ true → length turn.listing.items ≡ 83) }
     ensures spent { result ≡ Err StoreFault.Spent → is_spent pages.old ≡ true }
     ensures cause { IfErr result IsWriteFault }
 {
-    let outcome = look_at_values(
-        alloc,
-        pages,
-        device,
-        file,
-        listing,
-        RowVerb::Insert,
-        &[],
-        bytes,
-    )?;
+    let outcome = look_at_new_row(alloc, pages, device, file, listing, number, bytes)?;
     if !is_done(outcome) {
         return Ok(RowTurn::none(alloc, outcome));
     }
@@ -116,6 +110,8 @@ fn replace_trees<D: Device>(
     ensures few { OnTrees D.Device (spec_of file.now) pages.old device.old listing.now (λ named generation left right. OnOk result (FewChanged (84 * length file.now.alternates.items + 42) pages.old pages.new)) }
     ensures room { OnTrees D.Device (spec_of file.now) pages.old device.old listing.now (λ named generation left right. result ≡ Err StoreFault.Full →
         free_count (committed_of pages.old) < length (changed_pages_of pages.old) + (84 * length file.now.alternates.items + 42)) }
+    ensures full { OnTrees D.Device (spec_of file.now) pages.old device.old listing.now (λ named generation left right. result ≡ Err StoreFault.Full →
+        is_change (replaced number bytes.now named.file).outcome ≡ true) }
     ensures damaged { OnTrees D.Device (spec_of file.now) pages.old device.old listing.now (λ named generation left right. result ≡ Err StoreFault.Damaged → ⊥) }
     ensures same { IfOk result (λ turn. is_change turn.outcome ≡ false → Unchanged pages.old pages.new) }
     ensures long { IfOk result (λ turn. is_change turn.outcome ≡ true → length turn.listing.items ≡ 83) }
@@ -195,6 +191,8 @@ fn remove_trees<D: Device>(
     ensures few { OnTrees D.Device (spec_of file.now) pages.old device.old listing.now (λ named generation left right. OnOk result (FewChanged (84 * length file.now.alternates.items + 42) pages.old pages.new)) }
     ensures room { OnTrees D.Device (spec_of file.now) pages.old device.old listing.now (λ named generation left right. result ≡ Err StoreFault.Full →
         free_count (committed_of pages.old) < length (changed_pages_of pages.old) + (84 * length file.now.alternates.items + 42)) }
+    ensures full { OnTrees D.Device (spec_of file.now) pages.old device.old listing.now (λ named generation left right. result ≡ Err StoreFault.Full →
+        is_change (removed (pair_of file.now.organization key.now number) named.file).outcome ≡ true) }
     ensures damaged { OnTrees D.Device (spec_of file.now) pages.old device.old listing.now (λ named generation left right. result ≡ Err StoreFault.Damaged → ⊥) }
     ensures same { IfOk result (λ turn. is_change turn.outcome ≡ false → Unchanged pages.old pages.new) }
     ensures long { IfOk result (λ turn. is_change turn.outcome ≡ true → length turn.listing.items ≡ 83) }
@@ -250,6 +248,8 @@ pub(crate) fn change_trees<D: Device>(
     ensures few { OnTrees D.Device (spec_of file.now) pages.old device.old listing.now (λ named generation left right. OnOk result (FewChanged (84 * length file.now.alternates.items + 42) pages.old pages.new)) }
     ensures room { OnTrees D.Device (spec_of file.now) pages.old device.old listing.now (λ named generation left right. result ≡ Err StoreFault.Full →
         free_count (committed_of pages.old) < length (changed_pages_of pages.old) + (84 * length file.now.alternates.items + 42)) }
+    ensures full { is_spent pages.old ≡ false → OnTrees D.Device (spec_of file.now) pages.old device.old listing.now (λ named generation left right. result ≡ Err StoreFault.Full →
+        is_change (changed_by verb file.now.organization number bytes.now named.file).outcome ≡ true) }
     ensures damaged { OnTrees D.Device (spec_of file.now) pages.old device.old listing.now (λ named generation left right. result ≡ Err StoreFault.Damaged → ⊥) }
     ensures same { IfOk result (λ turn. is_change turn.outcome ≡ false → Unchanged pages.old pages.new) }
     ensures long { IfOk result (λ turn. is_change turn.outcome ≡ true → length turn.listing.items ≡ 83) }

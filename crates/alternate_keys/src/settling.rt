@@ -20,6 +20,7 @@ pub(crate) fn settle<D: Device>(pages: &mut PageMap, device: &mut D) -> Result<(
     requires sectors { sectors_of pages.old ≤ D.sectors device.old }
     ensures only { OnlyWrites D.Device (result ≡ Err StoreFault.Device) device.old device.new }
     ensures settles { (before after : Files) → IsChanged D.Device pages.old device.old before after → Settles D.Device result before after pages.old device.old pages.new device.new }
+    ensures unwritten { result ≡ Err StoreFault.Full → D.is_honest device.old → D.state device.new ≡ D.state device.old }
     ensures unspent { OnOk result (is_spent pages.new ≡ false) }
     ensures open { IsOpen pages.new }
     ensures same_sectors { sectors_of pages.new ≡ sectors_of pages.old }
@@ -59,6 +60,8 @@ pub(crate) fn finish<D: Device>(
     ensures settles { (before after : Files) → (is_change outcome ≡ true → IsChanged D.Device pages.old device.old before after) →
         (is_change outcome ≡ false → Stands pages.old (D.state device.old).disk after) → Settles D.Device result before after pages.old device.old pages.new device.new }
     ensures idle { is_change outcome ≡ false → D.is_honest device.old → D.state device.new ≡ D.state device.old }
+    ensures changes { result ≡ Err StoreFault.Full → is_change outcome ≡ true }
+    ensures unwritten { result ≡ Err StoreFault.Full → D.is_honest device.old → D.state device.new ≡ D.state device.old }
     ensures unspent { OnOk result (is_spent pages.new ≡ false) }
     ensures open { IsOpen pages.new }
     ensures same_sectors { sectors_of pages.new ≡ sectors_of pages.old }

@@ -19,7 +19,7 @@ use Rattle.alternate_keys.specs.Held.{held_law}
 use Rattle.alternate_keys.specs.Moved.{changed_by}
 use Rattle.alternate_keys.specs.Settles.{IsChanged}
 use Rattle.alternate_keys.specs.Stands.{Stands}
-use Rattle.alternate_keys.proofs.Still.{same_volume, stands_still}
+use Rattle.alternate_keys.proofs.Still.{same_volume, stands_still, lacks_room}
 use Rattle.alternate_keys.proofs.Turning.{changed_spec, keys_then, lacks_before, lacks_then}
 use Rattle.alternate_keys.proofs.changing.change_in.Goals as goal
 
@@ -51,7 +51,7 @@ returns-in_err-outcome-clause-turned g c = λ honest files held stands has.
       sound = λ is. c.prepare.ensures.damaged honest stands.agrees files held stands.holds has (let told : c.prepare.result ≡ Err Damaged = cc in told);
       room = λ is.
           let room = c.prepare.ensures.room honest stands.agrees files held stands.holds has (let told : c.prepare.result ≡ Err Full = cc in told) in
-          lacks_before (committed_of c.args.pages.now) name after (length spec.alternates) keys (omega (arith, room, none));
+          lacks_room c.args.pages.now old.disk false name after stands.agrees (lacks_before (committed_of c.args.pages.now) name after (length spec.alternates) keys (omega (arith, room, none)));
     }
 
 pub returns-clause-only : goal.returns-clause-only
@@ -93,5 +93,24 @@ returns-clause-turned g c = λ honest files held stands has.
       stands = settles.stands;
       moments = subst (λ (s : State). Through (g.D.Device.history c.args.device.now) (g.D.Device.history c.finish.new.device) (g.D.Device.state c.finish.new.device) (CrashLeaves s.events (Either Holds files after))) still moments_then;
       sound = settles.sound;
-      room = λ is. lacks_then before between name after (length spec.alternates) keys edits.committed (c.few_needed.ensures between) (omega (arith, few, none)) (settles.full is);
+      room = λ is. lacks_room before old.disk false name after stands.agrees
+          (lacks_then before between name after (length spec.alternates) keys edits.committed (c.few_needed.ensures between) (omega (arith, few, none)) (settles.full is));
     }
+
+pub returns-in_err-outcome-clause-full : goal.returns-in_err-outcome-clause-full
+returns-in_err-outcome-clause-full g c = λ honest files held stands has is.
+    let from = err_from_is_err_and c.from_residual.result c.from_residual.ensures.1 in
+    c.prepare.ensures.full honest stands.agrees files held stands.holds has (let told : c.prepare.result ≡ Err Full = cc in told)
+
+pub returns-clause-full : goal.returns-clause-full
+returns-clause-full g c = λ honest files held stands has is.
+    let outcome_is = c.in_ok-outcome.ensures.outcome honest stands.agrees files held stands.holds has in
+    sym (ap is_change outcome_is) ∙ c.finish.ensures.changes is
+
+pub returns-in_err-outcome-clause-unwritten : goal.returns-in_err-outcome-clause-unwritten
+returns-in_err-outcome-clause-unwritten g c = λ is honest. c.prepare.ensures.edits.only.state honest
+
+pub returns-clause-unwritten : goal.returns-clause-unwritten
+returns-clause-unwritten g c = λ is honest.
+    let only = c.prepare.ensures.edits.only in
+    c.finish.ensures.unwritten is (only.honest.0 honest) ∙ only.state honest

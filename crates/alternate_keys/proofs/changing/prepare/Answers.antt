@@ -23,6 +23,7 @@ use Rattle.alternate_keys.specs.Moved.{IsAsked, changed_by, named_after}
 use Rattle.alternate_keys.specs.Placed.{Placed, HasTrees}
 use Rattle.alternate_keys.proofs.Bytes.{bytes_by}
 use Rattle.alternate_keys.proofs.Calling.{looks_edits, edits_blamed, edits_last}
+use Rattle.alternate_keys.proofs.Faults.{never_full}
 use Rattle.alternate_keys.proofs.Placing.{left_of, right_of}
 use Rattle.alternate_keys.proofs.Preparing.{are_files, own, named_here, never_none, trees_at, some_entry, around, catalog_stands, holds_after, will_hold}
 use Rattle.alternate_keys.proofs.ReplaceRow.{entry_as}
@@ -318,3 +319,59 @@ returns-clause-edits g c =
     let e0 = looks_edits g.D.Device (c.find_listing.result ≡ Err Device) c.args.pages.now c.find_listing.new.pages c.args.device.now c.find_listing.new.device (record { only = c.find_listing.ensures.only; unchanged = c.find_listing.ensures.unchanged; agrees = c.find_listing.ensures.agrees; is_open = c.find_listing.ensures.open }) in
     let e1 = edits_last g.D.Device (c.find_listing.result ≡ Err Device) (c.change_trees.result ≡ Err Device) (c.change_trees.result ≡ Err Device) c.args.pages.now c.find_listing.new.pages c.change_trees.new.pages c.args.device.now c.find_listing.new.device c.change_trees.new.device (λ is. is) e0 c.change_trees.ensures.edits in
     edits_last g.D.Device (c.change_trees.result ≡ Err Device) (c.replace_listing.result ≡ Err Device) _ c.args.pages.now c.change_trees.new.pages c.replace_listing.new.pages c.args.device.now c.change_trees.new.device c.replace_listing.new.device (λ is. absurd cc) e1 c.replace_listing.ensures.edits
+
+pub returns-in_err-turn-clause-full : goal.returns-in_err-turn-clause-full
+returns-in_err-turn-clause-full g c = λ honest agrees files held holds has full.
+    let from = rw full at c.from_residual-in_err-turn.ensures.1 in
+    let fault : c.in_err-turn.field-0.0 ≡ Full = sym from in
+    let refusal : c.change_trees.result ≡ Err Full = c.in_err-turn.was ∙ ap Err fault in
+    let spec : Spec = spec_of c.args.file.now in
+    let name : List ℕ = c.args.file.now.name.items in
+    let old = g.D.Device.state c.args.device.now in
+    let m : Map = map_now c.args.pages.now old.disk.present in
+    let told : c.in_ok-entry.field-0 ≡ entry_with (map catalog_entry holds.kept) (padded name) = c.in_ok-entry.ensures.entry honest agrees files holds ∙ ap (λ (n : List ℕ). entry_with (map catalog_entry holds.kept) (padded n)) c.deref.ensures.value in
+    let bounds = c.map_bounds.ensures.open c.args.pages.now old.disk.present c.requires.open c.requires.unspent in
+    let one = own m files holds name held c.args.file.now.named has.there in
+    let left : List Planted = left_of m files holds name held one in
+    let right : List Planted = right_of m files holds name held one in
+    let trees = trees_at m files holds name held c.args.file.now.named has.there c.in_ok-entry.field-0 told spec c.value.result.now c.in-Some.entry has.spec bounds.0 bounds.1 c.in-Some.is c.value.ensures in
+    let honest_found = c.find_listing.ensures.only.honest.0 honest in
+    let agrees_found = c.find_listing.ensures.agrees honest agrees in
+    let still_found = c.find_listing.ensures.only.state honest in
+    let there : List (Option Sector) = (map_now c.find_listing.new.pages (g.D.Device.state c.find_listing.new.device).disk.present).pages in
+    let same_found : there ≡ m.pages = same_pages c.args.pages.now c.find_listing.new.pages old (g.D.Device.state c.find_listing.new.device) c.find_listing.ensures.unchanged still_found in
+    let named = named_here m files holds name held c.args.file.now.named has.there in
+    let trees_found = subst (λ (p : List (Option Sector)). HasTrees spec named m.generation p left right c.value.result.now) (sym same_found) trees in
+    c.change_trees.ensures.full (c.find_listing.ensures.unchanged.committed.spent ∙ c.requires.unspent) honest_found agrees_found named m.generation left right trees_found refusal
+
+pub returns-in_err-replace_listing-clause-full : goal.returns-in_err-replace_listing-clause-full
+returns-in_err-replace_listing-clause-full g c = λ honest agrees files held holds has refused.
+    let spec : Spec = spec_of c.args.file.now in
+    let name : List ℕ = c.args.file.now.name.items in
+    let old = g.D.Device.state c.args.device.now in
+    let m : Map = map_now c.args.pages.now old.disk.present in
+    let told : c.in_ok-entry.field-0 ≡ entry_with (map catalog_entry holds.kept) (padded name) = c.in_ok-entry.ensures.entry honest agrees files holds ∙ ap (λ (n : List ℕ). entry_with (map catalog_entry holds.kept) (padded n)) c.deref.ensures.value in
+    let bounds = c.map_bounds.ensures.open c.args.pages.now old.disk.present c.requires.open c.requires.unspent in
+    let one = own m files holds name held c.args.file.now.named has.there in
+    let left : List Planted = left_of m files holds name held one in
+    let right : List Planted = right_of m files holds name held one in
+    let trees = trees_at m files holds name held c.args.file.now.named has.there c.in_ok-entry.field-0 told spec c.value.result.now c.in-Some.entry has.spec bounds.0 bounds.1 c.in-Some.is c.value.ensures in
+    let honest_found = c.find_listing.ensures.only.honest.0 honest in
+    let agrees_found = c.find_listing.ensures.agrees honest agrees in
+    let still_found = c.find_listing.ensures.only.state honest in
+    let there : List (Option Sector) = (map_now c.find_listing.new.pages (g.D.Device.state c.find_listing.new.device).disk.present).pages in
+    let same_found : there ≡ m.pages = same_pages c.args.pages.now c.find_listing.new.pages old (g.D.Device.state c.find_listing.new.device) c.find_listing.ensures.unchanged still_found in
+    let named = named_here m files holds name held c.args.file.now.named has.there in
+    let trees_found = subst (λ (p : List (Option Sector)). HasTrees spec named m.generation p left right c.value.result.now) (sym same_found) trees in
+    let organization = c.args.file.now.organization in
+    let changed : Changed = changed_by c.args.verb organization c.args.number c.args.bytes.now held in
+    let outcome_is : c.in_ok-turn.turn.outcome ≡ changed.outcome = c.in_ok-turn.ensures.outcome honest_found agrees_found named m.generation left right trees_found in
+    let done_is : is_change c.in_ok-turn.turn.outcome ≡ true = sym c.is_done.ensures ∙ c.if-not-is_done.false in
+    sym (ap is_change outcome_is) ∙ done_is
+
+pub returns-in_err-entry-clause-full : goal.returns-in_err-entry-clause-full
+returns-in_err-entry-clause-full g c = λ honest agrees files held holds has refused.
+    let from = rw refused at c.from_residual.ensures.1 in
+    let fault : c.in_err-entry.field-0.0 ≡ Full = sym from in
+    let refusal : c.find_listing.result ≡ Err Full = c.in_err-entry.was ∙ ap Err fault in
+    absurd (never_full c.find_listing.result c.find_listing.ensures.cause refusal)

@@ -1,4 +1,4 @@
-use Rattle.std.proofs.Common.{rules, ◌≡◌, inl, inr, Err, ℕ, List, refl, sym, subst}
+use Rattle.std.proofs.Common.{rules, ◌≡◌, inl, inr, true, Err, ℕ, List, refl, sym, subst, ◌∙◌}
 use Rattle.std.proofs.lemmas.Result.{err_from_is_err_and}
 use Rattle.station.specs.Blocks.{CrashLeaves}
 use Rattle.station.specs.History.{Through}
@@ -14,7 +14,7 @@ use Rattle.records.specs.Stores.{spec_of, Either}
 use Rattle.file_trees.specs.Volume.{MapHolds, Holds}
 use Rattle.alternate_keys.specs.Held.{held_law}
 use Rattle.alternate_keys.specs.Settles.{IsChanged}
-use Rattle.alternate_keys.proofs.Still.{same_volume}
+use Rattle.alternate_keys.proofs.Still.{same_volume, lacks_room}
 use Rattle.alternate_keys.proofs.creating.create_in.Goals as goal
 
 pub returns-in_err-prepare_file-clause-only : goal.returns-in_err-prepare_file-clause-only
@@ -39,7 +39,8 @@ returns-in_err-prepare_file-clause-turned g c = λ honest files stands.
           (subst (λ (s : State). Through (g.D.Device.history c.args.device.now) (g.D.Device.history c.args.device.now) s (CrashLeaves old.events (Either Holds files after))) (sym still)
           (stays (g.D.Device.history c.args.device.now) old (CrashLeaves old.events (Either Holds files after)) (record { events = refl; images = λ image crash. inl (held_law c.args.pages.now old.disk image files stands crash) })));
       sound = λ is. c.prepare_file.ensures.damaged honest stands.agrees files stands.holds (let told : c.prepare_file.result ≡ Err Damaged = cc in told);
-      room = λ is. c.prepare_file.ensures.room honest stands.agrees files stands.holds stands.rested (let told : c.prepare_file.result ≡ Err Full = cc in told);
+      room = λ is. lacks_room c.args.pages.now old.disk true name after stands.agrees
+          (c.prepare_file.ensures.room honest stands.agrees files stands.holds stands.rested (let told : c.prepare_file.result ≡ Err Full = cc in told));
     }
 
 pub returns-clause-only : goal.returns-clause-only
@@ -70,5 +71,13 @@ returns-clause-turned g c = λ honest files stands.
       stands = settles.stands;
       moments = subst (λ (s : State). Through (g.D.Device.history c.args.device.now) (g.D.Device.history c.settle.new.device) (g.D.Device.state c.settle.new.device) (CrashLeaves s.events (Either Holds files after))) still moments_then;
       sound = settles.sound;
-      room = λ is. c.in_ok-prepare_file.ensures.full honest stands.agrees files stands.holds stands.rested (settles.full is);
+      room = λ is. lacks_room before old.disk true name after stands.agrees (c.in_ok-prepare_file.ensures.full honest stands.agrees files stands.holds stands.rested (settles.full is));
     }
+
+pub returns-in_err-prepare_file-clause-unwritten : goal.returns-in_err-prepare_file-clause-unwritten
+returns-in_err-prepare_file-clause-unwritten g c = λ is honest. c.prepare_file.ensures.prepares.only.state honest
+
+pub returns-clause-unwritten : goal.returns-clause-unwritten
+returns-clause-unwritten g c = λ is honest.
+    let only = c.prepare_file.ensures.prepares.only in
+    c.settle.ensures.unwritten is (only.honest.0 honest) ∙ only.state honest

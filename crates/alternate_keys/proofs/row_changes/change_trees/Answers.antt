@@ -40,3 +40,18 @@ returns-in-Remove-clause-placed g c = λ honest agrees named generation left rig
     let after : List (Option Sector) = (map_now c.remove_trees.new.pages (g.D.Device.state c.args.device.now).disk.present).pages in
     subst (λ (v : RowVerb). IfOk c.remove_trees.result (λ turn. is_change turn.outcome ≡ true → Placed (named_after named (changed_by v c.args.file.now.organization c.args.number c.args.bytes.now named.file)) (generation + 1) after left right turn.listing.items))
     (sym c.in-Remove.is) (c.remove_trees.ensures.placed honest agrees named generation left right has)
+
+pub returns-in-Insert-clause-full : goal.returns-in-Insert-clause-full
+returns-in-Insert-clause-full g c = λ unspent honest agrees named generation left right has refused.
+    subst (λ (v : RowVerb). is_change (changed_by v c.args.file.now.organization c.args.number c.args.bytes.now named.file).outcome ≡ true) (sym c.in-Insert.is)
+    (c.insert_trees.ensures.full unspent honest agrees named generation left right has refused)
+
+pub returns-in-Replace-clause-full : goal.returns-in-Replace-clause-full
+returns-in-Replace-clause-full g c = λ unspent honest agrees named generation left right has refused.
+    subst (λ (v : RowVerb). is_change (changed_by v c.args.file.now.organization c.args.number c.args.bytes.now named.file).outcome ≡ true) (sym c.in-Replace.is)
+    (c.replace_trees.ensures.full honest agrees named generation left right has refused)
+
+pub returns-in-Remove-clause-full : goal.returns-in-Remove-clause-full
+returns-in-Remove-clause-full g c = λ unspent honest agrees named generation left right has refused.
+    subst (λ (v : RowVerb). is_change (changed_by v c.args.file.now.organization c.args.number c.args.bytes.now named.file).outcome ≡ true) (sym c.in-Remove.is)
+    (c.remove_trees.ensures.full honest agrees named generation left right has refused)

@@ -13,7 +13,7 @@ use Rattle.records.specs.declared.key.KeyOfReference.TheVariants.{Prime}
 use Rattle.records.specs.Spec.{Spec}
 use Rattle.records.specs.Rows.{Pair}
 use Rattle.records.specs.Changes.{Changed}
-use Rattle.records.specs.Stores.{spec_of, pair_of}
+use Rattle.records.specs.Stores.{spec_of, pair_of, is_change}
 use Rattle.file_trees.specs.Trees.{entry_under, key_under, row_value}
 use Rattle.file_trees.specs.Forest.{Planted}
 use Rattle.file_trees.specs.Grows.{StandsAmong}
@@ -21,6 +21,7 @@ use Rattle.alternate_keys.specs.declared.row_verb.RowVerb.TheVariants.{Remove}
 use Rattle.alternate_keys.specs.Moved.{Moving, PairsMayMove, named_after}
 use Rattle.alternate_keys.specs.Placed.{Placed, HasTrees}
 use Rattle.alternate_keys.proofs.Calling.{looks_edits, edits_blamed, edits_last}
+use Rattle.alternate_keys.proofs.Faults.{never_full}
 use Rattle.alternate_keys.proofs.FileTrees.{kept_in, arrival_is, prime_stands, prime_rows}
 use Rattle.alternate_keys.proofs.FoundRow.{none_at, found_at}
 use Rattle.alternate_keys.proofs.RemoveRow.{some_by, removed_missing, removed_done, named_without, removed_may, remove_moving}
@@ -283,3 +284,32 @@ returns-clause-edits g c =
     let e0 = looks_edits g.D.Device (c.find_row.result ≡ Err Device) c.args.pages.now c.find_row.new.pages c.args.device.now c.find_row.new.device c.find_row.ensures.looks in
     let e1 = edits_last g.D.Device (c.find_row.result ≡ Err Device) (c.remove_among.result ≡ Err Device) (c.remove_among.result ≡ Err Device) c.args.pages.now c.find_row.new.pages c.remove_among.new.pages c.args.device.now c.find_row.new.device c.remove_among.new.device (λ is. is) e0 c.remove_among.ensures.edits in
     edits_last g.D.Device (c.remove_among.result ≡ Err Device) (c.move_row.result ≡ Err Device) _ c.args.pages.now c.remove_among.new.pages c.move_row.new.pages c.args.device.now c.remove_among.new.device c.move_row.new.device (λ is. absurd cc) e1 c.move_row.ensures.edits
+
+pub returns-in_err-remove_among-clause-full : goal.returns-in_err-remove_among-clause-full
+returns-in_err-remove_among-clause-full g c = λ honest agrees named generation left right has refused.
+    let spec : Spec = spec_of c.args.file.now in
+    let listing : List ℕ = c.args.listing.now in
+    let pair : Pair = pair_of spec.organization c.args.key.now c.args.number in
+    let before : List (Option Sector) = (map_now c.args.pages.now (g.D.Device.state c.args.device.now).disk.present).pages in
+    let rows = prime_rows spec named generation before left right listing has c.file_tree-prime.result c.file_tree-prime.ensures.layout c.file_tree-prime.ensures.root in
+    let told = c.in_ok-row.ensures.found honest agrees named.file.rows rows in
+    let found = found_at spec named generation before left right listing has pair c.in_ok-row.field-0 told c.in-Some.row c.in-Some.is in
+    ap (λ (ch : Changed). is_change ch.outcome) (removed_done pair named.file found.old found.there)
+
+pub returns-in_err-listing-clause-full : goal.returns-in_err-listing-clause-full
+returns-in_err-listing-clause-full g c = λ honest agrees named generation left right has refused.
+    let spec : Spec = spec_of c.args.file.now in
+    let listing : List ℕ = c.args.listing.now in
+    let pair : Pair = pair_of spec.organization c.args.key.now c.args.number in
+    let before : List (Option Sector) = (map_now c.args.pages.now (g.D.Device.state c.args.device.now).disk.present).pages in
+    let rows = prime_rows spec named generation before left right listing has c.file_tree-prime.result c.file_tree-prime.ensures.layout c.file_tree-prime.ensures.root in
+    let told = c.in_ok-row.ensures.found honest agrees named.file.rows rows in
+    let found = found_at spec named generation before left right listing has pair c.in_ok-row.field-0 told c.in-Some.row c.in-Some.is in
+    ap (λ (ch : Changed). is_change ch.outcome) (removed_done pair named.file found.old found.there)
+
+pub returns-in_err-row-clause-full : goal.returns-in_err-row-clause-full
+returns-in_err-row-clause-full g c = λ honest agrees named generation left right has refused.
+    let from = rw refused at c.from_residual.ensures.1 in
+    let fault : c.in_err-row.field-0.0 ≡ Full = sym from in
+    let refusal : c.find_row.result ≡ Err Full = c.in_err-row.was ∙ ap Err fault in
+    absurd (never_full c.find_row.result c.find_row.ensures.cause refusal)

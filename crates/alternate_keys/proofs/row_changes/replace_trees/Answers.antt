@@ -1,5 +1,5 @@
 use Rattle.std.proofs.Common.{◌≡◌, ◌+◌, ◌*◌, ◌++◌, true, false, Err, ℕ, List, length, sym, ap, subst, ◌∙◌, arith}
-use Rattle.std.specs.Prelude.{map, Option, Some, IfSome}
+use Rattle.std.specs.Prelude.{map, filter, Option, Some, IfSome}
 use Rattle.std.specs.Option.{option_map}
 use Rattle.station.specs.Disk.{Sector}
 use Rattle.station.specs.State.{State}
@@ -14,7 +14,7 @@ use Rattle.records.specs.declared.file_spec.KeyPlace.{KeyPlace}
 use Rattle.records.specs.declared.key.KeyOfReference.TheVariants.{Prime}
 use Rattle.records.specs.Spec.{Spec}
 use Rattle.records.specs.Rows.{Row, Pair, part, place_of, named_pair}
-use Rattle.records.specs.Changes.{Changed, changed_row, row_at}
+use Rattle.records.specs.Changes.{Changed, changed_row, row_at, changes, without, is_duplicate}
 use Rattle.records.specs.Files.{Named}
 use Rattle.records.specs.Stores.{spec_of, pair_of, is_change}
 use Rattle.file_trees.specs.Trees.{entry_under, key_under, layout_under, row_value}
@@ -24,7 +24,7 @@ use Rattle.file_trees.specs.Grows.{StandsAmong}
 use Rattle.alternate_keys.specs.declared.row_verb.RowVerb.TheVariants.{Replace}
 use Rattle.alternate_keys.specs.Moved.{Moving, PairsMayMove, named_after}
 use Rattle.alternate_keys.specs.Placed.{Placed, HasTrees}
-use Rattle.alternate_keys.proofs.Faults.{never_device}
+use Rattle.alternate_keys.proofs.Faults.{never_device, never_full}
 use Rattle.alternate_keys.proofs.Calling.{looks_edits, edits_blamed, edits_last}
 use Rattle.alternate_keys.proofs.FileTrees.{kept_in, arrival_few, arrival_is, prime_stands, prime_rows, all_pairs}
 use Rattle.alternate_keys.proofs.FoundRow.{none_at, found_at}
@@ -32,6 +32,7 @@ use Rattle.alternate_keys.proofs.Numbered.{named_here}
 use Rattle.alternate_keys.proofs.RemoveRow.{some_by}
 use Rattle.alternate_keys.proofs.ReplaceRow.{replaced_missing, replaced_taken, replaced_done, named_changed, replaced_may, replace_moving, entry_changed, next_told, look_free, look_done, look_full, look_taken}
 use Rattle.alternate_keys.proofs.Still.{same_volume}
+use Rattle.alternate_keys.proofs.TakenRow.{done_changes}
 use Rattle.alternate_keys.proofs.row_changes.replace_trees.Goals as goal
 
 pub returns-in_err-row-clause-damaged : goal.returns-in_err-row-clause-damaged
@@ -560,3 +561,77 @@ returns-clause-edits g c =
 pub returns-then-not-is_done-clause-same : goal.returns-then-not-is_done-clause-same
 returns-then-not-is_done-clause-same g c =
     λ none. unchanged_on c.args.pages.now c.find_row.new.pages c.look_at_values.new.pages c.find_row.ensures.looks.unchanged c.look_at_values.ensures.looks.unchanged
+
+pub returns-in_err-replace_among-clause-full : goal.returns-in_err-replace_among-clause-full
+returns-in_err-replace_among-clause-full g c = λ honest agrees named generation left right has refused.
+    let spec : Spec = spec_of c.args.file.now in
+    let listing : List ℕ = c.args.listing.now in
+    let bytes : List ℕ = c.args.bytes.now in
+    let number : ℕ = c.args.number in
+    let pair : Pair = named_pair spec.organization number bytes in
+    let before : List (Option Sector) = (map_now c.args.pages.now (g.D.Device.state c.args.device.now).disk.present).pages in
+    let rows = prime_rows spec named generation before left right listing has c.file_tree-prime.result c.file_tree-prime.ensures.layout c.file_tree-prime.ensures.root in
+    let value : c.part_of.result.now ≡ part (place_of spec Prime) bytes = c.part_of.ensures ∙ ap (λ (p : KeyPlace). part p bytes) c.key_place-place.ensures.place in
+    let pair_is : pair_of spec.organization c.part_of.result.now number ≡ pair = ap (λ (v : List ℕ). pair_of spec.organization v number) value ∙ named_here spec.organization number bytes in
+    let told = c.in_ok-row.ensures.found honest agrees named.file.rows rows ∙ ap (λ (p : Pair). option_map (entry_under spec Prime) (row_at spec.organization p named.file.rows)) pair_is in
+    let found = found_at spec named generation before left right listing has pair c.in_ok-row.field-0 told c.in-Some.row c.in-Some.is in
+    let there_at : row_at named.file.spec.organization (named_pair named.file.spec.organization number bytes) named.file.rows ≡ Some found.old =
+    ap (λ (s : Spec). row_at named.file.spec.organization (named_pair s.organization number bytes) named.file.rows) has.spec_is ∙ found.there in
+    let value_is : c.value-old.result.now ≡ row_value found.old = c.value-old.ensures ∙ ap (λ (e : Entry). e.value) found.is in
+    let finds = c.find_row.ensures.looks in
+    let honest_found = finds.only.honest.0 honest in
+    let agrees_found = finds.agrees honest agrees in
+    let still_found = finds.only.state honest in
+    let there_found : List (Option Sector) = (map_now c.find_row.new.pages (g.D.Device.state c.find_row.new.device).disk.present).pages in
+    let same_found : there_found ≡ before = same_pages c.args.pages.now c.find_row.new.pages (g.D.Device.state c.args.device.now) (g.D.Device.state c.find_row.new.device) finds.unchanged still_found in
+    let has_found = subst (λ (p : List (Option Sector)). HasTrees spec named generation p left right listing) (sym same_found) has in
+    let pairs = all_pairs spec named generation there_found left right listing has_found in
+    let looked = c.in_ok-outcome.ensures.told honest_found agrees_found named.file.rows pairs in
+    let done_is : is_change c.in_ok-outcome.outcome ≡ true = sym c.is_done.ensures ∙ c.if-not-is_done.false in
+    let free = look_free spec named generation there_found left right listing has_found number bytes found.old there_at found.row_is c.value-old.result.now value_is c.in_ok-outcome.outcome looked done_is in
+    ap (λ (ch : Changed). is_change ch.outcome) (replaced_done number bytes named.file found.old there_at free)
+    ∙ done_changes (is_duplicate (filter (changes found.old.bytes bytes) named.file.spec.alternates) (without named.file.spec.organization (named_pair named.file.spec.organization number bytes) named.file.rows) bytes)
+
+pub returns-in_err-listing-clause-full : goal.returns-in_err-listing-clause-full
+returns-in_err-listing-clause-full g c = λ honest agrees named generation left right has refused.
+    let spec : Spec = spec_of c.args.file.now in
+    let listing : List ℕ = c.args.listing.now in
+    let bytes : List ℕ = c.args.bytes.now in
+    let number : ℕ = c.args.number in
+    let pair : Pair = named_pair spec.organization number bytes in
+    let before : List (Option Sector) = (map_now c.args.pages.now (g.D.Device.state c.args.device.now).disk.present).pages in
+    let rows = prime_rows spec named generation before left right listing has c.file_tree-prime.result c.file_tree-prime.ensures.layout c.file_tree-prime.ensures.root in
+    let value : c.part_of.result.now ≡ part (place_of spec Prime) bytes = c.part_of.ensures ∙ ap (λ (p : KeyPlace). part p bytes) c.key_place-place.ensures.place in
+    let pair_is : pair_of spec.organization c.part_of.result.now number ≡ pair = ap (λ (v : List ℕ). pair_of spec.organization v number) value ∙ named_here spec.organization number bytes in
+    let told = c.in_ok-row.ensures.found honest agrees named.file.rows rows ∙ ap (λ (p : Pair). option_map (entry_under spec Prime) (row_at spec.organization p named.file.rows)) pair_is in
+    let found = found_at spec named generation before left right listing has pair c.in_ok-row.field-0 told c.in-Some.row c.in-Some.is in
+    let there_at : row_at named.file.spec.organization (named_pair named.file.spec.organization number bytes) named.file.rows ≡ Some found.old =
+    ap (λ (s : Spec). row_at named.file.spec.organization (named_pair s.organization number bytes) named.file.rows) has.spec_is ∙ found.there in
+    let value_is : c.value-old.result.now ≡ row_value found.old = c.value-old.ensures ∙ ap (λ (e : Entry). e.value) found.is in
+    let finds = c.find_row.ensures.looks in
+    let honest_found = finds.only.honest.0 honest in
+    let agrees_found = finds.agrees honest agrees in
+    let still_found = finds.only.state honest in
+    let there_found : List (Option Sector) = (map_now c.find_row.new.pages (g.D.Device.state c.find_row.new.device).disk.present).pages in
+    let same_found : there_found ≡ before = same_pages c.args.pages.now c.find_row.new.pages (g.D.Device.state c.args.device.now) (g.D.Device.state c.find_row.new.device) finds.unchanged still_found in
+    let has_found = subst (λ (p : List (Option Sector)). HasTrees spec named generation p left right listing) (sym same_found) has in
+    let pairs = all_pairs spec named generation there_found left right listing has_found in
+    let looked = c.in_ok-outcome.ensures.told honest_found agrees_found named.file.rows pairs in
+    let done_is : is_change c.in_ok-outcome.outcome ≡ true = sym c.is_done.ensures ∙ c.if-not-is_done.false in
+    let free = look_free spec named generation there_found left right listing has_found number bytes found.old there_at found.row_is c.value-old.result.now value_is c.in_ok-outcome.outcome looked done_is in
+    ap (λ (ch : Changed). is_change ch.outcome) (replaced_done number bytes named.file found.old there_at free)
+    ∙ done_changes (is_duplicate (filter (changes found.old.bytes bytes) named.file.spec.alternates) (without named.file.spec.organization (named_pair named.file.spec.organization number bytes) named.file.rows) bytes)
+
+pub returns-in_err-row-clause-full : goal.returns-in_err-row-clause-full
+returns-in_err-row-clause-full g c = λ honest agrees named generation left right has refused.
+    let from = rw refused at c.from_residual.ensures.1 in
+    let fault : c.in_err-row.field-0.0 ≡ Full = sym from in
+    let refusal : c.find_row.result ≡ Err Full = c.in_err-row.was ∙ ap Err fault in
+    absurd (never_full c.find_row.result c.find_row.ensures.cause refusal)
+
+pub returns-in_err-outcome-clause-full : goal.returns-in_err-outcome-clause-full
+returns-in_err-outcome-clause-full g c = λ honest agrees named generation left right has refused.
+    let from = rw refused at c.from_residual-in_err-outcome.ensures.1 in
+    let fault : c.in_err-outcome.field-0.0 ≡ Full = sym from in
+    let refusal : c.look_at_values.result ≡ Err Full = c.in_err-outcome.was ∙ ap Err fault in
+    absurd (never_full c.look_at_values.result c.look_at_values.ensures.cause refusal)

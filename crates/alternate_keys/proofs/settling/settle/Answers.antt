@@ -44,3 +44,9 @@ returns-in-Err-clause-settles g c = λ before after changed.
           let fault : c.in-Err.error ≡ pages.Full = full_back c.in-Err.error (sym c.to_fault.ensures ∙ told) in
           c.in-Err.ensures.full (ap Err fault);
     }
+
+pub returns-in-Err-clause-unwritten : goal.returns-in-Err-clause-unwritten
+returns-in-Err-clause-unwritten g c = λ is honest.
+    let told : c.to_fault.result ≡ Full = cc in
+    let fault : c.in-Err.error ≡ pages.Full = full_back c.in-Err.error (sym c.to_fault.ensures ∙ told) in
+    (c.in-Err.ensures.unchanged (ap Err fault) honest).0

@@ -1,11 +1,10 @@
 use Rattle.std.proofs.Common.{inl, true, refl, sym, subst}
 use Rattle.station.proofs.Spans.{stays}
-use Rattle.pages.specs.Pages.{committed_of}
 use Rattle.records.specs.Files.{Files, empty_file, with_file}
 use Rattle.records.specs.Stores.{spec_of}
 use Rattle.alternate_keys.specs.Held.{held_law}
 use Rattle.alternate_keys.specs.Opened.{Opened}
-use Rattle.alternate_keys.specs.Stands.{Stands, LacksRoom}
+use Rattle.alternate_keys.specs.Stands.{Stands}
 use Rattle.alternate_keys.proofs.keeps.PagedStoreStore.create.Goals as goal
 
 pub returns-then-self-clause-turns : goal.returns-then-self-clause-turns
@@ -28,5 +27,5 @@ returns-in-Err-clause-turns g c = λ files stands.
       there = tt;
       moments = turned.moments;
       sound = turned.sound;
-      room = λ is. subst (λ (s : Opened). LacksRoom (committed_of s.pages) true name after) c.self.view_is (turned.room is);
+      room = turned.room;
     }

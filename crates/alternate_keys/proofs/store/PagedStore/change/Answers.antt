@@ -1,12 +1,11 @@
 use Rattle.std.proofs.Common.{inl, false, refl, sym, subst}
 use Rattle.station.proofs.Spans.{stays}
-use Rattle.pages.specs.Pages.{committed_of}
 use Rattle.records.specs.Files.{Files}
 use Rattle.records.specs.Stores.{files_after}
 use Rattle.alternate_keys.specs.Held.{held_law}
 use Rattle.alternate_keys.specs.Moved.{changed_by}
 use Rattle.alternate_keys.specs.Opened.{Opened}
-use Rattle.alternate_keys.specs.Stands.{Stands, LacksRoom}
+use Rattle.alternate_keys.specs.Stands.{Stands}
 use Rattle.alternate_keys.proofs.store.PagedStore.change.Goals as goal
 
 pub returns-then-self-clause-turns : goal.returns-then-self-clause-turns
@@ -29,5 +28,10 @@ returns-in-Err-clause-turns g c = λ files held stands has.
       there = tt;
       moments = turned.moments;
       sound = turned.sound;
-      room = λ is. subst (λ (s : Opened). LacksRoom (committed_of s.pages) false name after) c.self.view_is (turned.room is);
+      room = turned.room;
     }
+
+pub returns-in-Err-clause-full : goal.returns-in-Err-clause-full
+returns-in-Err-clause-full g c = λ files held stands has is.
+    let there = subst (λ (s : Opened). Stands s.pages (g.D.Device.state c.args.device.now).disk files) (sym c.self.view_is) stands.there in
+    c.in-Err.ensures.full stands.honest files held there has is
