@@ -43,11 +43,17 @@ def functions_in(path, lines):
             kind = trait = ""
         cycle = match[1] if (match := CYCLE.match(line)) else cycle
         if match := FUNCTION.match(line):
-            last = end_of(lines, number, match[1])
+            first, last = begin_of(lines, number), end_of(lines, number, match[1])
             text = "\n".join(lines[number - 1 : last])
-            found.append(Function(path, number, last, "::".join(module), kind, trait, match[2], cycle, text))
+            found.append(Function(path, first, last, "::".join(module), kind, trait, match[2], cycle, text))
             cycle = None
     return found
+
+
+def begin_of(lines, number):
+    """The first line of a function's comment and attributes."""
+    above = range(number - 1, 0, -1)
+    return next((line + 1 for line in above if not lines[line - 1].strip() or lines[line - 1].endswith(("{", "}", ";"))), 1)
 
 
 def end_of(lines, first, indent):
