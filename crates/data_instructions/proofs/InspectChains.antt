@@ -4,8 +4,8 @@ use Rattle.std.specs.Prelude.{nat_le, if◌then◌else◌}
 use Rattle.std.proofs.lemmas.List.{append_assoc}
 use Rattle.source_tree.specs.declared.inspecting.Inspecting.{Inspecting}
 use Rattle.source_tree.specs.Places.{Placed}
-use Rattle.source_tree.specs.Inspecting as meaning
-use Rattle.source_tree.specs.Inspecting.{Bytes, Characters, Taking, Counter, Text, found_size, text_size, taken_size, takings, inspection, inspected_size}
+use Rattle.source_tree.specs.InspectLayout as layout
+use Rattle.source_tree.specs.InspectLayout.{Bytes, Characters, Taking, Counter, Text, found_size, text_size, taken_size, takings, inspection, inspected_size}
 use Rattle.data_instructions.specs.declared.index.InspectionIndex.{InspectionIndex}
 use Rattle.data_instructions.specs.declared.tables.Inspection.{Inspection}
 use Rattle.data_instructions.specs.declared.tables.DataTables.{DataTables}
@@ -30,17 +30,17 @@ module _ (items : List Placed) (tables : DataTables) where
   abbrev known : List PlaceShape → PlaceShape → ℕ → Shape → Shape
   known qs q line s = record s { stacks = record { numbers = s.stacks.numbers; places = qs ++ (q ∷ s.stacks.places) }; line = line }
 
-  inspect_known : (index : InspectionIndex) (how : meaning.Inspection) (size : ℕ) (has : HasInspection items tables how size index) (qs : List PlaceShape) (q : PlaceShape) (line : ℕ) (s : Shape)
+  inspect_known : (index : InspectionIndex) (how : layout.Inspection) (size : ℕ) (has : HasInspection items tables how size index) (qs : List PlaceShape) (q : PlaceShape) (line : ℕ) (s : Shape)
       → length qs ≡ length how.counters → size ≤ line → effects tables (i.Inspect index ∷ []) (known qs q line s) ≡ Some (record s { line = 0 })
   inspect_known index how size has qs q line s many long =
       let stacks : Stacks = record { numbers = s.stacks.numbers; places = qs ++ (q ∷ s.stacks.places) } in
-      let count : length has.one.counters ≡ length qs = ap (λ (x : meaning.Inspection). length x.counters) has.is ∙ sym many in
+      let count : length has.one.counters ≡ length qs = ap (λ (x : layout.Inspection). length x.counters) has.is ∙ sym many in
       ap (λ o. and_then (shape_with (and_then o (λ (x : Inspection). and_then (without_places (length x.counters) stacks) without_place)) (and_then o (λ (x : Inspection). if nat_le x.size line then Some 0 else None)) (Some s.sender)) (effects tables [])) has.entry
       ∙ ap (λ n. and_then (shape_with (and_then (without_places n stacks) without_place) (if nat_le has.one.size line then Some 0 else None) (Some s.sender)) (effects tables [])) count
       ∙ ap (λ o. and_then (shape_with (and_then o without_place) (if nat_le has.one.size line then Some 0 else None) (Some s.sender)) (effects tables [])) (enough qs (q ∷ s.stacks.places) s.stacks.numbers)
       ∙ ap (λ b. and_then (shape_with (Some s.stacks) (if b then Some 0 else None) (Some s.sender)) (effects tables [])) (within has.one.size line (omega (arith, has.size_is, long)))
 
-  takings_known : (index : InspectionIndex) (how : meaning.Inspection) (size : ℕ) (has : HasInspection items tables how size index) (all : List Taking) (code : List DataInstruction) → AreTakenCode items tables all code → LieTakings items tables all
+  takings_known : (index : InspectionIndex) (how : layout.Inspection) (size : ℕ) (has : HasInspection items tables how size index) (all : List Taking) (code : List DataInstruction) → AreTakenCode items tables all code → LieTakings items tables all
       → (qs : List PlaceShape) (q : PlaceShape) (line : ℕ) (s : Shape) → length qs + counters_in all ≡ length how.counters → size ≤ line + taken_size items all
       → effects tables (code ++ (i.Inspect index ∷ [])) (known qs q line s) ≡ Some (record s { line = 0 })
   takings_known index how size has [] code is lies qs q line s many long =

@@ -12,8 +12,9 @@ use Rattle.source_tree.specs.Storage.{Storage}
 use Rattle.source_tree.specs.Evaluated.{Evaluated, ◌>>=◌, needed}
 use Rattle.source_tree.specs.References.{ItemPlace, part_of, place_behind, place_of, occurrence}
 use Rattle.source_tree.specs.References as tree
-use Rattle.source_tree.specs.Inspecting as meaning
-use Rattle.source_tree.specs.Inspecting.{Source, Bytes, Characters, Taking, Counter, Text, InspectTaken, found_size, taken_size, tallying_takings, entries_texts, counter_entries, entry_counts, takings, inspection, inspected_size, text_at, with_counter, with_text, take_each, inspect_at, inspect}
+use Rattle.source_tree.specs.InspectLayout as layout
+use Rattle.source_tree.specs.Inspecting.{text_at}
+use Rattle.source_tree.specs.InspectLayout.{Source, Bytes, Characters, Taking, Counter, Text, InspectTaken, found_size, taken_size, tallying_takings, entries_texts, counter_entries, entry_counts, takings, inspection, inspected_size, with_counter, with_text, take_each, inspect_at, inspect_by_spans}
 use Rattle.data_instructions.specs.declared.index.InspectionIndex.{InspectionIndex}
 use Rattle.data_instructions.specs.declared.place.Place.{Place}
 use Rattle.data_instructions.specs.declared.tables.Inspection.{Inspection}
@@ -51,7 +52,7 @@ counters_are items one =
     each_counter one.tallying (map Text replacing) (ap counters_in (sym (append-nil (map Text replacing))) ∙ texts_behind replacing [])
   where
     replacing : List Source
-    replacing = entries_texts (meaning.all_replaced items one)
+    replacing = entries_texts (layout.all_replaced items one)
 
 -- what is found out, where it is
 with_known : {A : Type 0} (r : Evaluated A) (f g : A → Step) → ((x : A) → r ≡ Ok x → f x ≡ g x) → step_with r f ≡ step_with r g
@@ -130,20 +131,20 @@ module _ (tables : DataTables) where
 
 module _ (items : List Placed) (tables : DataTables) (order : IsTables tables) where
   -- INSPECT, with counters and texts
-  abbrev ends : meaning.Inspection → ItemPlace → Scratch → List ItemPlace → List ℕ → Step
+  abbrev ends : layout.Inspection → ItemPlace → Scratch → List ItemPlace → List ℕ → Step
   ends how subject s counters texts = step_with (inspect_at how texts counters subject s.storage) (λ after. Went (record s { storage = after; line = [] }))
 
   abbrev standing : List Place → Place → List ℕ → Scratch → Scratch
   standing ps p line s = record s { places = ps ++ (p ∷ s.places); line = line }
 
   -- with the counters' places on the stack, above the subject's
-  inspect_works : (index : InspectionIndex) (how : meaning.Inspection) (size : ℕ) (has : HasInspection items tables how size index) (p : Place) (subject : ItemPlace) → place_at p (slice_get tables.items p.item.number) ≡ Some subject
+  inspect_works : (index : InspectionIndex) (how : layout.Inspection) (size : ℕ) (has : HasInspection items tables how size index) (p : Place) (subject : ItemPlace) → place_at p (slice_get tables.items p.item.number) ≡ Some subject
       → (ps : List Place) (rs : List ItemPlace) → AreAt tables ps rs → length rs ≡ length how.counters → (line : List ℕ) (s : Scratch)
       → works tables (i.Inspect index ∷ []) (standing ps p line s) ≡ ends how subject s (oldest rs []) (padded size line)
   inspect_works index how size has p subject at ps rs are many line s =
       let t : Scratch = standing ps p line s in
       let u : Scratch = record s { line = line } in
-      let count : length has.one.counters ≡ length rs = ap (λ (x : meaning.Inspection). length x.counters) has.is ∙ sym many in
+      let count : length has.one.counters ≡ length rs = ap (λ (x : layout.Inspection). length x.counters) has.is ∙ sym many in
       nothing_more items tables order (work tables (i.Inspect index) t)
       ∙ ap (λ o. step_at o (λ (x : Inspection). at_places tables (length x.counters) [] (λ counters v. at_place tables (inspected_at x counters) v) (ps ++ (p ∷ s.places)) t)) has.entry
       ∙ ap (λ n. at_places tables n [] (λ counters v. at_place tables (inspected_at has.one counters) v) (ps ++ (p ∷ s.places)) t) count
@@ -153,7 +154,7 @@ module _ (items : List Placed) (tables : DataTables) (order : IsTables tables) w
       ∙ ap (λ n. ends how subject s (oldest rs []) (padded n line)) has.size_is
 
   -- behind a text that was added to the line
-  further : (index : InspectionIndex) (how : meaning.Inspection) (size : ℕ) (p : Place) (subject : ItemPlace) (more : List Taking) (back : List DataInstruction) (ps : List Place) (rs : List ItemPlace) (line text : List ℕ) (s : Scratch)
+  further : (index : InspectionIndex) (how : layout.Inspection) (size : ℕ) (p : Place) (subject : ItemPlace) (more : List Taking) (back : List DataInstruction) (ps : List Place) (rs : List ItemPlace) (line text : List ℕ) (s : Scratch)
       → works tables (back ++ (i.Inspect index ∷ [])) (standing ps p (line ++ text) s)
       ≡ step_with (take_each items more s.storage) (λ taken. ends how subject s (oldest rs taken.counters) (padded size ((line ++ text) ++ taken.texts)))
       → works tables (back ++ (i.Inspect index ∷ [])) (standing ps p (line ++ text) s)
@@ -164,7 +165,7 @@ module _ (items : List Placed) (tables : DataTables) (order : IsTables tables) w
       ∙ sym (with_bind (take_each items more s.storage) (λ taken. Ok (with_text text taken)) (λ taken. ends how subject s (oldest rs taken.counters) (padded size (line ++ taken.texts))))
 
   -- what is taken, and then INSPECT
-  takings_work : (index : InspectionIndex) (how : meaning.Inspection) (size : ℕ) (has : HasInspection items tables how size index) (p : Place) (subject : ItemPlace) → place_at p (slice_get tables.items p.item.number) ≡ Some subject
+  takings_work : (index : InspectionIndex) (how : layout.Inspection) (size : ℕ) (has : HasInspection items tables how size index) (p : Place) (subject : ItemPlace) → place_at p (slice_get tables.items p.item.number) ≡ Some subject
       → (all : List Taking) (code : List DataInstruction) → AreTakenCode items tables all code
       → (ps : List Place) (rs : List ItemPlace) → AreAt tables ps rs → length rs + counters_in all ≡ length how.counters → (line : List ℕ) (s : Scratch)
       → works tables (code ++ (i.Inspect index ∷ [])) (standing ps p line s)
@@ -214,10 +215,10 @@ module _ (items : List Placed) (tables : DataTables) (order : IsTables tables) w
 
   -- with nothing in the line
   inspect_from_nothing : (one : Inspecting) (code : List DataInstruction) → IsInspectCode items tables one code → (s : Scratch)
-      → works tables code (record s { line = [] }) ≡ step_with (inspect items one s.storage) (λ after. Went (record s { storage = after; line = [] }))
+      → works tables code (record s { line = [] }) ≡ step_with (inspect_by_spans items one s.storage) (λ after. Went (record s { storage = after; line = [] }))
   inspect_from_nothing one code (subject, r, parts, are, index, has, is) s =
       let u : Scratch = record s { line = [] } in
-      let how : meaning.Inspection = inspection items one in
+      let how : layout.Inspection = inspection items one in
       let size : ℕ = inspected_size items one in
       let later : List DataInstruction = parts ++ (i.Inspect index ∷ []) in
       let behind : Evaluated ℕ = tree.bytes_before items r.found.dimensions one.subject.subscripts s.storage in
@@ -238,7 +239,7 @@ module _ (items : List Placed) (tables : DataTables) (order : IsTables tables) w
       ∙ sym (with_bind (place_of items one.subject s.storage) (λ place. take_each items (takings items one) s.storage >>= (λ taken. inspect_at how taken.texts taken.counters place s.storage)) (λ after. Went (record s { storage = after; line = [] })))
 
   pub inspect_does : (one : Inspecting) (code : List DataInstruction) → IsInspectCode items tables one code → (s : Scratch) → s.line ≡ []
-      → works tables code s ≡ step_with (inspect items one s.storage) (λ after. Went (record s { storage = after }))
+      → works tables code s ≡ step_with (inspect_by_spans items one s.storage) (λ after. Went (record s { storage = after }))
   inspect_does one code is s empty =
-      subst (λ (l : List ℕ). works tables code (record s { line = l }) ≡ step_with (inspect items one s.storage) (λ after. Went (record s { storage = after; line = l })))
+      subst (λ (l : List ℕ). works tables code (record s { line = l }) ≡ step_with (inspect_by_spans items one s.storage) (λ after. Went (record s { storage = after; line = l })))
       (sym empty) (inspect_from_nothing one code is s)

@@ -1,9 +1,9 @@
--- The code of INSPECT (own choice), and what it does in the words of its meaning.
+-- The code of INSPECT (own choice), and what it does: INSPECT as it is laid out.
 use Rattle.std.specs.Prelude.{◌≡◌, ℕ, List, [], ◌∷◌, ◌++◌, Some, slice_get}
 use Rattle.source_tree.specs.declared.inspecting.Inspecting.{Inspecting}
 use Rattle.source_tree.specs.Places.{Placed}
-use Rattle.source_tree.specs.Inspecting as meaning
-use Rattle.source_tree.specs.Inspecting.{Bytes, Characters, Taking, Counter, Text, takings, inspection, inspected_size, inspect}
+use Rattle.source_tree.specs.InspectLayout as layout
+use Rattle.source_tree.specs.InspectLayout.{Bytes, Characters, Taking, Counter, Text, takings, inspection, inspected_size, inspect_by_spans}
 use Rattle.data_instructions.specs.declared.index.InspectionIndex.{InspectionIndex}
 use Rattle.data_instructions.specs.declared.tables.Inspection.{Inspection}
 use Rattle.data_instructions.specs.declared.tables.DataTables.{DataTables}
@@ -30,7 +30,7 @@ module _ (items : List Placed) (tables : DataTables) where
       (front : List DataInstruction) × IsTakenCode one front × (back : List DataInstruction) × AreTakenCode more back × (code ≡ front ++ back)
 
   -- what the table has of an INSPECT, whose texts have this size
-  pub record HasInspection (how : meaning.Inspection) (size : ℕ) (index : InspectionIndex) : Type 0 where
+  pub record HasInspection (how : layout.Inspection) (size : ℕ) (index : InspectionIndex) : Type 0 where
     pub one : Inspection
     pub entry : slice_get tables.inspections index.number ≡ Some one
     pub is : inspection_of one ≡ how
@@ -47,7 +47,7 @@ module _ (items : List Placed) (tables : DataTables) where
   -- with nothing in the line, which is empty again
   abbrev pub DoesInspect : Inspecting → List DataInstruction → Type 0
   DoesInspect one code =
-      (s : Scratch) → s.line ≡ [] → works tables code s ≡ step_with (inspect items one s.storage) (λ after. Went (record s { storage = after }))
+      (s : Scratch) → s.line ≡ [] → works tables code s ≡ step_with (inspect_by_spans items one s.storage) (λ after. Went (record s { storage = after }))
 
   -- ---- what is known along it
 
