@@ -1,5 +1,5 @@
--- Where INSPECT keeps its rules, its texts have some characters, and what replaces has the size of what it replaces. So each entry has its
--- texts within those that are taken.
+-- Where INSPECT keeps its rules, its texts have some characters, and what replaces has the size of what it replaces.
+-- So each entry has its texts within those that are taken.
 use Rattle.std.proofs.Common.{◌≡◌, ℕ, suc, ◌+◌, ◌≤◌, Bool, true, false, cond, List, [], ◌∷◌, ◌++◌, length, Option, Some, None, refl, sym, ap, subst, ◌∙◌, arith}
 use Rattle.std.specs.Prelude.{◌==◌, not, filter, slice_get, nat_le, ◌&&◌}
 use Rattle.std.specs.List.{AllByRecursion}
@@ -41,23 +41,28 @@ use Rattle.source_tree.proofs.SoundFiles.{left_none, right_none, kept}
 use Rattle.source_tree.proofs.InspectTaking.{sizes_append}
 use Rattle.source_tree.proofs.InspectMeaning.{whole_size, spans_mean}
 
-all_both : {A : Type 0} (P : A → Type 0) (xs ys : List A) → AllByRecursion P xs → AllByRecursion P ys → AllByRecursion P (xs ++ ys)
+all_both : {A : Type 0} (P : A → Type 0) (xs ys : List A) → AllByRecursion P xs → AllByRecursion P ys
+    → AllByRecursion P (xs ++ ys)
 all_both P [] ys a b = b
 all_both P (x ∷ xs) ys a b = (a.0, all_both P xs ys a.1 b)
 
-by_number : {A : Type 0} (P : A → Type 0) (xs : List A) → ((n : ℕ) (x : A) → slice_get xs n ≡ Some x → P x) → AllByRecursion P xs
+by_number : {A : Type 0} (P : A → Type 0) (xs : List A) → ((n : ℕ) (x : A) → slice_get xs n ≡ Some x → P x)
+    → AllByRecursion P xs
 by_number P [] h = tt
 by_number P (x ∷ xs) h = (h 0 x refl, by_number P xs (λ n y e. h (suc n) y e))
 
-kept_or_not : {A : Type 0} (P : A → Type 0) (b : Bool) (x : A) (xs : List A) → P x → AllByRecursion P xs → AllByRecursion P (cond b (x ∷ xs) xs)
+kept_or_not : {A : Type 0} (P : A → Type 0) (b : Bool) (x : A) (xs : List A) → P x → AllByRecursion P xs
+    → AllByRecursion P (cond b (x ∷ xs) xs)
 kept_or_not P true x xs h k = (h, k)
 kept_or_not P false x xs h k = k
 
-filtered : {A : Type 0} (P : A → Type 0) (test : A → Bool) (xs : List A) → AllByRecursion P xs → AllByRecursion P (filter test xs)
+filtered : {A : Type 0} (P : A → Type 0) (test : A → Bool) (xs : List A) → AllByRecursion P xs
+    → AllByRecursion P (filter test xs)
 filtered P test [] h = tt
 filtered P test (x ∷ xs) h = kept_or_not P (test x) x (filter test xs) h.0 (filtered P test xs h.1)
 
-only_named : (place : Place) (rules : Placed → List Broken) (found : List Placed) → named place rules found ≡ [] → (one : Placed) × (found ≡ one ∷ []) × (rules one ≡ [])
+only_named : (place : Place) (rules : Placed → List Broken) (found : List Placed) → named place rules found ≡ []
+    → (one : Placed) × (found ≡ one ∷ []) × (rules one ≡ [])
 only_named place rules [] e = absurd cc
 only_named place rules (one ∷ []) e = (one, refl, e)
 only_named place rules (one ∷ other ∷ more) e = absurd cc
@@ -98,22 +103,32 @@ module _ (items : List Placed) where
 
   -- ---- Their entries have them within all that is taken.
 
-  text_within : (one : Source) (at size : ℕ) → IsSome one → at + text_size items one ≤ size → IsSpan size (span_at items at one)
+  text_within : (one : Source) (at size : ℕ) → IsSome one → at + text_size items one ≤ size
+      → IsSpan size (span_at items at one)
   text_within one at size h le = record { some = h; within = le }
 
-  limit_within : (one : Option Operand) (at size : ℕ) → SomeLimit one → at + text_sizes items (limit_text one) ≤ size → IfSpan size (limit_span items at one)
+  limit_within : (one : Option Operand) (at size : ℕ) → SomeLimit one → at + text_sizes items (limit_text one) ≤ size
+      → IfSpan size (limit_span items at one)
   limit_within None at size h le = tt
   limit_within (Some one) at size h le = text_within (source one) at size h (omega (arith, le))
 
   limits_within : (before after : Option Operand) (turned : Bool) (at size : ℕ) → SomeLimit before → SomeLimit after
       → (let one : Limits = record { before = before; after = after; after_first = turned } in
-      at + text_sizes items (limit_texts one) ≤ size → IfSpan size (limit_span items (before_at items at one) before) × IfSpan size (limit_span items (after_at items at one) after))
+      at + text_sizes items (limit_texts one) ≤ size
+      → IfSpan size (limit_span items (before_at items at one) before) × IfSpan size
+      (limit_span items (after_at items at one) after))
   limits_within before after true at size h k le =
-      let sum = sizes_append items (limit_text after) (limit_text before) in
-      (limit_within before (at + text_sizes items (limit_text after)) size h (omega (arith, le, sum)), limit_within after at size k (omega (arith, le, sum)))
+      let sum = sizes_append items (limit_text after) (limit_text before) in (
+        limit_within before (at + text_sizes items (limit_text after)) size h (omega (arith, le, sum)),
+        limit_within
+            after at size k (omega (arith, le, sum)),
+      )
   limits_within before after false at size h k le =
-      let sum = sizes_append items (limit_text before) (limit_text after) in
-      (limit_within before at size h (omega (arith, le, sum)), limit_within after (at + text_sizes items (limit_text before)) size k (omega (arith, le, sum)))
+      let sum = sizes_append items (limit_text before) (limit_text after) in (
+        limit_within before at size h (omega (arith, le, sum)),
+        limit_within after
+            (at + text_sizes items (limit_text before)) size k (omega (arith, le, sum)),
+      )
 
   fit_within : (kind : Occurrences) (size : ℕ) (span : Span) → IsSpan size span → IsFit size (fit_of kind span)
   fit_within how.All size span h = h
@@ -133,22 +148,32 @@ module _ (items : List Placed) where
   what_some Any h = omega arith
   what_some (Occurs kind text) h = h
 
-  what_within : (one : What) (at size : ℕ) → SomeWhat one → at + text_sizes items (what_texts one) ≤ size → IsFit size (what_fit items at one)
+  what_within : (one : What) (at size : ℕ) → SomeWhat one → at + text_sizes items (what_texts one) ≤ size
+      → IsFit size (what_fit items at one)
   what_within Any at size h le = tt
-  what_within (Occurs kind text) at size h le = fit_within kind size (span_at items at text) (text_within text at size h (omega (arith, le)))
+  what_within (Occurs kind text) at size h le = fit_within kind size (span_at items at text)
+      (text_within text at size h (omega (arith, le)))
 
-  by_within : (what : What) (one : Option Source) (at before size : ℕ) → SomeWhat what → SameBy what one → at + text_sizes items (by_texts one) ≤ size
+  by_within : (what : What) (one : Option Source) (at before size : ℕ) → SomeWhat what → SameBy what one
+      → at + text_sizes items (by_texts one) ≤ size
       → IsBy size (what_fit items before what) (by_span items at one)
   by_within what None at before size h same le = tt
-  by_within what (Some one) at before size h same le = (text_within one at size (omega (arith, same, what_some what h)) (omega (arith, le)), same ∙ what_long before what)
+  by_within what (Some one) at before size h same
+      le = (
+        text_within one at size (omega (arith, same, what_some what h)) (omega (arith, le)),
+        same
+            ∙ what_long before what,
+      )
 
-  entry_within : (one : Inspected) (at size : ℕ) → IsSized one → at + text_sizes items (entry_texts one) ≤ size → IsEntry size (entry_at items at one)
+  entry_within : (one : Inspected) (at size : ℕ) → IsSized one → at + text_sizes items (entry_texts one) ≤ size
+      → IsEntry size (entry_at items at one)
   entry_within one at size k le =
       let what = what_texts one.what in
       let by = by_texts one.by in
       let a = sizes_append items (what ++ by) (limit_texts one.limits) in
       let b = sizes_append items what by in
-      let limits = limits_within one.limits.before one.limits.after one.limits.after_first (limits_at items at one) size k.before k.after (omega (arith, a, b, le)) in
+      let limits = limits_within one.limits.before one.limits.after one.limits.after_first (limits_at items at one)
+      size k.before k.after (omega (arith, a, b, le)) in
       record {
         fit = what_within one.what at size k.what (omega (arith, a, b, le));
         before = limits.0;
@@ -156,62 +181,81 @@ module _ (items : List Placed) where
         by = by_within one.what one.by (by_at items at one) at size k.what k.by (omega (arith, a, b, le));
       }
 
-  entries_within : (all : List Inspected) (at size : ℕ) → AreSized all → at + text_sizes items (entries_texts all) ≤ size → AllByRecursion (IsEntry size) (entries_at items at all)
+  entries_within : (all : List Inspected) (at size : ℕ) → AreSized all
+      → at + text_sizes items (entries_texts all) ≤ size → AllByRecursion (IsEntry size) (entries_at items at all)
   entries_within [] at size k le = tt
   entries_within (one ∷ more) at size k le =
-      let sum = sizes_append items (entry_texts one) (entries_texts more) in
-      (entry_within one at size k.0 (omega (arith, sum, le)), entries_within more (at + text_sizes items (entry_texts one)) size k.1 (omega (arith, sum, le)))
+      let sum = sizes_append items (entry_texts one) (entries_texts more) in (
+        entry_within one at size k.0 (omega (arith, sum, le)),
+        entries_within more
+            (at + text_sizes items (entry_texts one)) size k.1 (omega (arith, sum, le)),
+      )
 
   -- ---- from the rules: sizes
 
-  item_size : (one : Reference) → item_rules items inspected_item one ≡ [] → only_size (items_named items one.item) ≡ Some (text_size items (Bytes one))
+  item_size : (one : Reference) → item_rules items inspected_item one ≡ []
+      → only_size (items_named items one.item) ≡ Some (text_size items (Bytes one))
   item_size one e =
       let found = only_named one.item.name.place _ (items_named items one.item) (left_none _ _ e) in
       ap only_size found.1 ∙ sym (ap (λ l. Some (found_size (first l))) found.1)
 
-  known_size : (one : Operand) → inspected_rules items one ≡ [] → size_of items one ≡ Some (text_size items (source one))
+  known_size : (one : Operand) → inspected_rules items one ≡ []
+      → size_of items one ≡ Some (text_size items (source one))
   known_size (operand.Item one) e = item_size one e
   known_size (operand.Literal one) e = refl
 
-  sizes_are_same : (place : Place) (known other : Option ℕ) (n m : ℕ) → known ≡ Some n → other ≡ Some m → where_so (not (same_size known other)) 64 place ≡ [] → m ≡ n
+  sizes_are_same : (place : Place) (known other : Option ℕ) (n m : ℕ) → known ≡ Some n → other ≡ Some m
+      → where_so (not (same_size known other)) 64 place ≡ [] → m ≡ n
   sizes_are_same place known other n m e f h =
-      sym (same_numbers n m (kept (n == m) 64 place (sym (ap (λ o. where_so (not (same_size o other)) 64 place) e ∙ ap (λ o. where_so (not (same_size (Some n) o)) 64 place) f) ∙ h)))
+      sym (same_numbers n m (kept (n == m) 64 place (sym (ap (λ o. where_so (not (same_size o other)) 64 place) e
+      ∙ ap (λ o. where_so (not (same_size (Some n) o)) 64 place) f) ∙ h)))
 
-  literal_same : (place : Place) (size : ℕ) (value : LiteralValue) → where_so (not (same_size (Some size) (literal_size value))) 64 place ≡ [] → text_size items (replacing_literal size value) ≡ size
+  literal_same : (place : Place) (size : ℕ) (value : LiteralValue)
+      → where_so (not (same_size (Some size) (literal_size value))) 64 place ≡ []
+      → text_size items (replacing_literal size value) ≡ size
   literal_same place size (literal.Figurative constant) h = length-replicate size (figurative_byte constant)
   literal_same place size (literal.Numeric number) h = sizes_are_same place (Some size) _ size _ refl refl h
   literal_same place size (literal.Nonnumeric bytes) h = sizes_are_same place (Some size) _ size _ refl refl h
   literal_same place size (literal.All bytes) h = sizes_are_same place (Some size) _ size _ refl refl h
 
-  by_same : (size : ℕ) (by : Operand) → by_rules items (Some size) by ≡ [] → text_size items (replacing_text size by) ≡ size
+  by_same : (size : ℕ) (by : Operand) → by_rules items (Some size) by ≡ []
+      → text_size items (replacing_text size by) ≡ size
   by_same size (operand.Item one) e =
       let rules = inspected_rules items (operand.Item one) in
-      sizes_are_same (operand_place (operand.Item one)) (Some size) (replacing_size items (operand.Item one)) size _ refl (item_size one (left_none rules _ e)) (right_none rules _ e)
-  by_same size (operand.Literal one) e = literal_same (operand_place (operand.Literal one)) size one.value (right_none (inspected_rules items (operand.Literal one)) _ e)
+      sizes_are_same (operand_place (operand.Item one)) (Some size) (replacing_size items (operand.Item one)) size _
+      refl (item_size one (left_none rules _ e)) (right_none rules _ e)
+  by_same size (operand.Literal one) e = literal_same (operand_place (operand.Literal one)) size one.value
+      (right_none (inspected_rules items (operand.Literal one)) _ e)
 
   -- ---- from the rules: some characters
 
-  characters_some : (bytes : List ℕ) → (nat_le 1 (length bytes) && nat_le (length bytes) most_literal_characters) ≡ true → 1 ≤ length bytes
+  characters_some : (bytes : List ℕ) → (nat_le 1 (length bytes) && nat_le (length bytes) most_literal_characters)
+      ≡ true → 1 ≤ length bytes
   characters_some bytes e = grind (arith, nat_tests)
 
-  value_some : (one : Literal) (value : LiteralValue) → inspected_literal one value ≡ [] → has_form value ≡ true → 1 ≤ length (shown_literal value)
+  value_some : (one : Literal) (value : LiteralValue) → inspected_literal one value ≡ [] → has_form value ≡ true
+      → 1 ≤ length (shown_literal value)
   value_some one (literal.Numeric number) e h = absurd cc
   value_some one (literal.Nonnumeric bytes) e h = characters_some bytes h
   value_some one (literal.Figurative constant) e h = omega arith
   value_some one (literal.All bytes) e h = characters_some bytes h
 
-  form_kept : (one : Literal) (value : LiteralValue) → inspected_literal one value ≡ [] → one.value ≡ value → has_form value ≡ true
+  form_kept : (one : Literal) (value : LiteralValue) → inspected_literal one value ≡ [] → one.value ≡ value
+      → has_form value ≡ true
   form_kept one (literal.Numeric number) e is = absurd cc
-  form_kept one (literal.Nonnumeric bytes) e is = ap has_form (sym is) ∙ kept (has_form one.value) (form_rule one.value) one.place e
+  form_kept one (literal.Nonnumeric bytes) e is = ap has_form (sym is)
+      ∙ kept (has_form one.value) (form_rule one.value) one.place e
   form_kept one (literal.Figurative constant) e is = refl
-  form_kept one (literal.All bytes) e is = ap has_form (sym is) ∙ kept (has_form one.value) (form_rule one.value) one.place e
+  form_kept one (literal.All bytes) e is = ap has_form (sym is)
+      ∙ kept (has_form one.value) (form_rule one.value) one.place e
 
   module _ (sized : AllByRecursion (λ one. 1 ≤ one.item.length) items) where
     item_some : (one : Reference) → item_rules items inspected_item one ≡ [] → IsSome (Bytes one)
     item_some one e =
         let found = only_named one.item.name.place _ (items_named items one.item) (left_none _ _ e) in
         let P : Placed → Type 0 = λ x. 1 ≤ x.item.length in
-        let there : AllByRecursion P (found.0 ∷ []) = subst (AllByRecursion P) found.1 (filtered P (is_item one.item) items sized) in
+        let there : AllByRecursion P (found.0 ∷ []) = subst (AllByRecursion P) found.1
+        (filtered P (is_item one.item) items sized) in
         subst (λ n. 1 ≤ n) (sym (ap (λ l. found_size (first l)) found.1)) there.0
 
     operand_some : (one : Operand) → inspected_rules items one ≡ [] → IsSome (source one)
@@ -222,68 +266,119 @@ module _ (items : List Placed) where
     limit_some None e = tt
     limit_some (Some one) e = operand_some one e
 
-    ordered_some : (before after : Option Operand) (turned : Bool) → ordered_limits items before after turned ≡ [] → SomeLimit before × SomeLimit after
-    ordered_some before after true e = (limit_some before (right_none (limit_rules items after) (limit_rules items before) e), limit_some after (left_none (limit_rules items after) (limit_rules items before) e))
-    ordered_some before after false e = (limit_some before (left_none (limit_rules items before) (limit_rules items after) e), limit_some after (right_none (limit_rules items before) (limit_rules items after) e))
+    ordered_some : (before after : Option Operand) (turned : Bool) → ordered_limits items before after turned ≡ []
+        → SomeLimit before × SomeLimit after
+    ordered_some before after true
+        e = (
+          limit_some before (right_none (limit_rules items after) (limit_rules items before) e),
+          limit_some after
+              (left_none (limit_rules items after) (limit_rules items before) e),
+        )
+    ordered_some before after false
+        e = (
+          limit_some before (left_none (limit_rules items before) (limit_rules items after) e),
+          limit_some after
+              (right_none (limit_rules items before) (limit_rules items after) e),
+        )
 
     limits_some : (one : Limits) → limits_rules items one ≡ [] → SomeLimit one.before × SomeLimit one.after
     limits_some one e = ordered_some one.before one.after one.after_first e
 
-    all_sized : {A : Type 0} (rules : A → List Broken) (entries : A → List Inspected) → ((one : A) → rules one ≡ [] → AreSized (entries one))
+    all_sized : {A : Type 0} (rules : A → List Broken) (entries : A → List Inspected)
+        → ((one : A) → rules one ≡ [] → AreSized (entries one))
         → (all : List A) → each rules all ≡ [] → AreSized (all_inspected entries all)
     all_sized rules entries keep [] e = tt
     all_sized rules entries keep (one ∷ more) e =
-        all_both IsSized (entries one) (all_inspected entries more) (keep one (left_none (rules one) (each rules more) e))
+        all_both IsSized (entries one) (all_inspected entries more)
+        (keep one (left_none (rules one) (each rules more) e))
         (all_sized rules entries keep more (right_none (rules one) (each rules more) e))
 
     -- TALLYING
 
-    tallied_text_sized : (kind : Occurrences) (one : TalliedText) → tallied_text_rules items one ≡ [] → AreSized (tallied_text kind one ∷ [])
+    tallied_text_sized : (kind : Occurrences) (one : TalliedText) → tallied_text_rules items one ≡ []
+        → AreSized (tallied_text kind one ∷ [])
     tallied_text_sized kind one e =
-        let limits = limits_some one.limits (right_none (inspected_rules items one.text) (limits_rules items one.limits) e) in
-        (record { what = operand_some one.text (left_none (inspected_rules items one.text) (limits_rules items one.limits) e); by = tt; before = limits.0; after = limits.1 }, tt)
+        let limits = limits_some one.limits
+        (right_none (inspected_rules items one.text) (limits_rules items one.limits) e) in (
+          record {
+            what = operand_some one.text
+                (left_none (inspected_rules items one.text) (limits_rules items one.limits) e);
+            by = tt;
+            before = limits.0;
+            after = limits.1;
+          },
+          tt,
+        )
 
     tallied_sized : (one : Tallied) → tallied_rules items one ≡ [] → AreSized (tallied_entries one)
-    tallied_sized (tallied.Characters limits) e = let h = limits_some limits e in (record { what = tt; by = tt; before = h.0; after = h.1 }, tt)
-    tallied_sized (tallied.Texts kind texts) e = all_sized (tallied_text_rules items) (λ one. tallied_text kind one ∷ []) (tallied_text_sized kind) texts e
+    tallied_sized (tallied.Characters limits) e = let h = limits_some limits e in
+        (record { what = tt; by = tt; before = h.0; after = h.1 }, tt)
+    tallied_sized (tallied.Texts kind texts) e = all_sized (tallied_text_rules items)
+        (λ one. tallied_text kind one ∷ []) (tallied_text_sized kind) texts e
 
     counter_sized : (one : Tallying) → tallying_rules items one ≡ [] → AreSized (counter_entries one)
-    counter_sized one e = all_sized (tallied_rules items) tallied_entries tallied_sized one.tallied (right_none (item_rules items counter_item one.counter) (each (tallied_rules items) one.tallied) e)
+    counter_sized one e = all_sized (tallied_rules items) tallied_entries tallied_sized one.tallied
+        (right_none (item_rules items counter_item one.counter) (each (tallied_rules items) one.tallied) e)
 
     -- REPLACING
 
-    replaced_text_sized : (kind : Occurrences) (one : ReplacedText) → replaced_text_rules items one ≡ [] → AreSized (replaced_text items kind one ∷ [])
+    replaced_text_sized : (kind : Occurrences) (one : ReplacedText) → replaced_text_rules items one ≡ []
+        → AreSized (replaced_text items kind one ∷ [])
     replaced_text_sized kind one e =
         let a = inspected_rules items one.text in
         let b = by_rules items (size_of items one.text) one.by in
         let c = limits_rules items one.limits in
         let f = left_none (a ++ b) c e in
         let size = text_size items (source one.text) in
-        let by = subst (λ o. by_rules items o one.by ≡ []) (known_size one.text (left_none a b f)) (right_none a b f) in
-        let limits = limits_some one.limits (right_none (a ++ b) c e) in
-        (record { what = operand_some one.text (left_none a b f); by = by_same size one.by by; before = limits.0; after = limits.1 }, tt)
+        let by = subst (λ o. by_rules items o one.by ≡ []) (known_size one.text (left_none a b f))
+        (right_none a b f) in
+        let limits = limits_some one.limits (right_none (a ++ b) c e) in (
+          record {
+            what = operand_some one.text (left_none a b f);
+            by = by_same size one.by by;
+            before = limits.0;
+            after = limits.1;
+          },
+          tt,
+        )
 
     replacing_sized : (one : Replacing) → replacing_rules items one ≡ [] → AreSized (replacing_entries items one)
     replacing_sized (replacing.Characters by limits) e =
-        let h = limits_some limits (right_none (by_rules items (Some 1) by) (limits_rules items limits) e) in
-        (record { what = tt; by = by_same 1 by (left_none (by_rules items (Some 1) by) (limits_rules items limits) e); before = h.0; after = h.1 }, tt)
-    replacing_sized (replacing.Texts kind texts) e = all_sized (replaced_text_rules items) (λ one. replaced_text items kind one ∷ []) (replaced_text_sized kind) texts e
+        let h = limits_some limits (right_none (by_rules items (Some 1) by) (limits_rules items limits) e) in (
+          record {
+            what = tt;
+            by = by_same 1 by (left_none (by_rules items (Some 1) by) (limits_rules items limits) e);
+            before = h.0;
+            after = h.1;
+          },
+          tt,
+        )
+    replacing_sized (replacing.Texts kind texts) e = all_sized (replaced_text_rules items)
+        (λ one. replaced_text items kind one ∷ []) (replaced_text_sized kind) texts e
 
     -- ---- INSPECT
 
-    kept_mean : (one : Inspecting) (storage : Storage) → inspect_rules items one ≡ [] → inspect items one storage ≡ inspect_by_spans items one storage
+    kept_mean : (one : Inspecting) (storage : Storage) → inspect_rules items one ≡ []
+        → inspect items one storage ≡ inspect_by_spans items one storage
     kept_mean one storage e =
         let a = item_rules items inspected_item one.subject in
         let b = each (tallying_rules items) one.tallying in
         let c = each (replacing_rules items) one.replacing in
         let size = inspected_size items one in
         let whole = whole_size items one in
-        let tallying = all_sized (tallying_rules items) counter_entries counter_sized one.tallying (right_none a b (left_none (a ++ b) c e)) in
-        let replacing = all_sized (replacing_rules items) (replacing_entries items) replacing_sized one.replacing (right_none (a ++ b) c e) in
+        let tallying = all_sized (tallying_rules items) counter_entries counter_sized one.tallying
+        (right_none a b (left_none (a ++ b) c e)) in
+        let replacing = all_sized (replacing_rules items) (replacing_entries items) replacing_sized one.replacing
+        (right_none (a ++ b) c e) in
         sym (spans_mean items one storage
-        (All-from_recursion (IsEntry size) (entries_at items 0 (all_tallied items one)) (entries_within (all_tallied items one) 0 size tallying (omega (arith, whole))))
-        (All-from_recursion (IsEntry size) (entries_at items (tallied_size items one) (all_replaced items one)) (entries_within (all_replaced items one) (tallied_size items one) size replacing (omega (arith, whole)))))
+        (All-from_recursion (IsEntry size) (entries_at items 0 (all_tallied items one))
+        (entries_within (all_tallied items one) 0 size tallying (omega (arith, whole))))
+        (All-from_recursion (IsEntry size) (entries_at items (tallied_size items one) (all_replaced items one))
+        (entries_within (all_replaced items one) (tallied_size items one) size replacing (omega (arith, whole)))))
 
-pub inspected_alike : (items : List Placed) → ((n : ℕ) (item : Placed) → slice_get items n ≡ Some item → 1 ≤ item.item.length)
-    → (one : Inspecting) (storage : Storage) → inspect_rules items one ≡ [] → inspect items one storage ≡ inspect_by_spans items one storage
-inspected_alike items sized one storage e = kept_mean items (by_number (λ item. 1 ≤ item.item.length) items sized) one storage e
+pub inspected_alike : (items : List Placed) → ((n : ℕ) (item : Placed) → slice_get items n ≡ Some item
+    → 1 ≤ item.item.length)
+    → (one : Inspecting) (storage : Storage) → inspect_rules items one ≡ []
+    → inspect items one storage ≡ inspect_by_spans items one storage
+inspected_alike items sized one storage e = kept_mean items (by_number (λ item. 1 ≤ item.item.length) items sized) one
+    storage e

@@ -29,14 +29,17 @@ use Rattle.source_tree.proofs.InspectTaking.{Alike, okay, bind_same, bind_ok, si
 summed : (count : ℕ → ℕ) (from n k : ℕ) → n ≤ k → sum (take n (of_each count from k)) ≡ fits_together count from n
 summed count from zero k le = refl
 summed count from (suc n) zero le = absurd (omega (arith, le))
-summed count from (suc n) (suc k) le = sum_by-cons (λ x. x) (count from) (take n (of_each count (from + 1) k)) ∙ ap (λ m. count from + m) (summed count (from + 1) n k (omega (arith, le)))
+summed count from (suc n) (suc k) le = sum_by-cons (λ x. x) (count from) (take n (of_each count (from + 1) k))
+    ∙ ap (λ m. count from + m) (summed count (from + 1) n k (omega (arith, le)))
 
 further : (count : ℕ → ℕ) (from n k : ℕ) → n ≤ k → drop n (of_each count from k) ≡ of_each count (from + n) (k - n)
 further count from zero k le = ap (λ m. of_each count m k) (omega arith) ∙ ap (of_each count (from + 0)) (omega arith)
 further count from (suc n) zero le = absurd (omega (arith, le))
-further count from (suc n) (suc k) le = further count (from + 1) n k (omega (arith, le)) ∙ ap (λ m. of_each count m (k - n)) (omega arith) ∙ ap (of_each count (from + suc n)) (omega arith)
+further count from (suc n) (suc k) le = further count (from + 1) n k (omega (arith, le))
+    ∙ ap (λ m. of_each count m (k - n)) (omega arith) ∙ ap (of_each count (from + suc n)) (omega arith)
 
-counts_same : (counters : List meaning.Counter) (count : ℕ → ℕ) (from k : ℕ) → k ≡ length (meaning.all_entries counters)
+counts_same : (counters : List meaning.Counter) (count : ℕ → ℕ) (from k : ℕ)
+    → k ≡ length (meaning.all_entries counters)
     → counter_fits counters (of_each count from k) ≡ counted count from (map (λ one. length one.entries) counters)
 counts_same [] count from k e = refl
 counts_same (one ∷ more) count from k e =
@@ -57,71 +60,100 @@ abbrev only : List ℕ → InspectTaken
 only texts = record { counters = []; texts = texts }
 
 counter_before : (p : Evaluated ItemPlace) (u v : Evaluated InspectTaken)
-    → (p >>= (λ place. (u >>= (λ a. v >>= (λ b. okay (both a b)))) >>= (λ t. okay (with_counter place t)))) ≡ ((p >>= (λ place. u >>= (λ t. okay (with_counter place t)))) >>= (λ a. v >>= (λ b. okay (both a b))))
+    → (p >>= (λ place. (u >>= (λ a. v >>= (λ b. okay (both a b)))) >>= (λ t. okay (with_counter place t))))
+    ≡ ((p >>= (λ place. u >>= (λ t. okay (with_counter place t)))) >>= (λ a. v >>= (λ b. okay (both a b))))
 counter_before (Err f) u v = refl
 counter_before (Ok place) (Err f) v = refl
 counter_before (Ok place) (Ok a) (Err f) = refl
 counter_before (Ok place) (Ok a) (Ok b) = refl
 
 text_before : (text : List ℕ) (u v : Evaluated InspectTaken)
-    → ((u >>= (λ a. v >>= (λ b. okay (both a b)))) >>= (λ t. okay (with_text text t))) ≡ ((u >>= (λ t. okay (with_text text t))) >>= (λ a. v >>= (λ b. okay (both a b))))
+    → ((u >>= (λ a. v >>= (λ b. okay (both a b)))) >>= (λ t. okay (with_text text t)))
+    ≡ ((u >>= (λ t. okay (with_text text t))) >>= (λ a. v >>= (λ b. okay (both a b))))
 text_before text (Err f) v = refl
 text_before text (Ok a) (Err f) = refl
-text_before text (Ok a) (Ok b) = ap (λ (l : List ℕ). okay (record (both a b) { texts = l })) (sym (append_assoc text a.texts b.texts))
+text_before text (Ok a) (Ok b) = ap (λ (l : List ℕ). okay (record (both a b) { texts = l }))
+    (sym (append_assoc text a.texts b.texts))
 
 item_before : (p : Evaluated ItemPlace) (text : ItemPlace → List ℕ) (u v : Evaluated InspectTaken)
-    → (p >>= (λ place. (u >>= (λ a. v >>= (λ b. okay (both a b)))) >>= (λ t. okay (with_text (text place) t)))) ≡ ((p >>= (λ place. u >>= (λ t. okay (with_text (text place) t)))) >>= (λ a. v >>= (λ b. okay (both a b))))
+    → (p >>= (λ place. (u >>= (λ a. v >>= (λ b. okay (both a b)))) >>= (λ t. okay (with_text (text place) t))))
+    ≡ ((p >>= (λ place. u >>= (λ t. okay (with_text (text place) t)))) >>= (λ a. v >>= (λ b. okay (both a b))))
 item_before (Err f) text u v = refl
 item_before (Ok place) text u v = text_before (text place) u v
 
 only_item : (p : Evaluated ItemPlace) (text : ItemPlace → List ℕ) (u : Evaluated (List ℕ))
-    → (p >>= (λ place. (u >>= (λ a. okay (only a))) >>= (λ t. okay (with_text (text place) t)))) ≡ (((p >>= (λ place. okay (text place))) >>= (λ t. u >>= (λ o. okay (t ++ o)))) >>= (λ a. okay (only a)))
+    → (p >>= (λ place. (u >>= (λ a. okay (only a))) >>= (λ t. okay (with_text (text place) t))))
+    ≡ (((p >>= (λ place. okay (text place))) >>= (λ t. u >>= (λ o. okay (t ++ o)))) >>= (λ a. okay (only a)))
 only_item (Err f) text u = refl
 only_item (Ok place) text (Err f) = refl
 only_item (Ok place) text (Ok a) = refl
 
-only_text : (text : List ℕ) (u : Evaluated (List ℕ)) → ((u >>= (λ a. okay (only a))) >>= (λ t. okay (with_text text t))) ≡ ((u >>= (λ o. okay (text ++ o))) >>= (λ a. okay (only a)))
+only_text : (text : List ℕ) (u : Evaluated (List ℕ))
+    → ((u >>= (λ a. okay (only a))) >>= (λ t. okay (with_text text t)))
+    ≡ ((u >>= (λ o. okay (text ++ o))) >>= (λ a. okay (only a)))
 only_text text (Err f) = refl
 only_text text (Ok a) = refl
 
 module _ (items : List Placed) (storage : Storage) where
-  take_append : (xs ys : List Taking) → take_each items (xs ++ ys) storage ≡ take_each items xs storage >>= (λ a. take_each items ys storage >>= (λ b. Ok (both a b)))
+  take_append : (xs ys : List Taking)
+      → take_each items (xs ++ ys) storage
+      ≡ take_each items xs storage >>= (λ a. take_each items ys storage >>= (λ b. Ok (both a b)))
   take_append [] ys = bind_ok (take_each items ys storage)
   take_append (Counter one ∷ xs) ys =
-      ap (λ (r : Evaluated InspectTaken). place_of items one storage >>= (λ place. r >>= (λ t. okay (with_counter place t)))) (take_append xs ys)
+      ap (λ (r : Evaluated InspectTaken). place_of items one storage
+      >>= (λ place. r >>= (λ t. okay (with_counter place t)))) (take_append xs ys)
       ∙ counter_before (place_of items one storage) (take_each items xs storage) (take_each items ys storage)
   take_append (Text (Bytes one) ∷ xs) ys =
-      ap (λ (r : Evaluated InspectTaken). place_of items one storage >>= (λ place. r >>= (λ t. okay (with_text (text_at storage place) t)))) (take_append xs ys)
-      ∙ item_before (place_of items one storage) (text_at storage) (take_each items xs storage) (take_each items ys storage)
+      ap (λ (r : Evaluated InspectTaken). place_of items one storage
+      >>= (λ place. r >>= (λ t. okay (with_text (text_at storage place) t)))) (take_append xs ys)
+      ∙ item_before (place_of items one storage) (text_at storage) (take_each items xs storage)
+      (take_each items ys storage)
   take_append (Text (Characters text) ∷ xs) ys =
-      ap (λ (r : Evaluated InspectTaken). r >>= (λ t. okay (with_text text t))) (take_append xs ys) ∙ text_before text (take_each items xs storage) (take_each items ys storage)
+      ap (λ (r : Evaluated InspectTaken). r >>= (λ t. okay (with_text text t))) (take_append xs ys)
+      ∙ text_before text (take_each items xs storage) (take_each items ys storage)
 
-  only_texts : (texts : List Source) → take_each items (map Text texts) storage ≡ read_all items storage texts >>= (λ a. Ok (only a))
+  only_texts : (texts : List Source)
+      → take_each items (map Text texts) storage ≡ read_all items storage texts >>= (λ a. Ok (only a))
   only_texts [] = refl
   only_texts (Bytes one ∷ more) =
-      ap (λ (r : Evaluated InspectTaken). place_of items one storage >>= (λ place. r >>= (λ t. okay (with_text (text_at storage place) t)))) (only_texts more)
+      ap (λ (r : Evaluated InspectTaken). place_of items one storage
+      >>= (λ place. r >>= (λ t. okay (with_text (text_at storage place) t)))) (only_texts more)
       ∙ only_item (place_of items one storage) (text_at storage) (read_all items storage more)
   only_texts (Characters text ∷ more) =
-      ap (λ (r : Evaluated InspectTaken). r >>= (λ t. okay (with_text text t))) (only_texts more) ∙ only_text text (read_all items storage more)
+      ap (λ (r : Evaluated InspectTaken). r >>= (λ t. okay (with_text text t))) (only_texts more)
+      ∙ only_text text (read_all items storage more)
 
   -- ---- counters and their entries
 
-  entries_long : (all : List Inspected) (texts : List ℕ) (at : ℕ) → length (entries_in items storage all texts at) ≡ length all
+  entries_long : (all : List Inspected) (texts : List ℕ) (at : ℕ)
+      → length (entries_in items storage all texts at) ≡ length all
   entries_long [] texts at = refl
   entries_long (one ∷ more) texts at = ap suc (entries_long more texts (at + text_sizes items (entry_texts one)))
 
   abbrev EntriesRead : List Inspected → List ℕ → List TextEntry → Type 0
-  EntriesRead all bytes entries = Reads (List TextEntry) (text_sizes items (entries_texts all)) bytes (entries_in items storage all) entries
+  EntriesRead all bytes entries = Reads (List TextEntry) (text_sizes items (entries_texts all)) bytes
+      (entries_in items storage all) entries
 
-  read_both : (xs ys : List Inspected) (a b : List ℕ) (front back : List TextEntry) → EntriesRead xs a front → EntriesRead ys b back → EntriesRead (xs ++ ys) (a ++ b) (front ++ back)
+  read_both : (xs ys : List Inspected) (a b : List ℕ) (front back : List TextEntry) → EntriesRead xs a front
+      → EntriesRead ys b back → EntriesRead (xs ++ ys) (a ++ b) (front ++ back)
   read_both xs ys a b front back h k =
       let n = text_sizes items (entries_texts xs) in
       let m = text_sizes items (entries_texts ys) in
       let on = λ (found : List TextEntry) (texts : List ℕ) (at : ℕ). found ++ entries_in items storage ys texts at in
-      let behind : Reads (List TextEntry) m b (on front) (front ++ back) = record { size_is = k.size_is; found = λ l r. ap (λ es. front ++ es) (k.found l r) } in
-      let whole = reads_then (List TextEntry) (List TextEntry) n m a b (entries_in items storage xs) on front (front ++ back) h behind in
-      let sizes : text_sizes items (entries_texts (xs ++ ys)) ≡ n + m = ap (text_sizes items) (texts_append xs ys) ∙ sizes_append items (entries_texts xs) (entries_texts ys) in
-      record { size_is = whole.size_is ∙ sym sizes; found = λ l r. entries_append items storage xs ys (l ++ ((a ++ b) ++ r)) (length l) ∙ whole.found l r }
+      let behind : Reads (List TextEntry) m b (on front) (front ++ back) = record {
+        size_is = k.size_is;
+        found = λ l r. ap (λ es. front ++ es) (k.found l r);
+      } in
+      let whole = reads_then (List TextEntry) (List TextEntry) n m a b (entries_in items storage xs) on front
+      (front ++ back) h behind in
+      let sizes : text_sizes items (entries_texts (xs ++ ys)) ≡ n + m = ap (text_sizes items) (texts_append xs ys)
+      ∙ sizes_append items (entries_texts xs) (entries_texts ys) in
+      record {
+        size_is = whole.size_is
+            ∙ sym sizes;
+        found = λ l r. entries_append items storage xs ys (l ++ ((a ++ b) ++ r)) (length l)
+            ∙ whole.found l r;
+      }
 
   record CountersTaken (all : List Tallying) (taken : InspectTaken) (counters : List meaning.Counter) : Type 0 where
     places : taken.counters ≡ map (λ one. one.place) counters
@@ -131,10 +163,14 @@ module _ (items : List Placed) (storage : Storage) where
   abbrev made : ItemPlace → List TextEntry → List meaning.Counter
   made place entries = record { place = place; entries = entries } ∷ []
 
-  one_more : (one : Tallying) (more : List Tallying) (p : Evaluated ItemPlace) (u : Evaluated (List ℕ)) (v : Evaluated (List TextEntry)) (x : Evaluated InspectTaken) (y : Evaluated (List meaning.Counter))
+  one_more : (one : Tallying) (more : List Tallying) (p : Evaluated ItemPlace) (u : Evaluated (List ℕ))
+      (v : Evaluated (List TextEntry)) (x : Evaluated InspectTaken) (y : Evaluated (List meaning.Counter))
       → Alike (EntriesRead (counter_entries one)) u v → Alike (CountersTaken more) x y
-      → Alike (CountersTaken (one ∷ more)) (p >>= (λ place. ((u >>= (λ a. okay (only a))) >>= (λ a. x >>= (λ b. okay (both a b)))) >>= (λ t. okay (with_counter place t))))
-      ((p >>= (λ place. v >>= (λ entries. okay (made place entries)))) >>= (λ front. y >>= (λ back. okay (front ++ back))))
+      → Alike (CountersTaken (one ∷ more))
+      (p >>= (λ place. ((u >>= (λ a. okay (only a))) >>= (λ a. x >>= (λ b. okay (both a b))))
+      >>= (λ t. okay (with_counter place t))))
+      ((p >>= (λ place. v >>= (λ entries. okay (made place entries))))
+      >>= (λ front. y >>= (λ back. okay (front ++ back))))
   one_more one more (Err f) u v x y h k = refl
   one_more one more (Ok place) (Err f) (Err g) x y h k = h
   one_more one more (Ok place) (Err f) (Ok b) x y h k = absurd h
@@ -145,13 +181,21 @@ module _ (items : List Placed) (storage : Storage) where
   one_more one more (Ok place) (Ok a) (Ok entries) (Ok x) (Ok y) h k = record {
     places = ap (λ l. place ∷ l) k.places;
     sizes =
-        ap (λ n. n ∷ map (λ (c : meaning.Counter). length c.entries) y) (sym (ap length (h.found [] [])) ∙ entries_long (counter_entries one) (a ++ []) 0)
+        ap (λ n. n ∷ map (λ (c : meaning.Counter). length c.entries) y) (sym (ap length (h.found [] []))
+        ∙ entries_long (counter_entries one) (a ++ []) 0)
         ∙ ap (λ l. length (counter_entries one) ∷ l) k.sizes;
-    entries = read_both (counter_entries one) (all_inspected counter_entries more) a x.texts entries (meaning.all_entries y) h k.entries;
+    entries = read_both (counter_entries one) (all_inspected counter_entries more) a x.texts entries
+        (meaning.all_entries y) h k.entries;
   }
 
-  counters_taken : (all : List Tallying) → Alike (CountersTaken all) (take_each items (tallying_takings all) storage) (take_all (take_counter items storage) all)
-  counters_taken [] = record { places = refl; sizes = refl; entries = record { size_is = refl; found = λ front back. refl } }
+  counters_taken : (all : List Tallying)
+      → Alike (CountersTaken all) (take_each items (tallying_takings all) storage)
+      (take_all (take_counter items storage) all)
+  counters_taken [] = record {
+    places = refl;
+    sizes = refl;
+    entries = record { size_is = refl; found = λ front back. refl };
+  }
   counters_taken (one ∷ more) =
       let texts = entries_texts (counter_entries one) in
       let p = place_of items one.counter storage in
@@ -159,9 +203,13 @@ module _ (items : List Placed) (storage : Storage) where
       let u = read_all items storage texts in
       let y = take_all (take_counter items storage) more in
       let v = take_all (take_tallied items storage) one.tallied in
-      let same : take_each items (map Text texts ++ tallying_takings more) storage ≡ (u >>= (λ a. okay (only a))) >>= (λ a. x >>= (λ b. okay (both a b))) =
-      take_append (map Text texts) (tallying_takings more) ∙ ap (λ (r : Evaluated InspectTaken). r >>= (λ a. x >>= (λ b. okay (both a b)))) (only_texts texts) in
-      subst (λ (r : Evaluated InspectTaken). Alike (CountersTaken (one ∷ more)) (p >>= (λ place. r >>= (λ t. okay (with_counter place t)))) (take_all (take_counter items storage) (one ∷ more))) (sym same)
+      let same : take_each items (map Text texts ++ tallying_takings more) storage
+      ≡ (u >>= (λ a. okay (only a))) >>= (λ a. x >>= (λ b. okay (both a b))) =
+      take_append (map Text texts) (tallying_takings more)
+      ∙ ap (λ (r : Evaluated InspectTaken). r >>= (λ a. x >>= (λ b. okay (both a b)))) (only_texts texts) in
+      subst (λ (r : Evaluated InspectTaken). Alike (CountersTaken (one ∷ more))
+      (p >>= (λ place. r >>= (λ t. okay (with_counter place t))))
+      (take_all (take_counter items storage) (one ∷ more))) (sym same)
       (one_more one more p u v x y (takes_counter items storage one) (counters_taken more))
 
 -- ---- sizes
@@ -176,7 +224,8 @@ module _ (items : List Placed) where
   taken_texts [] = refl
   taken_texts (x ∷ xs) = omega (arith, taken_texts xs)
 
-  taken_tallying : (all : List Tallying) → taken_size items (tallying_takings all) ≡ text_sizes items (entries_texts (all_inspected counter_entries all))
+  taken_tallying : (all : List Tallying)
+      → taken_size items (tallying_takings all) ≡ text_sizes items (entries_texts (all_inspected counter_entries all))
   taken_tallying [] = refl
   taken_tallying (x ∷ xs) =
       let texts = entries_texts (counter_entries x) in
@@ -184,11 +233,14 @@ module _ (items : List Placed) where
       let a = taken_append (map Text texts) (tallying_takings xs) in
       let b = taken_texts texts in
       let c = taken_tallying xs in
-      let d : text_sizes items (entries_texts (counter_entries x ++ others)) ≡ text_sizes items texts + text_sizes items (entries_texts others) =
-      ap (text_sizes items) (texts_append (counter_entries x) others) ∙ sizes_append items texts (entries_texts others) in
+      let d : text_sizes items (entries_texts (counter_entries x ++ others))
+      ≡ text_sizes items texts + text_sizes items (entries_texts others) =
+      ap (text_sizes items) (texts_append (counter_entries x) others)
+      ∙ sizes_append items texts (entries_texts others) in
       omega (arith, a, b, c, d)
 
-  pub whole_size : (one : Inspecting) → inspected_size items one ≡ tallied_size items one + text_sizes items (entries_texts (all_replaced items one))
+  pub whole_size : (one : Inspecting)
+      → inspected_size items one ≡ tallied_size items one + text_sizes items (entries_texts (all_replaced items one))
   whole_size one =
       let texts = entries_texts (all_replaced items one) in
       let a = taken_append (tallying_takings one.tallying) (map Text texts) in
@@ -208,68 +260,103 @@ module _ (items : List Placed) where
   have_both [] ys h k = k
   have_both (x ∷ xs) ys h k = (h.0, have_both xs ys h.1 k)
 
-  have_all : {A : Type 0} (inspected : A → List Inspected) → ((one : A) → HaveBy (inspected one)) → (all : List A) → HaveBy (all_inspected inspected all)
+  have_all : {A : Type 0} (inspected : A → List Inspected) → ((one : A) → HaveBy (inspected one)) → (all : List A)
+      → HaveBy (all_inspected inspected all)
   have_all inspected each [] = tt
-  have_all inspected each (one ∷ more) = have_both (inspected one) (all_inspected inspected more) (each one) (have_all inspected each more)
+  have_all inspected each (one ∷ more) = have_both (inspected one) (all_inspected inspected more) (each one)
+      (have_all inspected each more)
 
   replacing_have : (one : Replacing) → HaveBy (replacing_entries items one)
   replacing_have (replacing.Characters by limits) = (some_is _, tt)
-  replacing_have (replacing.Texts kind texts) = have_all (λ one. replaced_text items kind one ∷ []) (λ one. (some_is _, tt)) texts
+  replacing_have (replacing.Texts kind texts) = have_all (λ one. replaced_text items kind one ∷ [])
+      (λ one. (some_is _, tt)) texts
 
   span_has : (at : ℕ) (one : Option Source) → one ≢ None → by_span items at one ≢ None
   span_has at None h = absurd (h refl)
   span_has at (Some x) h = λ e. absurd cc
 
-  entries_have : (size at : ℕ) (all : List Inspected) → HaveBy all → AllByRecursion (IsEntry size) (entries_at items at all) → AllByRecursion (λ one. IsEntry size one × HasBy one) (entries_at items at all)
+  entries_have : (size at : ℕ) (all : List Inspected) → HaveBy all
+      → AllByRecursion (IsEntry size) (entries_at items at all)
+      → AllByRecursion (λ one. IsEntry size one × HasBy one) (entries_at items at all)
   entries_have size at [] h k = tt
-  entries_have size at (one ∷ more) h k = ((k.0, span_has (by_at items at one) one.by h.0), entries_have size (at + text_sizes items (entry_texts one)) more h.1 k.1)
+  entries_have size at (one ∷ more) h k = (
+    (k.0, span_has (by_at items at one) one.by h.0),
+    entries_have size (at + text_sizes items (entry_texts one)) more h.1 k.1,
+  )
 
 -- ---- the stores
 
-store_same : (texts : List ℕ) (all : List Entry) (bytes : List ℕ) (subject : ItemPlace) (storage : Storage) → replaced_subject (map (entry_of texts) all) bytes ≡ spans.replaced texts all bytes
+store_same : (texts : List ℕ) (all : List Entry) (bytes : List ℕ) (subject : ItemPlace) (storage : Storage)
+    → replaced_subject (map (entry_of texts) all) bytes ≡ spans.replaced texts all bytes
     → store_replaced texts all bytes subject storage ≡ store_text (map (entry_of texts) all) bytes subject storage
 store_same texts [] bytes subject storage e = refl
 store_same texts (one ∷ more) bytes subject storage e = ap (λ l. storing subject l storage) (sym e)
 
 module _ (items : List Placed) (one : Inspecting) (storage : Storage)
-    (tallying_within : AreWithin (inspection items one).tallying (inspected_size items one)) (replacing_within : AreWithin (inspection items one).replacing (inspected_size items one)) where
-  inspected_same : (subject : ItemPlace) (a b : InspectTaken) (counters : List meaning.Counter) (entries : List TextEntry)
-      → CountersTaken items storage one.tallying a counters → EntriesRead items storage (all_replaced items one) b.texts entries → b.counters ≡ []
-      → inspect_at (inspection items one) (both a b).texts (both a b).counters subject storage ≡ count_and_replace counters entries (part_of storage subject) subject storage
+    (tallying_within : AreWithin (inspection items one).tallying (inspected_size items one))
+    (replacing_within : AreWithin (inspection items one).replacing (inspected_size items one)) where
+  inspected_same : (subject : ItemPlace) (a b : InspectTaken) (counters : List meaning.Counter)
+      (entries : List TextEntry)
+      → CountersTaken items storage one.tallying a counters
+      → EntriesRead items storage (all_replaced items one) b.texts entries → b.counters ≡ []
+      → inspect_at (inspection items one) (both a b).texts (both a b).counters subject storage
+      ≡ count_and_replace counters entries (part_of storage subject) subject storage
   inspected_same subject a b counters entries h k none =
       let texts = a.texts ++ b.texts in
       let bytes = part_of storage subject in
       let how = inspection items one in
       let size = inspected_size items one in
-      let long : length texts ≡ size = omega (arith, length-append a.texts b.texts, h.entries.size_is, k.size_is, whole_size items one) in
-      let places : a.counters ++ b.counters ≡ map (λ (c : meaning.Counter). c.place) counters = ap (λ l. a.counters ++ l) none ∙ append-nil a.counters ∙ h.places in
-      let tallied_are : map (entry_of texts) how.tallying ≡ meaning.all_entries counters = h.entries.found [] b.texts in
+      let sum = length-append a.texts b.texts in
+      let long : length texts ≡ size = omega (arith, sum, h.entries.size_is, k.size_is, whole_size items one) in
+      let places : a.counters ++ b.counters ≡ map (λ (c : meaning.Counter). c.place) counters = ap
+      (λ l. a.counters ++ l) none ∙ append-nil a.counters ∙ h.places in
+      let tallied_are : map (entry_of texts) how.tallying ≡ meaning.all_entries counters = h.entries.found []
+      b.texts in
       let replaced_are : map (entry_of texts) how.replacing ≡ entries =
       ap (λ n. map (entry_of texts) (entries_at items n (all_replaced items one))) (sym h.entries.size_is)
-      ∙ ap (λ l. map (entry_of (a.texts ++ l)) (entries_at items (length a.texts) (all_replaced items one))) (sym (append-nil b.texts))
+      ∙ ap (λ l. map (entry_of (a.texts ++ l)) (entries_at items (length a.texts) (all_replaced items one)))
+      (sym (append-nil b.texts))
       ∙ k.found a.texts [] in
-      let front : AllByRecursion (IsEntry (length texts)) how.tallying = subst (λ n. AllByRecursion (IsEntry n) how.tallying) (sym long) (recursion_from_All (IsEntry size) how.tallying tallying_within) in
+      let front : AllByRecursion (IsEntry (length texts)) how.tallying = subst
+      (λ n. AllByRecursion (IsEntry n) how.tallying) (sym long)
+      (recursion_from_All (IsEntry size) how.tallying tallying_within) in
       let back : AllByRecursion (λ e. IsEntry (length texts) e × HasBy e) how.replacing =
       subst (λ n. AllByRecursion (λ e. IsEntry n e × HasBy e) how.replacing) (sym long)
-      (entries_have items size (tallied_size items one) (all_replaced items one) (have_all items (replacing_entries items) (replacing_have items) one.replacing)
+      (entries_have items size (tallied_size items one) (all_replaced items one)
+      (have_all items (replacing_entries items) (replacing_have items) one.replacing)
       (recursion_from_All (IsEntry size) how.replacing replacing_within)) in
-      let many : length how.tallying ≡ length (meaning.all_entries counters) = sym (length-map how.tallying (entry_of texts)) ∙ ap length tallied_are in
-      let counts : counted (tally texts how.tallying bytes) 0 how.counters ≡ counter_fits counters (tallies (meaning.all_entries counters) bytes) =
+      let many : length how.tallying
+      ≡ length (meaning.all_entries counters) = sym (length-map how.tallying (entry_of texts))
+      ∙ ap length tallied_are in
+      let counts : counted (tally texts how.tallying bytes) 0 how.counters
+      ≡ counter_fits counters (tallies (meaning.all_entries counters) bytes) =
       ap (counted (tally texts how.tallying bytes) 0) (sym h.sizes)
       ∙ sym (counts_same counters (tally texts how.tallying bytes) 0 (length how.tallying) many)
-      ∙ ap (counter_fits counters) (sym (tallied_same texts (IsEntry (length texts)) (λ e is. is) how.tallying bytes front))
+      ∙ ap (counter_fits counters)
+      (sym (tallied_same texts (IsEntry (length texts)) (λ e is. is) how.tallying bytes front))
       ∙ ap (λ l. counter_fits counters (tallies l bytes)) tallied_are in
-      let store : (after : Storage) → store_replaced texts how.replacing bytes subject after ≡ store_text entries bytes subject after = λ after.
-      store_same texts how.replacing bytes subject after (replaced_same texts (λ e. IsEntry (length texts) e × HasBy e) (λ e is. is.0) how.replacing bytes back (λ e is. is.1))
+      let store : (after : Storage) → store_replaced texts how.replacing bytes subject after
+      ≡ store_text entries bytes subject after = λ after.
+      store_same texts how.replacing bytes subject after
+      (replaced_same texts (λ e. IsEntry (length texts) e × HasBy e) (λ e is. is.0) how.replacing bytes back
+      (λ e is. is.1))
       ∙ ap (λ l. store_text l bytes subject after) replaced_are in
-      ap (λ l. add_each l (counted (tally texts how.tallying bytes) 0 how.counters) storage >>= (λ after. okay (store_replaced texts how.replacing bytes subject after))) places
-      ∙ ap (λ l. add_each (map (λ (c : meaning.Counter). c.place) counters) l storage >>= (λ after. okay (store_replaced texts how.replacing bytes subject after))) counts
-      ∙ bind_same (add_each (map (λ (c : meaning.Counter). c.place) counters) (counter_fits counters (tallies (meaning.all_entries counters) bytes)) storage) _ _ (λ after. ap (λ l. okay l) (store after))
+      ap (λ l. add_each l (counted (tally texts how.tallying bytes) 0 how.counters) storage
+      >>= (λ after. okay (store_replaced texts how.replacing bytes subject after))) places
+      ∙ ap (λ l. add_each (map (λ (c : meaning.Counter). c.place) counters) l storage
+      >>= (λ after. okay (store_replaced texts how.replacing bytes subject after))) counts
+      ∙ bind_same (add_each (map (λ (c : meaning.Counter). c.place) counters)
+      (counter_fits counters (tallies (meaning.all_entries counters) bytes)) storage) _ _
+      (λ after. ap (λ l. okay l) (store after))
 
-  taken_same : (subject : ItemPlace) (x : Evaluated InspectTaken) (u : Evaluated (List ℕ)) (v : Evaluated (List meaning.Counter)) (w : Evaluated (List TextEntry))
-      → Alike (CountersTaken items storage one.tallying) x v → Alike (EntriesRead items storage (all_replaced items one)) u w
-      → ((x >>= (λ a. (u >>= (λ t. okay (only t))) >>= (λ b. okay (both a b)))) >>= (λ taken. inspect_at (inspection items one) taken.texts taken.counters subject storage))
-      ≡ (v >>= (λ counters. w >>= (λ entries. count_and_replace counters entries (part_of storage subject) subject storage)))
+  taken_same : (subject : ItemPlace) (x : Evaluated InspectTaken) (u : Evaluated (List ℕ))
+      (v : Evaluated (List meaning.Counter)) (w : Evaluated (List TextEntry))
+      → Alike (CountersTaken items storage one.tallying) x v
+      → Alike (EntriesRead items storage (all_replaced items one)) u w
+      → ((x >>= (λ a. (u >>= (λ t. okay (only t))) >>= (λ b. okay (both a b))))
+      >>= (λ taken. inspect_at (inspection items one) taken.texts taken.counters subject storage))
+      ≡ (v >>= (λ counters. w >>= (λ entries. count_and_replace counters entries (part_of storage subject) subject
+      storage)))
   taken_same subject (Err f) u (Err g) w h k = ap (λ e. Err e) h
   taken_same subject (Err f) u (Ok c) w h k = absurd h
   taken_same subject (Ok a) u (Err g) w h k = absurd h
@@ -283,9 +370,12 @@ module _ (items : List Placed) (one : Inspecting) (storage : Storage)
       let texts = entries_texts (all_replaced items one) in
       let x = take_each items (tallying_takings one.tallying) storage in
       let u = read_all items storage texts in
-      let how = λ (taken : InspectTaken). inspect_at (inspection items one) taken.texts taken.counters subject storage in
+      let how = λ (taken : InspectTaken). inspect_at (inspection items one) taken.texts taken.counters subject
+      storage in
       ap (λ (r : Evaluated InspectTaken). r >>= how)
       (take_append items storage (tallying_takings one.tallying) (map Text texts)
-      ∙ ap (λ (r : Evaluated InspectTaken). x >>= (λ a. r >>= (λ b. okay (both a b)))) (only_texts items storage texts))
-      ∙ taken_same subject x u (take_all (take_counter items storage) one.tallying) (take_all (take_replacing items storage) one.replacing)
+      ∙ ap (λ (r : Evaluated InspectTaken). x >>= (λ a. r >>= (λ b. okay (both a b))))
+      (only_texts items storage texts))
+      ∙ taken_same subject x u (take_all (take_counter items storage) one.tallying)
+      (take_all (take_replacing items storage) one.replacing)
       (counters_taken items storage one.tallying) (takes_all_replaced items storage one.replacing))

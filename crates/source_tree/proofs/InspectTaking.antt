@@ -55,7 +55,8 @@ pub bind_ok : {A : Type 0} (r : Evaluated A) → r ≡ r >>= (λ x. okay x)
 bind_ok (Ok x) = refl
 bind_ok (Err fault) = refl
 
-bound : {A B : Type 0} (r : Evaluated A) (f : A → Evaluated B) (y : B) → r >>= f ≡ Ok y → (x : A) × (r ≡ Ok x) × (f x ≡ Ok y)
+bound : {A B : Type 0} (r : Evaluated A) (f : A → Evaluated B) (y : B) → r >>= f ≡ Ok y
+    → (x : A) × (r ≡ Ok x) × (f x ≡ Ok y)
 bound (Ok x) f y e = (x, refl, e)
 bound (Err fault) f y e = absurd cc
 
@@ -65,7 +66,8 @@ needed_is (Some y) x e = ap Some (same_Ok y x e)
 
 -- ---- a text in a buffer
 
-cut : (front text back : List ℕ) (n : ℕ) → length text ≡ n → slice_range (front ++ (text ++ back)) (length front) (length front + n) ≡ text
+cut : (front text back : List ℕ) (n : ℕ) → length text ≡ n
+    → slice_range (front ++ (text ++ back)) (length front) (length front + n) ≡ text
 cut front text back n e =
     let size : length front + n - length front ≡ n = omega arith in
     ap (λ k. take k (drop (length front) (front ++ (text ++ back)))) size
@@ -73,7 +75,11 @@ cut front text back n e =
     ∙ take_at text back n e
 
 padded_long : (n : ℕ) (text : List ℕ) → length (padded n text) ≡ n
-padded_long n text = omega (arith, length-append (take n text) (replicate (n - length text) space), length-take n text, length-replicate (n - length text) space)
+padded_long n text =
+    let spaces = replicate (n - length text) space in
+    let whole = length-append (take n text) spaces in
+    let many : length spaces ≡ n - length text = length-replicate (n - length text) space in
+    omega (arith, whole, length-take n text, many)
 
 module _ (items : List Placed) where
   pub sizes_append : (xs ys : List Source) → text_sizes items (xs ++ ys) ≡ text_sizes items xs + text_sizes items ys
@@ -82,7 +88,8 @@ module _ (items : List Placed) where
 
 pub texts_append : (xs ys : List Inspected) → entries_texts (xs ++ ys) ≡ entries_texts xs ++ entries_texts ys
 texts_append [] ys = refl
-texts_append (x ∷ xs) ys = ap (λ l. entry_texts x ++ l) (texts_append xs ys) ∙ sym (append_assoc (entry_texts x) (entries_texts xs) (entries_texts ys))
+texts_append (x ∷ xs) ys = ap (λ l. entry_texts x ++ l) (texts_append xs ys)
+    ∙ sym (append_assoc (entry_texts x) (entries_texts xs) (entries_texts ys))
 
 -- These bytes are so many, and wherever they stand in a buffer, this is found there.
 pub record Reads (X : Type 0) (size : ℕ) (bytes : List ℕ) (find : List ℕ → ℕ → X) (x : X) : Type 0 where
@@ -90,7 +97,8 @@ pub record Reads (X : Type 0) (size : ℕ) (bytes : List ℕ) (find : List ℕ �
   pub found : (front back : List ℕ) → find (front ++ (bytes ++ back)) (length front) ≡ x
 
 -- what is found in more bytes, behind what was found before them
-pub reads_then : (X Z : Type 0) (n m : ℕ) (a b : List ℕ) (find : List ℕ → ℕ → X) (on : X → List ℕ → ℕ → Z) (x : X) (z : Z) → Reads X n a find x → Reads Z m b (on x) z
+pub reads_then : (X Z : Type 0) (n m : ℕ) (a b : List ℕ) (find : List ℕ → ℕ → X) (on : X → List ℕ → ℕ
+    → Z) (x : X) (z : Z) → Reads X n a find x → Reads Z m b (on x) z
     → Reads Z (n + m) (a ++ b) (λ texts at. on (find texts at) texts (at + n)) z
 reads_then X Z n m a b find on x z h k = record {
   size_is = omega (arith, length-append a b, h.size_is, k.size_is);
@@ -116,27 +124,36 @@ module _ (items : List Placed) (storage : Storage) where
   read_all [] = Ok []
   read_all (one ∷ more) = read one >>= (λ text. read_all more >>= (λ others. Ok (text ++ others)))
 
-  regroup : (r u v : Evaluated (List ℕ)) → (r >>= (λ t. (u >>= (λ a. v >>= (λ b. okay (a ++ b)))) >>= (λ o. okay (t ++ o)))) ≡ ((r >>= (λ t. u >>= (λ a. okay (t ++ a)))) >>= (λ a. v >>= (λ b. okay (a ++ b))))
+  regroup : (r u v : Evaluated (List ℕ))
+      → (r >>= (λ t. (u >>= (λ a. v >>= (λ b. okay (a ++ b)))) >>= (λ o. okay (t ++ o))))
+      ≡ ((r >>= (λ t. u >>= (λ a. okay (t ++ a)))) >>= (λ a. v >>= (λ b. okay (a ++ b))))
   regroup (Err f) u v = refl
   regroup (Ok t) (Err f) v = refl
   regroup (Ok t) (Ok a) (Err f) = refl
   regroup (Ok t) (Ok a) (Ok b) = ap (λ (l : List ℕ). okay l) (sym (append_assoc t a b))
 
-  read_append : (xs ys : List Source) → read_all (xs ++ ys) ≡ read_all xs >>= (λ a. read_all ys >>= (λ b. Ok (a ++ b)))
+  read_append : (xs ys : List Source)
+      → read_all (xs ++ ys) ≡ read_all xs >>= (λ a. read_all ys >>= (λ b. Ok (a ++ b)))
   read_append [] ys = bind_ok (read_all ys)
   read_append (x ∷ xs) ys =
-      ap (λ (r : Evaluated (List ℕ)). read x >>= (λ t. r >>= (λ o. okay (t ++ o)))) (read_append xs ys) ∙ regroup (read x) (read_all xs) (read_all ys)
+      ap (λ (r : Evaluated (List ℕ)). read x >>= (λ t. r >>= (λ o. okay (t ++ o)))) (read_append xs ys)
+      ∙ regroup (read x) (read_all xs) (read_all ys)
 
-  place_long : (one : Reference) (place : ItemPlace) → place_of items one storage ≡ Ok place → place.item.length ≡ found_size (first (items_named items one.item))
+  place_long : (one : Reference) (place : ItemPlace) → place_of items one storage ≡ Ok place
+      → place.item.length ≡ found_size (first (items_named items one.item))
   place_long one place e =
-      let found = bound (needed (first (items_named items one.item))) (λ it. occurrence items one.subscripts it storage) place e in
-      let behind = bound (bytes_before items found.0.dimensions one.subscripts storage) (λ more. Ok (place_behind found.0 more)) place found.2 in
-      sym (ap (λ (p : ItemPlace). p.item.length) (same_Ok (place_behind found.0 behind.0) place behind.2)) ∙ sym (ap found_size (needed_is (first (items_named items one.item)) found.0 found.1))
+      let found = bound (needed (first (items_named items one.item)))
+      (λ it. occurrence items one.subscripts it storage) place e in
+      let behind = bound (bytes_before items found.0.dimensions one.subscripts storage)
+      (λ more. Ok (place_behind found.0 more)) place found.2 in
+      sym (ap (λ (p : ItemPlace). p.item.length) (same_Ok (place_behind found.0 behind.0) place behind.2))
+      ∙ sym (ap found_size (needed_is (first (items_named items one.item)) found.0 found.1))
 
   read_long : (one : Source) (text : List ℕ) → read one ≡ Ok text → length text ≡ text_size items one
   read_long (Bytes one) text e =
       let there = bound (place_of items one storage) (λ place. okay (text_at storage place)) text e in
-      sym (ap length (same_Ok (text_at storage there.0) text there.2)) ∙ padded_long there.0.item.length (part_of storage there.0) ∙ place_long one there.0 there.1
+      sym (ap length (same_Ok (text_at storage there.0) text there.2))
+      ∙ padded_long there.0.item.length (part_of storage there.0) ∙ place_long one there.0 there.1
   read_long (Characters known) text e = sym (ap length (same_Ok known text e))
 
   -- ---- What is taken is found in the bytes of these texts.
@@ -146,91 +163,125 @@ module _ (items : List Placed) (storage : Storage) where
   takes_none : (X : Type 0) (x : X) → Takes X [] (λ texts at. x) (Ok x)
   takes_none X x = record { size_is = refl; found = λ front back. refl }
 
-  mapped : (X Z : Type 0) (n : ℕ) (find : List ℕ → ℕ → X) (h : X → Z) (u : Evaluated (List ℕ)) (y : Evaluated X) → Alike (λ bytes x. Reads X n bytes find x) u y
+  mapped : (X Z : Type 0) (n : ℕ) (find : List ℕ → ℕ → X) (h : X → Z) (u : Evaluated (List ℕ)) (y : Evaluated X)
+      → Alike (λ bytes x. Reads X n bytes find x) u y
       → Alike (λ bytes z. Reads Z n bytes (λ texts at. h (find texts at)) z) u (y >>= (λ x. Ok (h x)))
-  mapped X Z n find h (Ok a) (Ok x) k = record { size_is = k.size_is; found = λ front back. ap h (k.found front back) }
+  mapped X Z n find h (Ok a) (Ok x) k = record {
+    size_is = k.size_is;
+    found = λ front back. ap h (k.found front back);
+  }
   mapped X Z n find h (Ok a) (Err g) k = k
   mapped X Z n find h (Err f) (Ok x) k = k
   mapped X Z n find h (Err f) (Err g) k = k
 
-  takes_map : (X Z : Type 0) (texts : List Source) (find : List ℕ → ℕ → X) (h : X → Z) (y : Evaluated X) → Takes X texts find y → Takes Z texts (λ t at. h (find t at)) (y >>= (λ x. Ok (h x)))
+  takes_map : (X Z : Type 0) (texts : List Source) (find : List ℕ → ℕ → X) (h : X → Z) (y : Evaluated X)
+      → Takes X texts find y → Takes Z texts (λ t at. h (find t at)) (y >>= (λ x. Ok (h x)))
   takes_map X Z texts find h y k = mapped X Z (text_sizes items texts) find h (read_all texts) y k
 
-  elsewhere : (X : Type 0) (n : ℕ) (find other : List ℕ → ℕ → X) (u : Evaluated (List ℕ)) (y : Evaluated X) → ((texts : List ℕ) (at : ℕ) → find texts at ≡ other texts at)
+  elsewhere : (X : Type 0) (n : ℕ) (find other : List ℕ → ℕ → X) (u : Evaluated (List ℕ)) (y : Evaluated X)
+      → ((texts : List ℕ) (at : ℕ) → find texts at ≡ other texts at)
       → Alike (λ bytes x. Reads X n bytes find x) u y → Alike (λ bytes x. Reads X n bytes other x) u y
-  elsewhere X n find other (Ok a) (Ok x) same k = record { size_is = k.size_is; found = λ front back. sym (same (front ++ (a ++ back)) (length front)) ∙ k.found front back }
+  elsewhere X n find other (Ok a) (Ok x) same k = record {
+    size_is = k.size_is;
+    found = λ front back. sym (same (front ++ (a ++ back)) (length front)) ∙ k.found front back;
+  }
   elsewhere X n find other (Ok a) (Err g) same k = k
   elsewhere X n find other (Err f) (Ok x) same k = k
   elsewhere X n find other (Err f) (Err g) same k = k
 
-  takes_as : (X : Type 0) (texts : List Source) (find other : List ℕ → ℕ → X) (y : Evaluated X) → ((t : List ℕ) (at : ℕ) → find t at ≡ other t at) → Takes X texts find y → Takes X texts other y
+  takes_as : (X : Type 0) (texts : List Source) (find other : List ℕ → ℕ → X) (y : Evaluated X)
+      → ((t : List ℕ) (at : ℕ) → find t at ≡ other t at) → Takes X texts find y → Takes X texts other y
   takes_as X texts find other y same k = elsewhere X (text_sizes items texts) find other (read_all texts) y same k
 
-  behind : (X Z : Type 0) (n m k : ℕ) (find : List ℕ → ℕ → X) (on : X → List ℕ → ℕ → Z) (u v : Evaluated (List ℕ)) (y : Evaluated X) (next : X → Evaluated Z) → k ≡ n + m
+  behind : (X Z : Type 0) (n m k : ℕ) (find : List ℕ → ℕ → X) (on : X → List ℕ → ℕ
+      → Z) (u v : Evaluated (List ℕ)) (y : Evaluated X) (next : X → Evaluated Z) → k ≡ n + m
       → Alike (λ bytes x. Reads X n bytes find x) u y
       → ((x : X) → y ≡ Ok x → Alike (λ bytes z. Reads Z m bytes (on x) z) v (next x))
-      → Alike (λ bytes z. Reads Z k bytes (λ texts at. on (find texts at) texts (at + n)) z) (u >>= (λ a. v >>= (λ b. Ok (a ++ b)))) (y >>= next)
+      → Alike (λ bytes z. Reads Z k bytes (λ texts at. on (find texts at) texts (at + n)) z)
+      (u >>= (λ a. v >>= (λ b. Ok (a ++ b)))) (y >>= next)
   behind X Z n m k find on (Err f) v (Err g) next size h more = h
   behind X Z n m k find on (Err f) v (Ok x) next size h more = absurd h
   behind X Z n m k find on (Ok a) v (Err g) next size h more = absurd h
   behind X Z n m k find on (Ok a) v (Ok x) next size h more = second v (next x) (more x refl)
     where
       second : (v : Evaluated (List ℕ)) (w : Evaluated Z) → Alike (λ bytes z. Reads Z m bytes (on x) z) v w
-          → Alike (λ bytes z. Reads Z k bytes (λ texts at. on (find texts at) texts (at + n)) z) (v >>= (λ b. Ok (a ++ b))) w
+          → Alike (λ bytes z. Reads Z k bytes (λ texts at. on (find texts at) texts (at + n)) z)
+          (v >>= (λ b. Ok (a ++ b))) w
       second (Err f) (Err g) l = l
       second (Err f) (Ok z) l = absurd l
       second (Ok b) (Err g) l = absurd l
-      second (Ok b) (Ok z) l = subst (λ s. Reads Z s (a ++ b) (λ texts at. on (find texts at) texts (at + n)) z) (sym size) (reads_then X Z n m a b find on x z h l)
+      second (Ok b) (Ok z) l = subst (λ s. Reads Z s (a ++ b) (λ texts at. on (find texts at) texts (at + n)) z)
+          (sym size) (reads_then X Z n m a b find on x z h l)
 
-  takes_then : (X Z : Type 0) (xs ys : List Source) (find : List ℕ → ℕ → X) (on : X → List ℕ → ℕ → Z) (y : Evaluated X) (next : X → Evaluated Z)
+  takes_then : (X Z : Type 0) (xs ys : List Source) (find : List ℕ → ℕ → X) (on : X → List ℕ → ℕ
+      → Z) (y : Evaluated X) (next : X → Evaluated Z)
       → Takes X xs find y → ((x : X) → y ≡ Ok x → Takes Z ys (on x) (next x))
       → Takes Z (xs ++ ys) (λ texts at. on (find texts at) texts (at + text_sizes items xs)) (y >>= next)
   takes_then X Z xs ys find on y next h more =
-      subst (λ r. Alike (λ bytes z. Reads Z (text_sizes items (xs ++ ys)) bytes (λ texts at. on (find texts at) texts (at + text_sizes items xs)) z) r (y >>= next)) (sym (read_append xs ys))
-      (behind X Z (text_sizes items xs) (text_sizes items ys) (text_sizes items (xs ++ ys)) find on (read_all xs) (read_all ys) y next (sizes_append items xs ys) h more)
+      subst (λ r. Alike (λ bytes z. Reads Z (text_sizes items (xs ++ ys)) bytes
+      (λ texts at. on (find texts at) texts (at + text_sizes items xs)) z) r (y >>= next))
+      (sym (read_append xs ys))
+      (behind X Z (text_sizes items xs) (text_sizes items ys) (text_sizes items (xs ++ ys)) find on (read_all xs)
+      (read_all ys) y next (sizes_append items xs ys) h more)
 
-  takes_nil : (X : Type 0) (xs : List Source) (find : List ℕ → ℕ → X) (y : Evaluated X) → Takes X xs find y → Takes X (xs ++ []) find y
+  takes_nil : (X : Type 0) (xs : List Source) (find : List ℕ → ℕ → X) (y : Evaluated X) → Takes X xs find y
+      → Takes X (xs ++ []) find y
   takes_nil X xs find y h = subst (λ l. Takes X l find y) (sym (append-nil xs)) h
 
   -- ---- one text
 
-  cut_from : (one : Source) (r : Evaluated (List ℕ)) → ((text : List ℕ) → r ≡ Ok text → length text ≡ text_size items one)
-      → Alike (λ bytes text. Reads (List ℕ) (text_sizes items (one ∷ [])) bytes (λ texts at. bytes_in texts (span_at items at one)) text) (r >>= (λ text. Ok (text ++ []))) r
+  cut_from : (one : Source) (r : Evaluated (List ℕ))
+      → ((text : List ℕ) → r ≡ Ok text → length text ≡ text_size items one)
+      → Alike (λ bytes text. Reads (List ℕ) (text_sizes items (one ∷ [])) bytes
+      (λ texts at. bytes_in texts (span_at items at one)) text) (r >>= (λ text. Ok (text ++ []))) r
   cut_from one (Err f) long = refl
   cut_from one (Ok text) long =
       let size = long text refl in
-      subst (λ (l : List ℕ). Reads (List ℕ) (text_sizes items (one ∷ [])) l (λ texts at. bytes_in texts (span_at items at one)) text) (sym (append-nil text))
+      subst (λ (l : List ℕ). Reads (List ℕ) (text_sizes items (one ∷ [])) l
+      (λ texts at. bytes_in texts (span_at items at one)) text) (sym (append-nil text))
       (record { size_is = omega (arith, size); found = λ front back. cut front text back (text_size items one) size })
 
-  takes_source : (one : Source) → Takes (List ℕ) (one ∷ []) (λ texts at. bytes_in texts (span_at items at one)) (read one)
+  takes_source : (one : Source)
+      → Takes (List ℕ) (one ∷ []) (λ texts at. bytes_in texts (span_at items at one)) (read one)
   takes_source one = cut_from one (read one) (read_long one)
 
-  takes_text : (one : Operand) → Takes (List ℕ) (source one ∷ []) (λ texts at. bytes_in texts (span_at items at (source one))) (take_text items storage one)
+  takes_text : (one : Operand)
+      → Takes (List ℕ) (source one ∷ []) (λ texts at. bytes_in texts (span_at items at (source one)))
+      (take_text items storage one)
   takes_text (operand.Item one) = takes_source (Bytes one)
   takes_text (operand.Literal one) = takes_source (Characters (shown_literal one.value))
 
-  text_long : (one : Operand) (text : List ℕ) → take_text items storage one ≡ Ok text → length text ≡ text_size items (source one)
+  text_long : (one : Operand) (text : List ℕ) → take_text items storage one ≡ Ok text
+      → length text ≡ text_size items (source one)
   text_long (operand.Item one) text e = read_long (Bytes one) text e
   text_long (operand.Literal one) text e = read_long (Characters (shown_literal one.value)) text e
 
-  same_literal : (size : ℕ) (value : LiteralValue) → Characters (replacing_characters size value) ≡ replacing_literal size value
+  same_literal : (size : ℕ) (value : LiteralValue)
+      → Characters (replacing_characters size value) ≡ replacing_literal size value
   same_literal size (literal.Numeric number) = refl
   same_literal size (literal.Nonnumeric bytes) = refl
   same_literal size (literal.Figurative constant) = refl
   same_literal size (literal.All bytes) = refl
 
-  takes_by : (size : ℕ) (one : Operand) → Takes (List ℕ) (replacing_text size one ∷ []) (λ texts at. bytes_in texts (span_at items at (replacing_text size one))) (take_by items storage size one)
+  takes_by : (size : ℕ) (one : Operand)
+      → Takes (List ℕ) (replacing_text size one ∷ [])
+      (λ texts at. bytes_in texts (span_at items at (replacing_text size one))) (take_by items storage size one)
   takes_by size (operand.Item one) = takes_source (Bytes one)
   takes_by size (operand.Literal one) =
-      subst (λ s. Takes (List ℕ) (s ∷ []) (λ texts at. bytes_in texts (span_at items at s)) (Ok (replacing_characters size one.value))) (same_literal size one.value)
+      subst (λ s. Takes (List ℕ) (s ∷ []) (λ texts at. bytes_in texts (span_at items at s))
+      (Ok (replacing_characters size one.value))) (same_literal size one.value)
       (takes_source (Characters (replacing_characters size one.value)))
 
   -- ---- limits
 
-  takes_limit : (one : Option Operand) → Takes (Option (List ℕ)) (limit_text one) (λ texts at. text_of texts (limit_span items at one)) (take_limit items storage one)
+  takes_limit : (one : Option Operand)
+      → Takes (Option (List ℕ)) (limit_text one) (λ texts at. text_of texts (limit_span items at one))
+      (take_limit items storage one)
   takes_limit None = takes_none (Option (List ℕ)) None
   takes_limit (Some one) =
-      takes_map (List ℕ) (Option (List ℕ)) (source one ∷ []) (λ texts at. bytes_in texts (span_at items at (source one))) (λ text. Some text) (take_text items storage one) (takes_text one)
+      takes_map (List ℕ) (Option (List ℕ)) (source one ∷ [])
+      (λ texts at. bytes_in texts (span_at items at (source one))) (λ text. Some text)
+      (take_text items storage one) (takes_text one)
 
   abbrev limits_in : Limits → List ℕ → ℕ → LimitTexts
   limits_in one texts at = record {
@@ -238,19 +289,28 @@ module _ (items : List Placed) (storage : Storage) where
     after = text_of texts (limit_span items (after_at items at one) one.after);
   }
 
-  limits_by : (before after : Option Operand) (turned : Bool) → (let one : Limits = record { before = before; after = after; after_first = turned } in
+  limits_by : (before after : Option Operand) (turned : Bool)
+      → (let one : Limits = record { before = before; after = after; after_first = turned } in
       Takes LimitTexts (limit_texts one) (limits_in one) (take_limits items storage one))
   limits_by before after true =
-      takes_then (Option (List ℕ)) LimitTexts (limit_text after) (limit_text before) (λ texts at. text_of texts (limit_span items at after))
-      (λ found texts at. record { before = text_of texts (limit_span items at before); after = found }) (take_limit items storage after)
-      (λ found. take_limit items storage before >>= (λ other. Ok (record { before = other; after = found }))) (takes_limit after)
-      (λ found is. takes_map (Option (List ℕ)) LimitTexts (limit_text before) (λ texts at. text_of texts (limit_span items at before))
+      takes_then (Option (List ℕ)) LimitTexts (limit_text after) (limit_text before)
+      (λ texts at. text_of texts (limit_span items at after))
+      (λ found texts at. record { before = text_of texts (limit_span items at before); after = found })
+      (take_limit items storage after)
+      (λ found. take_limit items storage before >>= (λ other. Ok (record { before = other; after = found })))
+      (takes_limit after)
+      (λ found is. takes_map (Option (List ℕ)) LimitTexts (limit_text before)
+      (λ texts at. text_of texts (limit_span items at before))
       (λ other. record { before = other; after = found }) (take_limit items storage before) (takes_limit before))
   limits_by before after false =
-      takes_then (Option (List ℕ)) LimitTexts (limit_text before) (limit_text after) (λ texts at. text_of texts (limit_span items at before))
-      (λ found texts at. record { before = found; after = text_of texts (limit_span items at after) }) (take_limit items storage before)
-      (λ found. take_limit items storage after >>= (λ other. Ok (record { before = found; after = other }))) (takes_limit before)
-      (λ found is. takes_map (Option (List ℕ)) LimitTexts (limit_text after) (λ texts at. text_of texts (limit_span items at after))
+      takes_then (Option (List ℕ)) LimitTexts (limit_text before) (limit_text after)
+      (λ texts at. text_of texts (limit_span items at before))
+      (λ found texts at. record { before = found; after = text_of texts (limit_span items at after) })
+      (take_limit items storage before)
+      (λ found. take_limit items storage after >>= (λ other. Ok (record { before = found; after = other })))
+      (takes_limit before)
+      (λ found is. takes_map (Option (List ℕ)) LimitTexts (limit_text after)
+      (λ texts at. text_of texts (limit_span items at after))
       (λ other. record { before = found; after = other }) (take_limit items storage after) (takes_limit after))
 
   takes_limits : (one : Limits) → Takes LimitTexts (limit_texts one) (limits_in one) (take_limits items storage one)
@@ -264,54 +324,76 @@ module _ (items : List Placed) (storage : Storage) where
   abbrev pub TakesEntries : List Inspected → Evaluated (List TextEntry) → Type 0
   TakesEntries all y = Takes (List TextEntry) (entries_texts all) (entries_in all) y
 
-  pattern_same : (kind : Occurrences) (texts : List ℕ) (span : Span) → Occurrence kind (bytes_in texts span) ≡ pattern_of texts (fit_of kind span)
+  pattern_same : (kind : Occurrences) (texts : List ℕ) (span : Span)
+      → Occurrence kind (bytes_in texts span) ≡ pattern_of texts (fit_of kind span)
   pattern_same how.All texts span = refl
   pattern_same how.Leading texts span = refl
   pattern_same how.First texts span = refl
 
   -- limits behind a pattern and what replaces it
   with_limits : (pattern : Pattern) (by : List ℕ) (one : Limits)
-      → Takes (List TextEntry) (limit_texts one) (λ texts at. text_entry pattern by (limits_in one texts at) ∷ []) (take_limits items storage one >>= (λ limits. Ok (text_entry pattern by limits ∷ [])))
+      → Takes (List TextEntry) (limit_texts one) (λ texts at. text_entry pattern by (limits_in one texts at) ∷ [])
+      (take_limits items storage one >>= (λ limits. Ok (text_entry pattern by limits ∷ [])))
   with_limits pattern by one =
-      takes_map LimitTexts (List TextEntry) (limit_texts one) (limits_in one) (λ limits. text_entry pattern by limits ∷ []) (take_limits items storage one) (takes_limits one)
+      takes_map LimitTexts (List TextEntry) (limit_texts one) (limits_in one)
+      (λ limits. text_entry pattern by limits ∷ []) (take_limits items storage one) (takes_limits one)
 
-  takes_tallied_text : (kind : Occurrences) (one : TalliedText) → TakesEntries (tallied_text kind one ∷ []) (take_tallied_text items storage kind one)
+  takes_tallied_text : (kind : Occurrences) (one : TalliedText)
+      → TakesEntries (tallied_text kind one ∷ []) (take_tallied_text items storage kind one)
   takes_tallied_text kind one =
       let text = source one.text in
-      let on = λ (found texts : List ℕ) (at : ℕ). text_entry (Occurrence kind found) [] (limits_in one.limits texts at) ∷ [] in
+      let on = λ (found texts : List ℕ) (at : ℕ). text_entry (Occurrence kind found) []
+      (limits_in one.limits texts at) ∷ [] in
       let find = λ (texts : List ℕ) (at : ℕ). bytes_in texts (span_at items at text) in
-      let next = λ (found : List ℕ). take_limits items storage one.limits >>= (λ limits. okay (text_entry (Occurrence kind found) [] limits ∷ [])) in
-      takes_nil (List TextEntry) (text ∷ limit_texts one.limits) (entries_in (tallied_text kind one ∷ [])) (take_tallied_text items storage kind one)
-      (takes_as (List TextEntry) (text ∷ limit_texts one.limits) (λ texts at. on (find texts at) texts (at + text_sizes items (text ∷ []))) (entries_in (tallied_text kind one ∷ [])) (take_tallied_text items storage kind one)
+      let next = λ (found : List ℕ). take_limits items storage one.limits
+      >>= (λ limits. okay (text_entry (Occurrence kind found) [] limits ∷ [])) in
+      takes_nil (List TextEntry) (text ∷ limit_texts one.limits) (entries_in (tallied_text kind one ∷ []))
+      (take_tallied_text items storage kind one)
+      (takes_as (List TextEntry) (text ∷ limit_texts one.limits)
+      (λ texts at. on (find texts at) texts (at + text_sizes items (text ∷ [])))
+      (entries_in (tallied_text kind one ∷ [])) (take_tallied_text items storage kind one)
       (λ texts at.
       let size = text_sizes items (text ∷ []) in
       let here : at + size ≡ at + size + 0 = omega arith in
-      ap (λ p. text_entry p [] (limits_in one.limits texts (at + size)) ∷ []) (pattern_same kind texts (span_at items at text))
-      ∙ ap (λ k. text_entry (pattern_of texts (fit_of kind (span_at items at text))) [] (limits_in one.limits texts k) ∷ []) here)
-      (takes_then (List ℕ) (List TextEntry) (text ∷ []) (limit_texts one.limits) find on (take_text items storage one.text) next (takes_text one.text)
+      ap (λ p. text_entry p [] (limits_in one.limits texts (at + size)) ∷ [])
+      (pattern_same kind texts (span_at items at text))
+      ∙ ap (λ k. text_entry (pattern_of texts (fit_of kind (span_at items at text))) []
+      (limits_in one.limits texts k) ∷ []) here)
+      (takes_then (List ℕ) (List TextEntry) (text ∷ []) (limit_texts one.limits) find on
+      (take_text items storage one.text) next (takes_text one.text)
       (λ found is. with_limits (Occurrence kind found) [] one.limits)))
 
-  takes_any : (one : Limits) → TakesEntries (record { what = layout.Any; by = None; limits = one } ∷ []) (take_tallied items storage (tallied.Characters one))
+  takes_any : (one : Limits)
+      → TakesEntries (record { what = layout.Any; by = None; limits = one } ∷ [])
+      (take_tallied items storage (tallied.Characters one))
   takes_any one =
       let all : List Inspected = record { what = layout.Any; by = None; limits = one } ∷ [] in
       let taken = take_tallied items storage (tallied.Characters one) in
       takes_nil (List TextEntry) (limit_texts one) (entries_in all) taken
-      (takes_as (List TextEntry) (limit_texts one) (λ texts at. text_entry AnyCharacter [] (limits_in one texts at) ∷ []) (entries_in all) taken
-      (λ texts at. let here : at ≡ at + 0 + 0 = omega arith in ap (λ k. text_entry AnyCharacter [] (limits_in one texts k) ∷ []) here)
+      (takes_as (List TextEntry) (limit_texts one)
+      (λ texts at. text_entry AnyCharacter [] (limits_in one texts at) ∷ []) (entries_in all) taken
+      (λ texts at. let here : at ≡ at + 0 + 0 = omega arith in
+      ap (λ k. text_entry AnyCharacter [] (limits_in one texts k) ∷ []) here)
       (with_limits AnyCharacter [] one))
 
   -- what replaces, and limits
   by_and_limits : (pattern : Pattern) (size : ℕ) (by : Operand) (one : Limits) → (let text = replacing_text size by in
-      Takes (List TextEntry) (text ∷ limit_texts one) (λ texts at. text_entry pattern (bytes_in texts (span_at items at text)) (limits_in one texts (at + text_sizes items (text ∷ []))) ∷ [])
-      (take_by items storage size by >>= (λ found. take_limits items storage one >>= (λ limits. Ok (text_entry pattern found limits ∷ [])))))
+      Takes (List TextEntry) (text ∷ limit_texts one)
+      (λ texts at. text_entry pattern (bytes_in texts (span_at items at text))
+      (limits_in one texts (at + text_sizes items (text ∷ []))) ∷ [])
+      (take_by items storage size by
+      >>= (λ found. take_limits items storage one >>= (λ limits. Ok (text_entry pattern found limits ∷ [])))))
   by_and_limits pattern size by one =
       let text = replacing_text size by in
-      takes_then (List ℕ) (List TextEntry) (text ∷ []) (limit_texts one) (λ texts at. bytes_in texts (span_at items at text))
+      takes_then (List ℕ) (List TextEntry) (text ∷ []) (limit_texts one)
+      (λ texts at. bytes_in texts (span_at items at text))
       (λ found texts at. text_entry pattern found (limits_in one texts at) ∷ []) (take_by items storage size by)
-      (λ found. take_limits items storage one >>= (λ limits. Ok (text_entry pattern found limits ∷ []))) (takes_by size by)
+      (λ found. take_limits items storage one >>= (λ limits. Ok (text_entry pattern found limits ∷ [])))
+      (takes_by size by)
       (λ found is. with_limits pattern found one)
 
-  takes_replaced_text : (kind : Occurrences) (one : ReplacedText) → TakesEntries (replaced_text items kind one ∷ []) (take_replaced_text items storage kind one)
+  takes_replaced_text : (kind : Occurrences) (one : ReplacedText)
+      → TakesEntries (replaced_text items kind one ∷ []) (take_replaced_text items storage kind one)
   takes_replaced_text kind one =
       let text = source one.text in
       let by = replacing_text (text_size items text) one.by in
@@ -320,64 +402,94 @@ module _ (items : List Placed) (storage : Storage) where
       let taken = take_replaced_text items storage kind one in
       let find = λ (texts : List ℕ) (at : ℕ). bytes_in texts (span_at items at text) in
       let on = λ (found texts : List ℕ) (at : ℕ).
-      text_entry (Occurrence kind found) (bytes_in texts (span_at items at by)) (limits_in one.limits texts (at + text_sizes items (by ∷ []))) ∷ [] in
-      let next = λ (found : List ℕ). take_by items storage (length found) one.by >>= (λ other. take_limits items storage one.limits >>= (λ limits. okay (text_entry (Occurrence kind found) other limits ∷ []))) in
+      text_entry (Occurrence kind found) (bytes_in texts (span_at items at by))
+      (limits_in one.limits texts (at + text_sizes items (by ∷ []))) ∷ [] in
+      let next = λ (found : List ℕ). take_by items storage (length found) one.by
+      >>= (λ other. take_limits items storage one.limits
+      >>= (λ limits. okay (text_entry (Occurrence kind found) other limits ∷ []))) in
       takes_nil (List TextEntry) (text ∷ behind_text) (entries_in all) taken
-      (takes_as (List TextEntry) (text ∷ behind_text) (λ texts at. on (find texts at) texts (at + text_sizes items (text ∷ []))) (entries_in all) taken
+      (takes_as (List TextEntry) (text ∷ behind_text)
+      (λ texts at. on (find texts at) texts (at + text_sizes items (text ∷ []))) (entries_in all) taken
       (λ texts at.
       let there = at + text_sizes items (text ∷ []) in
-      ap (λ p. text_entry p (bytes_in texts (span_at items there by)) (limits_in one.limits texts (there + text_sizes items (by ∷ []))) ∷ []) (pattern_same kind texts (span_at items at text)))
-      (takes_then (List ℕ) (List TextEntry) (text ∷ []) behind_text find on (take_text items storage one.text) next (takes_text one.text)
-      (λ found is. subst (λ n. Takes (List TextEntry) behind_text (on found) (take_by items storage n one.by >>= (λ other. take_limits items storage one.limits >>= (λ limits. okay (text_entry (Occurrence kind found) other limits ∷ [])))))
-      (sym (text_long one.text found is)) (by_and_limits (Occurrence kind found) (text_size items text) one.by one.limits))))
+      ap (λ p. text_entry p (bytes_in texts (span_at items there by))
+      (limits_in one.limits texts (there + text_sizes items (by ∷ []))) ∷ [])
+      (pattern_same kind texts (span_at items at text)))
+      (takes_then (List ℕ) (List TextEntry) (text ∷ []) behind_text find on (take_text items storage one.text) next
+      (takes_text one.text)
+      (λ found is. subst (λ n. Takes (List TextEntry) behind_text (on found)
+      (take_by items storage n one.by >>= (λ other. take_limits items storage one.limits
+      >>= (λ limits. okay (text_entry (Occurrence kind found) other limits ∷ [])))))
+      (sym (text_long one.text found is)) (by_and_limits (Occurrence kind found) (text_size items text) one.by
+      one.limits))))
 
-  takes_any_by : (by : Operand) (one : Limits) → TakesEntries (record { what = layout.Any; by = Some (replacing_text 1 by); limits = one } ∷ []) (take_replacing items storage (replacing.Characters by one))
+  takes_any_by : (by : Operand) (one : Limits)
+      → TakesEntries (record { what = layout.Any; by = Some (replacing_text 1 by); limits = one } ∷ [])
+      (take_replacing items storage (replacing.Characters by one))
   takes_any_by by one =
       let text = replacing_text 1 by in
       let all : List Inspected = record { what = layout.Any; by = Some text; limits = one } ∷ [] in
       let taken = take_replacing items storage (replacing.Characters by one) in
       takes_nil (List TextEntry) (text ∷ limit_texts one) (entries_in all) taken
-      (takes_as (List TextEntry) (text ∷ limit_texts one) (λ texts at. text_entry AnyCharacter (bytes_in texts (span_at items at text)) (limits_in one texts (at + text_sizes items (text ∷ []))) ∷ []) (entries_in all) taken
+      (takes_as (List TextEntry) (text ∷ limit_texts one)
+      (λ texts at. text_entry AnyCharacter (bytes_in texts (span_at items at text))
+      (limits_in one texts (at + text_sizes items (text ∷ []))) ∷ []) (entries_in all) taken
       (λ texts at.
       let here : at ≡ at + 0 = omega arith in
-      ap (λ k. text_entry AnyCharacter (bytes_in texts (span_at items k text)) (limits_in one texts (k + text_sizes items (text ∷ []))) ∷ []) here)
+      ap (λ k. text_entry AnyCharacter (bytes_in texts (span_at items k text))
+      (limits_in one texts (k + text_sizes items (text ∷ []))) ∷ []) here)
       (by_and_limits AnyCharacter 1 by one))
 
   -- ---- lists of them
 
-  pub entries_append : (xs ys : List Inspected) (texts : List ℕ) (at : ℕ) → entries_in (xs ++ ys) texts at ≡ entries_in xs texts at ++ entries_in ys texts (at + text_sizes items (entries_texts xs))
+  pub entries_append : (xs ys : List Inspected) (texts : List ℕ) (at : ℕ)
+      → entries_in (xs ++ ys) texts at
+      ≡ entries_in xs texts at ++ entries_in ys texts (at + text_sizes items (entries_texts xs))
   entries_append [] ys texts at = ap (entries_in ys texts) (omega arith)
   entries_append (x ∷ xs) ys texts at =
       let next = at + text_sizes items (entry_texts x) in
       let sum = sizes_append items (entry_texts x) (entries_texts xs) in
-      let here : next + text_sizes items (entries_texts xs) ≡ at + text_sizes items (entries_texts (x ∷ xs)) = omega (arith, sum) in
-      ap (λ l. entry_of texts (entry_at items at x) ∷ l) (entries_append xs ys texts next ∙ ap (λ k. entries_in xs texts next ++ entries_in ys texts k) here)
+      let here : next + text_sizes items (entries_texts xs) ≡ at + text_sizes items (entries_texts (x ∷ xs)) = omega
+      (arith, sum) in
+      ap (λ l. entry_of texts (entry_at items at x) ∷ l) (entries_append xs ys texts next
+      ∙ ap (λ k. entries_in xs texts next ++ entries_in ys texts k) here)
 
-  takes_both : (xs ys : List Inspected) (y z : Evaluated (List TextEntry)) → TakesEntries xs y → TakesEntries ys z → TakesEntries (xs ++ ys) (y >>= (λ front. z >>= (λ back. Ok (front ++ back))))
+  takes_both : (xs ys : List Inspected) (y z : Evaluated (List TextEntry)) → TakesEntries xs y → TakesEntries ys z
+      → TakesEntries (xs ++ ys) (y >>= (λ front. z >>= (λ back. Ok (front ++ back))))
   takes_both xs ys y z h k =
       let next = λ (front : List TextEntry). z >>= (λ back. okay (front ++ back)) in
       subst (λ l. Takes (List TextEntry) l (entries_in (xs ++ ys)) (y >>= next)) (sym (texts_append xs ys))
-      (takes_as (List TextEntry) (entries_texts xs ++ entries_texts ys) (λ texts at. entries_in xs texts at ++ entries_in ys texts (at + text_sizes items (entries_texts xs))) (entries_in (xs ++ ys)) (y >>= next)
+      (takes_as (List TextEntry) (entries_texts xs ++ entries_texts ys)
+      (λ texts at. entries_in xs texts at ++ entries_in ys texts (at + text_sizes items (entries_texts xs)))
+      (entries_in (xs ++ ys)) (y >>= next)
       (λ texts at. sym (entries_append xs ys texts at))
-      (takes_then (List TextEntry) (List TextEntry) (entries_texts xs) (entries_texts ys) (entries_in xs) (λ front texts at. front ++ entries_in ys texts at) y next h
-      (λ front is. takes_map (List TextEntry) (List TextEntry) (entries_texts ys) (entries_in ys) (λ back. front ++ back) z k)))
+      (takes_then (List TextEntry) (List TextEntry) (entries_texts xs) (entries_texts ys) (entries_in xs)
+      (λ front texts at. front ++ entries_in ys texts at) y next h
+      (λ front is. takes_map (List TextEntry) (List TextEntry) (entries_texts ys) (entries_in ys)
+      (λ back. front ++ back) z k)))
 
-  takes_all : {A : Type 0} (inspected : A → List Inspected) (take_one : A → Evaluated (List TextEntry)) → ((one : A) → TakesEntries (inspected one) (take_one one))
+  takes_all : {A : Type 0} (inspected : A → List Inspected) (take_one : A → Evaluated (List TextEntry))
+      → ((one : A) → TakesEntries (inspected one) (take_one one))
       → (all : List A) → TakesEntries (all_inspected inspected all) (take_all take_one all)
   takes_all inspected take_one each [] = takes_none (List TextEntry) []
   takes_all inspected take_one each (one ∷ more) =
-      takes_both (inspected one) (all_inspected inspected more) (take_one one) (take_all take_one more) (each one) (takes_all inspected take_one each more)
+      takes_both (inspected one) (all_inspected inspected more) (take_one one) (take_all take_one more) (each one)
+      (takes_all inspected take_one each more)
 
   takes_tallied : (one : Tallied) → TakesEntries (tallied_entries one) (take_tallied items storage one)
   takes_tallied (tallied.Characters limits) = takes_any limits
-  takes_tallied (tallied.Texts kind texts) = takes_all (λ one. tallied_text kind one ∷ []) (take_tallied_text items storage kind) (takes_tallied_text kind) texts
+  takes_tallied (tallied.Texts kind texts) = takes_all (λ one. tallied_text kind one ∷ [])
+      (take_tallied_text items storage kind) (takes_tallied_text kind) texts
 
-  pub takes_counter : (one : Tallying) → TakesEntries (counter_entries one) (take_all (take_tallied items storage) one.tallied)
+  pub takes_counter : (one : Tallying)
+      → TakesEntries (counter_entries one) (take_all (take_tallied items storage) one.tallied)
   takes_counter one = takes_all tallied_entries (take_tallied items storage) takes_tallied one.tallied
 
   takes_replacing : (one : Replacing) → TakesEntries (replacing_entries items one) (take_replacing items storage one)
   takes_replacing (replacing.Characters by limits) = takes_any_by by limits
-  takes_replacing (replacing.Texts kind texts) = takes_all (λ one. replaced_text items kind one ∷ []) (take_replaced_text items storage kind) (takes_replaced_text kind) texts
+  takes_replacing (replacing.Texts kind texts) = takes_all (λ one. replaced_text items kind one ∷ [])
+      (take_replaced_text items storage kind) (takes_replaced_text kind) texts
 
-  pub takes_all_replaced : (all : List Replacing) → TakesEntries (all_inspected (replacing_entries items) all) (take_all (take_replacing items storage) all)
+  pub takes_all_replaced : (all : List Replacing)
+      → TakesEntries (all_inspected (replacing_entries items) all) (take_all (take_replacing items storage) all)
   takes_all_replaced all = takes_all (replacing_entries items) (take_replacing items storage) takes_replacing all
