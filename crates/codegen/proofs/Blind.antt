@@ -18,8 +18,8 @@ use Rattle.source_tree.specs.declared.text.Text.{Text}
 use Rattle.source_tree.specs.declared.text.Text.TheVariants.{Display, Accept, AcceptDate, Inspect}
 use Rattle.source_tree.specs.Display.{shown_literal, line_end}
 use Rattle.source_tree.specs.Initializing.{Pattern}
-use Rattle.source_tree.specs.Inspecting as meaning
-use Rattle.source_tree.specs.Inspecting.{Taking, takings}
+use Rattle.source_tree.specs.InspectLayout as layout
+use Rattle.source_tree.specs.InspectLayout.{Taking, takings}
 use Rattle.source_tree.specs.Integers.{number_of}
 use Rattle.source_tree.specs.Literals.{literal_sender}
 use Rattle.source_tree.specs.LookUp.{all_conditions}
@@ -203,9 +203,9 @@ module _ (items : List Placed) where
   moving_blind (Set conditions) = in_order_blind (set_piece items) (λ one. set_blind one) conditions
 
   taken_blind : (one : Taking) → Blind (taken_piece items one)
-  taken_blind (meaning.Counter one) = reference_blind one
-  taken_blind (meaning.Text (meaning.Bytes one)) = taking_blind (i.Gather g.Sized) one
-  taken_blind (meaning.Text (meaning.Characters text)) = text_blind text
+  taken_blind (layout.Counter one) = reference_blind one
+  taken_blind (layout.Text (layout.Bytes one)) = taking_blind (i.Gather g.Sized) one
+  taken_blind (layout.Text (layout.Characters text)) = text_blind text
 
   inspect_blind : (one : Inspecting) → Blind (inspect_piece items one)
   inspect_blind one =

@@ -7,7 +7,7 @@ use Rattle.source_tree.specs.declared.reference.Reference.{Reference}
 use Rattle.source_tree.specs.declared.inspecting.Inspecting.{Inspecting}
 use Rattle.source_tree.specs.Broken.{Broken}
 use Rattle.source_tree.specs.InspectRules.{counter_item, inspected_item, inspect_rules}
-use Rattle.source_tree.specs.Inspecting.{Source, Bytes, Characters, Taking, Counter, Text, takings, inspection, inspected_size}
+use Rattle.source_tree.specs.InspectLayout.{Source, Bytes, Characters, Taking, Counter, Text, takings, inspection, inspected_size}
 use Rattle.source_tree.specs.NameRules.{item_rules}
 use Rattle.source_tree.specs.Places.{Placed}
 use Rattle.data_instructions.specs.declared.index.InspectionIndex.{InspectionIndex}

@@ -29,7 +29,7 @@ use Rattle.source_tree.specs.NameRules.{item_rules}
 use Rattle.source_tree.specs.Places.{Placed}
 use Rattle.source_tree.specs.ConditionRules.{operand_place}
 use Rattle.source_tree.specs.InspectRules.{counter_item, inspected_item, inspected_literal, inspected_rules, only_size, size_of, literal_size, replacing_size, same_size, by_rules, limit_rules, two_limits, ordered_limits, limits_rules, tallied_text_rules, tallied_rules, tallying_rules, replaced_text_rules, replacing_rules, inspect_rules}
-use Rattle.source_tree.specs.Inspecting.{Source, Bytes, Characters, Taking, Counter, Text, source, found_size, text_size, replacing_literal, replacing_text, What, Any, Occurs, Inspected, tallied_text, replaced_text, all_inspected, tallied_entries, counter_entries, replacing_entries, what_texts, by_texts, limit_text, limit_texts, entry_texts, entries_texts, tallying_takings, all_tallied, all_replaced, takings}
+use Rattle.source_tree.specs.InspectLayout.{Source, Bytes, Characters, Taking, Counter, Text, source, found_size, text_size, replacing_literal, replacing_text, What, Any, Occurs, Inspected, tallied_text, replaced_text, all_inspected, tallied_entries, counter_entries, replacing_entries, what_texts, by_texts, limit_text, limit_texts, entry_texts, entries_texts, tallying_takings, all_tallied, all_replaced, takings}
 use Rattle.codegen.specs.DataCode.{item_number}
 use Rattle.codegen.proofs.Codes.{left_none, right_none, only_named, item_there}
 use Rattle.codegen.proofs.Integers.{kept, not_false}

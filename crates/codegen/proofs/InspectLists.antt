@@ -5,7 +5,7 @@ use Rattle.text_ops.specs.declared.entry.Entry.{Entry}
 use Rattle.source_tree.specs.declared.inspecting.Tallying.{Tallying}
 use Rattle.source_tree.specs.declared.inspecting.Inspecting.{Inspecting}
 use Rattle.source_tree.specs.Places.{Placed}
-use Rattle.source_tree.specs.Inspecting.{Source, Taking, Counter, Text, Inspected, text_size, text_sizes, taken_size, entry_texts, entries_texts, entry_at, entries_at, counter_entries, tallying_takings, all_inspected, entry_counts, all_tallied, all_replaced, takings, tallied_size, inspected_size}
+use Rattle.source_tree.specs.InspectLayout.{Source, Taking, Counter, Text, Inspected, text_size, text_sizes, taken_size, entry_texts, entries_texts, entry_at, entries_at, counter_entries, tallying_takings, all_inspected, entry_counts, all_tallied, all_replaced, takings, tallied_size, inspected_size}
 use Rattle.data_instructions.specs.Tables.{total}
 use Rattle.code_image.specs.declared.code.Code.{Code}
 use Rattle.codegen.specs.Pieces.{Piece, joined, in_order}

@@ -15,7 +15,7 @@ use Rattle.source_tree.specs.declared.inspecting.Inspecting.{Inspecting}
 use Rattle.source_tree.specs.InspectRules.{inspected_item}
 use Rattle.source_tree.specs.NameRules.{item_rules}
 use Rattle.source_tree.specs.Places.{Placed}
-use Rattle.source_tree.specs.Inspecting.{Source, Bytes, Characters, Taking, Counter, Text, Inspected, source, found_size, text_size, text_sizes, replacing_text, replaced_text, fit_of, span_at, what_texts, by_texts, limit_text, limit_texts, entry_texts, entries_texts, limit_span, before_at, after_at, what_fit, by_span, by_at, limits_at, entry_at, entries_at, counter_entries, tallying_takings, all_inspected, entry_counts, all_replaced, tallied_size, takings}
+use Rattle.source_tree.specs.InspectLayout.{Source, Bytes, Characters, Taking, Counter, Text, Inspected, source, found_size, text_size, text_sizes, replacing_text, replaced_text, fit_of, span_at, what_texts, by_texts, limit_text, limit_texts, entry_texts, entries_texts, limit_span, before_at, after_at, what_fit, by_span, by_at, limits_at, entry_at, entries_at, counter_entries, tallying_takings, all_inspected, entry_counts, all_replaced, tallied_size, takings}
 use Rattle.data_instructions.specs.declared.tables.Inspection.{Inspection}
 use Rattle.code_image.specs.declared.code.Code.{Code}
 use Rattle.codegen.specs.Pieces.{joined, both, in_order}

@@ -23,7 +23,7 @@ use Rattle.source_tree.specs.NameRules.{form_rule, item_rules}
 use Rattle.source_tree.specs.Places.{Placed}
 use Rattle.source_tree.specs.ValueRules.{has_form, most_literal_characters}
 use Rattle.source_tree.specs.InspectRules.{inspected_item, inspected_literal, inspect_rules}
-use Rattle.source_tree.specs.Inspecting.{Source, Bytes, Characters, found_size, text_size, text_sizes, fit_of, span_at, What, Any, Occurs, Inspected, what_texts, by_texts, limit_text, limit_texts, entry_texts, entries_texts, what_fit, by_span, limit_span, before_at, after_at, by_at, limits_at, entry_at, entries_at, counter_entries, all_tallied, all_replaced, tallied_size, inspected_size, inspection}
+use Rattle.source_tree.specs.InspectLayout.{Source, Bytes, Characters, found_size, text_size, text_sizes, fit_of, span_at, What, Any, Occurs, Inspected, what_texts, by_texts, limit_text, limit_texts, entry_texts, entries_texts, what_fit, by_span, limit_span, before_at, after_at, by_at, limits_at, entry_at, entries_at, counter_entries, all_tallied, all_replaced, tallied_size, inspected_size, inspection}
 use Rattle.data_instructions.specs.Tables.{IsInspection}
 use Rattle.codegen.specs.DataCode.{item_number}
 use Rattle.codegen.specs.InspectCode.{inspection_entry}

@@ -1,5 +1,5 @@
 -- The machine follows the meaning, where the rules are kept.
-use Rattle.std.proofs.Common.{◌≡◌, ℕ, suc, ◌+◌, ◌≤◌, ◌<◌, Bool, true, false, List, [], ◌∷◌, ◌++◌, length, Option, Some, None, Ok, Err, refl, ap, subst, arith, length-append}
+use Rattle.std.proofs.Common.{◌≡◌, ℕ, suc, ◌+◌, ◌≤◌, ◌<◌, Bool, true, false, List, [], ◌∷◌, ◌++◌, length, Option, Some, None, Ok, Err, refl, ap, sym, subst, ◌∙◌, arith, length-append}
 use Rattle.std.specs.Prelude.{nat_lt, not, slice_get}
 use Rattle.std.proofs.lemmas.Bool.{ltb-false, not-false}
 use Rattle.lexical.specs.declared.place.Place.{Place}
@@ -55,6 +55,7 @@ use Rattle.source_tree.specs.Until as meant
 use Rattle.source_tree.specs.Until.{vary_operation, vary_begin, vary_on, until_from}
 use Rattle.source_tree.specs.Meaning.{moving, step}
 use Rattle.source_tree.proofs.Runs.{IsRun, body_runs}
+use Rattle.source_tree.proofs.InspectKept.{inspected_alike}
 use Rattle.data_instructions.specs.declared.instruction.DataInstruction.{DataInstruction}
 use Rattle.data_instructions.specs.declared.instruction.DataInstruction.TheVariants as i
 use Rattle.data_instructions.specs.Tables.{IsTables}
@@ -72,6 +73,7 @@ use Rattle.code_image.specs.declared.instruction.Instruction.{Instruction}
 use Rattle.code_image.specs.declared.instruction.Instruction.TheVariants.{Show, Accept, Date}
 use Rattle.code_image.specs.Points.{Own, scratch_of, state_with, own_with}
 use Rattle.code_image.specs.Table.{data_from, exec_code}
+use Rattle.initial_storage.proofs.Pictures.{some_bytes}
 use Rattle.codegen.specs.Pieces.{Piece, nothing, joined, both, in_order, plain}
 use Rattle.codegen.specs.DataCode.{reference_piece, taking_piece, move_piece, operands_piece, line_end_piece, show_piece}
 use Rattle.codegen.specs.ArithmeticCode.{arithmetic_piece}
@@ -128,6 +130,10 @@ module _ (whole : Code) (kept : ℕ → Type 0) (scope : Scope) (has : HasFiles 
     (lie : (n : ℕ) (one : Placed) → slice_get scope.items n ≡ Some one → LiesWhole whole.tables one) (IsThere : Range → Type 0)
     (found_there : (permits : Range → Bool) (first : Name) (last : Option Name) (one : Range) → range_rules permits scope.procedures first last ≡ []
     → range_of scope.procedures first last ≡ Some one → IsThere one) where
+  -- each item has a byte or more
+  items_sized : (n : ℕ) (one : Placed) → slice_get scope.items n ≡ Some one → 1 ≤ one.item.length
+  items_sized n one here = some_bytes one.item (order.items n (data_item one) (entries n one here)).form
+
   moving_does : (one : Moving) (before : Code) (cs : Own) (s : State) → moving_rules scope.items one ≡ []
       → Stands whole before (moving_piece scope.items one before)
       → PartDoes whole kept before (moving_piece scope.items one before) cs s (changing (moving scope.items one) s)
@@ -217,7 +223,10 @@ module _ (whole : Code) (kept : ℕ → Type 0) (scope : Scope) (has : HasFiles 
   texts_do (text.Inspect one) before cs s keep room st =
       let part = inspect_piece scope.items one before in
       let coded = (inspect_codes scope.items whole entries one keep).by before st in
-      let works_as = inspect_does scope.items whole.tables order one coded.code coded.holds (scratch_of s cs) room.line in
+      let means = inspected_alike scope.items items_sized one s.storage keep in
+      let works_as =
+      inspect_does scope.items whole.tables order one coded.code coded.holds (scratch_of s cs) room.line
+      ∙ ap (λ (e : Evaluated Storage). scratch.step_with e (λ after. scratch.Went (record (scratch_of s cs) { storage = after }))) (sym means) in
       let from = end_of before in
       let to = end_of (joined before part) in
       changed_does whole kept from to from to cs s (length coded.code) (behind_code whole before part coded.code coded.is)

@@ -3,8 +3,8 @@ use Rattle.std.proofs.Common.{◌≡◌, List, [], ◌∷◌, refl}
 use Rattle.source_tree.specs.declared.inspecting.Inspecting.{Inspecting}
 use Rattle.source_tree.specs.declared.text.Text.{Text}
 use Rattle.source_tree.specs.declared.text.Text.TheVariants.{Display, Accept, AcceptDate, Inspect}
-use Rattle.source_tree.specs.Inspecting as meaning
-use Rattle.source_tree.specs.Inspecting.{Taking, takings}
+use Rattle.source_tree.specs.InspectLayout as layout
+use Rattle.source_tree.specs.InspectLayout.{Taking, takings}
 use Rattle.source_tree.specs.InspectRules.{inspect_rules}
 use Rattle.source_tree.specs.Places.{Placed}
 use Rattle.source_tree.specs.Rules.{text_rules}
@@ -20,9 +20,9 @@ use Rattle.codegen.proofs.Straight.{AlwaysStraight, both_straight, in_order_stra
 
 module _ (items : List Placed) (sized : AreSized items) where
   taken_straight : (one : Taking) → AlwaysStraight (taken_piece items one)
-  taken_straight (meaning.Counter one) = reference_straight items one
-  taken_straight (meaning.Text (meaning.Bytes one)) = taking_straight items (i.Gather g.Sized) one
-  taken_straight (meaning.Text (meaning.Characters text)) = text_straight text
+  taken_straight (layout.Counter one) = reference_straight items one
+  taken_straight (layout.Text (layout.Bytes one)) = taking_straight items (i.Gather g.Sized) one
+  taken_straight (layout.Text (layout.Characters text)) = text_straight text
 
   inspection_straight : (one : Inspecting) → inspect_rules items one ≡ [] → AlwaysStraight (inspection_piece (inspection_entry items one))
   inspection_straight one e before =

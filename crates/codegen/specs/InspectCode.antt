@@ -7,7 +7,7 @@ use Rattle.source_tree.specs.declared.inspecting.Limits.{Limits}
 use Rattle.source_tree.specs.declared.inspecting.Tallying.{Tallying}
 use Rattle.source_tree.specs.declared.inspecting.Inspecting.{Inspecting}
 use Rattle.source_tree.specs.Places.{Placed}
-use Rattle.source_tree.specs.Inspecting.{Source, Bytes, Characters, Taking, Counter, Text, Inspected, text_sizes, limit_text, limit_texts, entries_texts, span_at, limit_span, before_at, after_at, entries_at, counter_entries, tallying_takings, all_inspected, entry_counts, takings, inspection, inspected_size}
+use Rattle.source_tree.specs.InspectLayout.{Source, Bytes, Characters, Taking, Counter, Text, Inspected, text_sizes, limit_text, limit_texts, entries_texts, span_at, limit_span, before_at, after_at, entries_at, counter_entries, tallying_takings, all_inspected, entry_counts, takings, inspection, inspected_size}
 use Rattle.data_instructions.specs.declared.gather.Gather.TheVariants as g
 use Rattle.data_instructions.specs.declared.tables.Inspection.{Inspection}
 use Rattle.data_instructions.specs.declared.instruction.DataInstruction.TheVariants as i

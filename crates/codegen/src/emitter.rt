@@ -3,7 +3,7 @@
 ghost use Rattle.std.specs.Prelude.{◌≡◌, IfOk, slice_get};
 ghost use Rattle.check_rules.specs.Named.{IsDeclared, items_in};
 ghost use Rattle.source_tree.specs.Arithmetic.{receiver_of};
-ghost use Rattle.source_tree.specs.Inspecting.{found_size};
+ghost use Rattle.source_tree.specs.InspectLayout.{found_size};
 ghost use Rattle.codegen.specs.DataCode as spec;
 ghost use Rattle.codegen.specs.ArithmeticCode as arithmetic;
 

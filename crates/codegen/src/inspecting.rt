@@ -6,7 +6,7 @@ ghost use Rattle.source_tree.specs.Broken.{each};
 ghost use Rattle.source_tree.specs.Display.{figurative_byte};
 ghost use Rattle.source_tree.specs.NameRules.{item_rules};
 ghost use Rattle.source_tree.specs.InspectRules as rules;
-ghost use Rattle.source_tree.specs.Inspecting as meaning;
+ghost use Rattle.source_tree.specs.InspectLayout as layout;
 ghost use Rattle.check_rules.specs.Named.{IsDeclared, items_in};
 ghost use Rattle.codegen.specs.Pieces.{joined};
 ghost use Rattle.codegen.specs.DataCode.{text_piece};
@@ -56,7 +56,7 @@ fn longer(size: u32, text: u32) -> Result<u32, AllocError>
 }
 
 fn fit_of(how: Occurrences, text: Span) -> Fit
-    ensures { result ≡ meaning.fit_of how text }
+    ensures { result ≡ layout.fit_of how text }
 {
     match how {
         Occurrences::All => Fit::All(text),
@@ -101,7 +101,7 @@ impl<'a> Emitter<'a> {
     fn emit_bytes(&self, code: &mut Code, at: u32, one: &Reference) -> Result<Span, AllocError>
         requires declared { IsDeclared self.now.declarations.now }
         requires rules { item_rules (items_in self.now.declarations.now) rules.inspected_item one.now ≡ [] }
-        ensures { IfOk result (λ span. spec.TextMade (items_in self.now.declarations.now) (meaning.Bytes one.now) code.old code.new at span) }
+        ensures { IfOk result (λ span. spec.TextMade (items_in self.now.declarations.now) (layout.Bytes one.now) code.old code.new at span) }
     {
         self.emit_taking(code, DataInstruction::Gather(Gather::Sized), one)?;
         Ok(Span {
@@ -114,7 +114,7 @@ impl<'a> Emitter<'a> {
     fn emit_source(&self, code: &mut Code, at: u32, one: &Operand) -> Result<Span, AllocError>
         requires declared { IsDeclared self.now.declarations.now }
         requires rules { rules.inspected_rules (items_in self.now.declarations.now) one.now ≡ [] }
-        ensures { IfOk result (λ span. spec.TextMade (items_in self.now.declarations.now) (meaning.source one.now) code.old code.new at span) }
+        ensures { IfOk result (λ span. spec.TextMade (items_in self.now.declarations.now) (layout.source one.now) code.old code.new at span) }
     {
         match one {
             Operand::Item(reference) => self.emit_bytes(code, at, reference),
@@ -132,7 +132,7 @@ impl<'a> Emitter<'a> {
         size: u32,
         one: &LiteralValue,
     ) -> Result<Span, AllocError>
-        ensures { IfOk result (λ span. spec.TextMade (items_in self.now.declarations.now) (meaning.replacing_literal size one.now) code.old code.new at span) }
+        ensures { IfOk result (λ span. spec.TextMade (items_in self.now.declarations.now) (layout.replacing_literal size one.now) code.old code.new at span) }
     {
         match one {
             LiteralValue::Figurative(constant) => {
@@ -152,7 +152,7 @@ impl<'a> Emitter<'a> {
     ) -> Result<Span, AllocError>
         requires declared { IsDeclared self.now.declarations.now }
         requires rules { rules.inspected_rules (items_in self.now.declarations.now) one.now ≡ [] }
-        ensures { IfOk result (λ span. spec.TextMade (items_in self.now.declarations.now) (meaning.replacing_text size one.now) code.old code.new at span) }
+        ensures { IfOk result (λ span. spec.TextMade (items_in self.now.declarations.now) (layout.replacing_text size one.now) code.old code.new at span) }
     {
         match one {
             Operand::Item(reference) => self.emit_bytes(code, at, reference),
@@ -220,7 +220,7 @@ impl<'a> Emitter<'a> {
     ) -> Result<(), AllocError>
         requires declared { IsDeclared self.now.declarations.now }
         requires rules { rules.tallied_text_rules (items_in self.now.declarations.now) one.now ≡ [] }
-        ensures { OnOk result (spec.Puts (items_in self.now.declarations.now) (meaning.tallied_text how one.now ∷ []) code.old code.new made.old.size made.old.entries made.new.size made.new.entries) }
+        ensures { OnOk result (spec.Puts (items_in self.now.declarations.now) (layout.tallied_text how one.now ∷ []) code.old code.new made.old.size made.old.entries made.new.size made.new.entries) }
     {
         let text = self.emit_source(code, made.size, &one.text)?;
         let end = longer(made.size, text.length)?;
@@ -244,7 +244,7 @@ impl<'a> Emitter<'a> {
     ) -> Result<(), AllocError>
         requires declared { IsDeclared self.now.declarations.now }
         requires rules { each (rules.tallied_text_rules (items_in self.now.declarations.now)) all.now ≡ [] }
-        ensures { OnOk result (spec.Puts (items_in self.now.declarations.now) (meaning.all_inspected (λ one. meaning.tallied_text how one ∷ []) all.now) code.old code.new made.old.size made.old.entries made.new.size made.new.entries) }
+        ensures { OnOk result (spec.Puts (items_in self.now.declarations.now) (layout.all_inspected (λ one. layout.tallied_text how one ∷ []) all.now) code.old code.new made.old.size made.old.entries made.new.size made.new.entries) }
     {
         for one in all {
             self.emit_tallied_text(code, made, how, one)?;
@@ -261,7 +261,7 @@ impl<'a> Emitter<'a> {
     ) -> Result<(), AllocError>
         requires declared { IsDeclared self.now.declarations.now }
         requires rules { rules.tallied_rules (items_in self.now.declarations.now) one.now ≡ [] }
-        ensures { OnOk result (spec.Puts (items_in self.now.declarations.now) (meaning.tallied_entries one.now) code.old code.new made.old.size made.old.entries made.new.size made.new.entries) }
+        ensures { OnOk result (spec.Puts (items_in self.now.declarations.now) (layout.tallied_entries one.now) code.old code.new made.old.size made.old.entries made.new.size made.new.entries) }
     {
         match one {
             Tallied::Characters { limits } => {
@@ -289,7 +289,7 @@ impl<'a> Emitter<'a> {
     ) -> Result<(), AllocError>
         requires declared { IsDeclared self.now.declarations.now }
         requires rules { each (rules.tallied_rules (items_in self.now.declarations.now)) all.now ≡ [] }
-        ensures { OnOk result (spec.Puts (items_in self.now.declarations.now) (meaning.all_inspected meaning.tallied_entries all.now) code.old code.new made.old.size made.old.entries made.new.size made.new.entries) }
+        ensures { OnOk result (spec.Puts (items_in self.now.declarations.now) (layout.all_inspected layout.tallied_entries all.now) code.old code.new made.old.size made.old.entries made.new.size made.new.entries) }
     {
         for one in all {
             self.emit_tallied(code, made, one)?;
@@ -343,7 +343,7 @@ impl<'a> Emitter<'a> {
     ) -> Result<(), AllocError>
         requires declared { IsDeclared self.now.declarations.now }
         requires rules { rules.replaced_text_rules (items_in self.now.declarations.now) one.now ≡ [] }
-        ensures { OnOk result (spec.Puts (items_in self.now.declarations.now) (meaning.replaced_text (items_in self.now.declarations.now) how one.now ∷ []) code.old code.new made.old.size made.old.entries made.new.size made.new.entries) }
+        ensures { OnOk result (spec.Puts (items_in self.now.declarations.now) (layout.replaced_text (items_in self.now.declarations.now) how one.now ∷ []) code.old code.new made.old.size made.old.entries made.new.size made.new.entries) }
     {
         let text = self.emit_source(code, made.size, &one.text)?;
         let behind = longer(made.size, text.length)?;
@@ -369,7 +369,7 @@ impl<'a> Emitter<'a> {
     ) -> Result<(), AllocError>
         requires declared { IsDeclared self.now.declarations.now }
         requires rules { each (rules.replaced_text_rules (items_in self.now.declarations.now)) all.now ≡ [] }
-        ensures { OnOk result (spec.Puts (items_in self.now.declarations.now) (meaning.all_inspected (λ one. meaning.replaced_text (items_in self.now.declarations.now) how one ∷ []) all.now) code.old code.new made.old.size made.old.entries made.new.size made.new.entries) }
+        ensures { OnOk result (spec.Puts (items_in self.now.declarations.now) (layout.all_inspected (λ one. layout.replaced_text (items_in self.now.declarations.now) how one ∷ []) all.now) code.old code.new made.old.size made.old.entries made.new.size made.new.entries) }
     {
         for one in all {
             self.emit_replaced_text(code, made, how, one)?;
@@ -388,7 +388,7 @@ impl<'a> Emitter<'a> {
         requires declared { IsDeclared self.now.declarations.now }
         requires by { rules.inspected_rules (items_in self.now.declarations.now) by.now ≡ [] }
         requires limits { rules.limits_rules (items_in self.now.declarations.now) limits.now ≡ [] }
-        ensures { OnOk result (spec.Puts (items_in self.now.declarations.now) (meaning.replacing_entries (items_in self.now.declarations.now) (replacing.Characters by.now limits.now)) code.old code.new made.old.size made.old.entries made.new.size made.new.entries) }
+        ensures { OnOk result (spec.Puts (items_in self.now.declarations.now) (layout.replacing_entries (items_in self.now.declarations.now) (replacing.Characters by.now limits.now)) code.old code.new made.old.size made.old.entries made.new.size made.new.entries) }
     {
         let by = self.emit_by(code, made.size, 1, by)?;
         let end = longer(made.size, by.length)?;
@@ -411,7 +411,7 @@ impl<'a> Emitter<'a> {
     ) -> Result<(), AllocError>
         requires declared { IsDeclared self.now.declarations.now }
         requires rules { rules.replacing_rules (items_in self.now.declarations.now) one.now ≡ [] }
-        ensures { OnOk result (spec.Puts (items_in self.now.declarations.now) (meaning.replacing_entries (items_in self.now.declarations.now) one.now) code.old code.new made.old.size made.old.entries made.new.size made.new.entries) }
+        ensures { OnOk result (spec.Puts (items_in self.now.declarations.now) (layout.replacing_entries (items_in self.now.declarations.now) one.now) code.old code.new made.old.size made.old.entries made.new.size made.new.entries) }
     {
         match one {
             Replacing::Characters { by, limits } => self.emit_any_replaced(code, made, by, limits),
@@ -430,7 +430,7 @@ impl<'a> Emitter<'a> {
     ) -> Result<(), AllocError>
         requires declared { IsDeclared self.now.declarations.now }
         requires rules { each (rules.replacing_rules (items_in self.now.declarations.now)) all.now ≡ [] }
-        ensures { OnOk result (spec.Puts (items_in self.now.declarations.now) (meaning.all_inspected (meaning.replacing_entries (items_in self.now.declarations.now)) all.now) code.old code.new made.old.size made.old.entries made.new.size made.new.entries) }
+        ensures { OnOk result (spec.Puts (items_in self.now.declarations.now) (layout.all_inspected (layout.replacing_entries (items_in self.now.declarations.now)) all.now) code.old code.new made.old.size made.old.entries made.new.size made.new.entries) }
     {
         for one in all {
             self.emit_replacing(code, made, one)?;

@@ -10,6 +10,7 @@ use Rattle.source_tree.specs.Storage.{Storage}
 use Rattle.source_tree.specs.Evaluated.{Evaluated, ◌>>=◌}
 use Rattle.source_tree.specs.References.{ItemPlace, part_of}
 use Rattle.source_tree.specs.Inspecting as meaning
+use Rattle.source_tree.specs.InspectLayout as layout
 use Rattle.data_instructions.specs.declared.place.Place.{Place}
 use Rattle.data_instructions.specs.declared.tables.DataItem.{DataItem}
 use Rattle.data_instructions.specs.declared.tables.DataTables.{DataTables}
@@ -25,7 +26,7 @@ use Rattle.run_time_data.proofs.Strings.{stands_still}
 
 -- ---- how often entries fit
 
-one_more : (f : ℕ → ℕ) (from n : ℕ) → meaning.fits_together f from (suc n) ≡ meaning.fits_together f from n + f (from + n)
+one_more : (f : ℕ → ℕ) (from n : ℕ) → layout.fits_together f from (suc n) ≡ layout.fits_together f from n + f (from + n)
 one_more f from zero =
     let here : from + 0 ≡ from = omega arith in
     let same = ap f here in
@@ -36,11 +37,11 @@ one_more f from (suc n) =
     let last = ap f next in
     omega (arith, rest, last)
 
-pub fits_more : (f : ℕ → ℕ) (from n fits one : ℕ) → fits ≡ meaning.fits_together f from n → one ≡ f (from + n) → fits + one ≡ meaning.fits_together f from (n + 1)
+pub fits_more : (f : ℕ → ℕ) (from n fits one : ℕ) → fits ≡ layout.fits_together f from n → one ≡ f (from + n) → fits + one ≡ layout.fits_together f from (n + 1)
 fits_more f from n fits one so_far is =
     let more = one_more f from n in
     let next : suc n ≡ n + 1 = omega arith in
-    omega (arith, more, so_far, is) ∙ ap (meaning.fits_together f from) next
+    omega (arith, more, so_far, is) ∙ ap (layout.fits_together f from) next
 
 -- ---- places
 
@@ -73,24 +74,24 @@ module _ (tables : DataTables) where
   -- ---- one counter, and those after it
 
   abbrev adds_from : (ℕ → ℕ) → ℕ → List Place → List ℕ → Storage → Evaluated Storage
-  adds_from f from ps ns storage = meaning.add_each (map (there tables) ps) (meaning.counted f from ns) storage
+  adds_from f from ps ns storage = meaning.add_each (map (there tables) ps) (layout.counted f from ns) storage
 
   unrolled : (f : ℕ → ℕ) (from : ℕ) (ps : List Place) (ns : List ℕ) (number : ℕ) (d : Place) (e : ℕ) (storage : Storage) → number < length ps → number < length ns
       → adds_from f from (drop number ps) (drop number ns) storage
-      ≡ (meaning.add_fits (there tables (get_or ps number d)) (meaning.fits_together f from (get_or ns number e)) storage >>= adds_from f (from + get_or ns number e) (drop (number + 1) ps) (drop (number + 1) ns))
+      ≡ (meaning.add_fits (there tables (get_or ps number d)) (layout.fits_together f from (get_or ns number e)) storage >>= adds_from f (from + get_or ns number e) (drop (number + 1) ps) (drop (number + 1) ns))
   unrolled f from ps ns number d e storage h k =
       let next : suc number ≡ number + 1 = omega arith in
       ap (λ xs. adds_from f from xs (drop number ns) storage) (drop-cons ps number d h)
       ∙ ap (λ xs. adds_from f from (get_or ps number d ∷ drop (suc number) ps) xs storage) (drop-cons ns number e k)
-      ∙ ap (λ n. meaning.add_fits (there tables (get_or ps number d)) (meaning.fits_together f from (get_or ns number e)) storage >>= adds_from f (from + get_or ns number e) (drop n ps) (drop n ns)) next
+      ∙ ap (λ n. meaning.add_fits (there tables (get_or ps number d)) (layout.fits_together f from (get_or ns number e)) storage >>= adds_from f (from + get_or ns number e) (drop n ps) (drop n ns)) next
 
   -- after one that was added, and after a fault
   pub added : (f : ℕ → ℕ) (from : ℕ) (ps : List Place) (ns : List ℕ) (number : ℕ) (d : Place) (e : ℕ) (old : Storage) (one : ItemPlace) (r : Evaluated Storage) → number < length ps → number < length ns
-      → there tables (get_or ps number d) ≡ one → meaning.add_fits one (meaning.fits_together f from (get_or ns number e)) old ≡ r
+      → there tables (get_or ps number d) ≡ one → meaning.add_fits one (layout.fits_together f from (get_or ns number e)) old ≡ r
       → adds_from f from (drop number ps) (drop number ns) old ≡ (r >>= adds_from f (from + get_or ns number e) (drop (number + 1) ps) (drop (number + 1) ns))
   added f from ps ns number d e old one r h k is adds =
       unrolled f from ps ns number d e old h k
-      ∙ ap (λ place. meaning.add_fits place (meaning.fits_together f from (get_or ns number e)) old >>= adds_from f (from + get_or ns number e) (drop (number + 1) ps) (drop (number + 1) ns)) is
+      ∙ ap (λ place. meaning.add_fits place (layout.fits_together f from (get_or ns number e)) old >>= adds_from f (from + get_or ns number e) (drop (number + 1) ps) (drop (number + 1) ns)) is
       ∙ ap (λ x. x >>= adds_from f (from + get_or ns number e) (drop (number + 1) ps) (drop (number + 1) ns)) adds
 
   pub total_next : (ns : List ℕ) (number e from : ℕ) → number < length ns → from + total (drop number ns) ≡ total ns → from + get_or ns number e + total (drop (number + 1) ns) ≡ total ns
@@ -165,20 +166,20 @@ module _ (tables : DataTables) (storage : Storage) where
 
 -- ---- counts, as far as there are entries
 
-fits_alike : (f g : ℕ → ℕ) (size from n : ℕ) → ((k : ℕ) → k < size → f k ≡ g k) → from + n ≤ size → meaning.fits_together f from n ≡ meaning.fits_together g from n
+fits_alike : (f g : ℕ → ℕ) (size from n : ℕ) → ((k : ℕ) → k < size → f k ≡ g k) → from + n ≤ size → layout.fits_together f from n ≡ layout.fits_together g from n
 fits_alike f g size from zero alike h = refl
 fits_alike f g size from (suc n) alike h =
     let one = alike from (omega (arith, h)) in
     let rest = fits_alike f g size (from + 1) n alike (omega (arith, h)) in
     omega (arith, one, rest)
 
-counted_alike : (f g : ℕ → ℕ) (size from : ℕ) (counters : List ℕ) → ((k : ℕ) → k < size → f k ≡ g k) → from + total counters ≤ size → meaning.counted f from counters ≡ meaning.counted g from counters
+counted_alike : (f g : ℕ → ℕ) (size from : ℕ) (counters : List ℕ) → ((k : ℕ) → k < size → f k ≡ g k) → from + total counters ≤ size → layout.counted f from counters ≡ layout.counted g from counters
 counted_alike f g size from [] alike h = refl
 counted_alike f g size from (n ∷ more) alike h =
-    ap (λ k. k ∷ meaning.counted f (from + n) more) (fits_alike f g size from n alike (omega (arith, h)))
-    ∙ ap (λ ks. meaning.fits_together g from n ∷ ks) (counted_alike f g size (from + n) more alike (omega (arith, h)))
+    ap (λ k. k ∷ layout.counted f (from + n) more) (fits_alike f g size from n alike (omega (arith, h)))
+    ∙ ap (λ ks. layout.fits_together g from n ∷ ks) (counted_alike f g size (from + n) more alike (omega (arith, h)))
 
-stored_alike : (texts : List ℕ) (entries : List Entry) (bytes : List ℕ) (subject : ItemPlace) (storage : Storage) → meaning.store_replaced texts entries bytes subject storage ≡ stored_by entries subject (replaced texts entries bytes) storage
+stored_alike : (texts : List ℕ) (entries : List Entry) (bytes : List ℕ) (subject : ItemPlace) (storage : Storage) → layout.store_replaced texts entries bytes subject storage ≡ stored_by entries subject (replaced texts entries bytes) storage
 stored_alike texts [] bytes subject storage = refl
 stored_alike texts (one ∷ more) bytes subject storage = refl
 
@@ -189,10 +190,10 @@ stores_with s after = Went (record s { storage = after; line = [] })
 inspect_ends : (one : Inspection) (counters : List ItemPlace) (subject : ItemPlace) (s : Scratch) (counts text : List ℕ)
     → ((k : ℕ) → k < length one.tallying → slice_index counts k ≡ tally (padded one.size s.line) one.tallying (part_of s.storage subject) k) → total one.counters ≤ length one.tallying
     → text ≡ replaced (padded one.size s.line) one.replacing (part_of s.storage subject)
-    → inspected_at one counters subject s ≡ step_with (added_and_stored counters (meaning.counted (slice_index counts) 0 one.counters) one.replacing subject text s.storage) (stores_with s)
+    → inspected_at one counters subject s ≡ step_with (added_and_stored counters (layout.counted (slice_index counts) 0 one.counters) one.replacing subject text s.storage) (stores_with s)
 inspect_ends one counters subject s counts text counted enough is =
     ap (λ ns. by_fits ns) (sym (counted_alike (slice_index counts) (tally texts one.tallying bytes) (length one.tallying) 0 one.counters counted (omega (arith, enough))))
-    ∙ by_storage (meaning.add_each counters (meaning.counted (slice_index counts) 0 one.counters) s.storage)
+    ∙ by_storage (meaning.add_each counters (layout.counted (slice_index counts) 0 one.counters) s.storage)
   where
     texts : List ℕ
     texts = padded one.size s.line
@@ -201,9 +202,9 @@ inspect_ends one counters subject s counts text counted enough is =
     bytes = part_of s.storage subject
 
     by_fits : List ℕ → Step
-    by_fits ns = step_with (meaning.add_each counters ns s.storage >>= (λ after. Ok (meaning.store_replaced texts one.replacing bytes subject after))) (stores_with s)
+    by_fits ns = step_with (meaning.add_each counters ns s.storage >>= (λ after. Ok (layout.store_replaced texts one.replacing bytes subject after))) (stores_with s)
 
-    by_storage : (x : Evaluated Storage) → step_with (x >>= (λ after. Ok (meaning.store_replaced texts one.replacing bytes subject after))) (stores_with s) ≡ step_with (x >>= (λ after. Ok (stored_by one.replacing subject text after))) (stores_with s)
+    by_storage : (x : Evaluated Storage) → step_with (x >>= (λ after. Ok (layout.store_replaced texts one.replacing bytes subject after))) (stores_with s) ≡ step_with (x >>= (λ after. Ok (stored_by one.replacing subject text after))) (stores_with s)
     by_storage (Ok after) = ap (stores_with s) (stored_alike texts one.replacing bytes subject after ∙ ap (λ t. stored_by one.replacing subject t after) (sym is))
     by_storage (Err fault) = refl
 
@@ -216,11 +217,11 @@ pub inspect_comes : (tables : DataTables) (one : Inspection) (qs : List Place) (
     → slice_get s.places (length one.counters) ≡ Some p → slice_get tables.items p.item.number ≡ Some to
     → ((k : ℕ) → k < length one.tallying → slice_index counts k ≡ tally (padded one.size s.line) one.tallying (part_of s.storage (item_place (shortened to p.length) p.offset)) k) → total one.counters ≤ length one.tallying
     → text ≡ replaced (padded one.size s.line) one.replacing (part_of s.storage (item_place (shortened to p.length) p.offset))
-    → Adds done new (added_and_stored (map (there tables) qs) (meaning.counted (slice_index counts) 0 one.counters) one.replacing (item_place (shortened to p.length) p.offset) text s.storage)
+    → Adds done new (added_and_stored (map (there tables) qs) (layout.counted (slice_index counts) 0 one.counters) one.replacing (item_place (shortened to p.length) p.offset) text s.storage)
     → Comes done (record s { storage = new; line = []; places = drop (length one.counters + 1) s.places }) (inspected_with tables one s)
 inspect_comes tables one qs p to s counts text done new many is stand subject here counted enough replaced_is adds =
     let t : Scratch = record s { places = drop (length one.counters + 1) s.places } in
-    ends_as done new (added_and_stored (map (there tables) qs) (meaning.counted (slice_index counts) 0 one.counters) one.replacing (item_place (shortened to p.length) p.offset) text s.storage) t (inspected_with tables one s) adds
+    ends_as done new (added_and_stored (map (there tables) qs) (layout.counted (slice_index counts) 0 one.counters) one.replacing (item_place (shortened to p.length) p.offset) text s.storage) t (inspected_with tables one s) adds
     (inspected_is tables s.storage one qs p to s many is stand subject here
     ∙ inspect_ends one (map (there tables) qs) (item_place (shortened to p.length) p.offset) t counts text counted enough replaced_is)
 

@@ -2,6 +2,7 @@
 
 ghost use Rattle.std.specs.Prelude.{◌≡◌, ◌+◌, ◌≤◌, ◌<◌, ◌^◌, length, map, slice_index};
 ghost use Rattle.source_tree.specs.Inspecting as meaning;
+ghost use Rattle.source_tree.specs.InspectLayout as layout;
 ghost use Rattle.data_instructions.specs.Table as spec;
 ghost use Rattle.data_instructions.specs.Tables.{item_place, total, IsInspection};
 ghost use Rattle.data_instructions.specs.declared.instruction.DataInstruction.TheVariants as instructions;
@@ -24,7 +25,7 @@ use text_ops::Entry;
 /// How often so many entries fit together, from one on.
 fn fits_together(counts: &[u64], from: usize, entries: u32) -> u128
     requires { from + entries ≤ length counts.now }
-    ensures value { result ≡ meaning.fits_together (slice_index counts.now) from entries }
+    ensures value { result ≡ layout.fits_together (slice_index counts.now) from entries }
     ensures small { result < 2 ^ 96 }
 {
     let mut fits: u128 = 0;
@@ -45,7 +46,7 @@ fn add_fits(
 ) -> Result<(), ProgramFault>
     requires stands { StandsAt one.now areas.old offset }
     requires counts { from + entries ≤ length counts.now }
-    ensures adds { Adds result areas.new (meaning.add_fits (item_place one.now offset) (meaning.fits_together (slice_index counts.now) from entries) areas.old) }
+    ensures adds { Adds result areas.new (meaning.add_fits (item_place one.now offset) (layout.fits_together (slice_index counts.now) from entries) areas.old) }
     ensures lengths { map length areas.new ≡ map length areas.old }
 {
     let old = number_in(one.item.kind, areas.bytes(one, offset)).ok_or(ProgramFault::Data)?;
@@ -85,7 +86,7 @@ fn add_each(
     requires stand { StandEach tables.now areas.old places.now }
     requires counters { length places.now ≡ length counters.now }
     requires counts { total counters.now ≤ length counts.now }
-    ensures adds { Adds result areas.new (meaning.add_each (map (there tables.now) places.now) (meaning.counted (slice_index counts.now) 0 counters.now) areas.old) }
+    ensures adds { Adds result areas.new (meaning.add_each (map (there tables.now) places.now) (layout.counted (slice_index counts.now) 0 counters.now) areas.old) }
     ensures lengths { map length areas.new ≡ map length areas.old }
 {
     let mut from = 0;
@@ -128,7 +129,7 @@ fn add_and_store(
     requires counts { total one.now.counters ≤ length counts.now }
     requires stands { StandsAt to.now areas.old offset }
     requires size { length text.now ≡ to.now.item.length }
-    ensures adds { Adds result areas.new (added_and_stored (map (there tables.now) places.now) (meaning.counted (slice_index counts.now) 0 one.now.counters) one.now.replacing (item_place to.now offset) text.now areas.old) }
+    ensures adds { Adds result areas.new (added_and_stored (map (there tables.now) places.now) (layout.counted (slice_index counts.now) 0 one.now.counters) one.now.replacing (item_place to.now offset) text.now areas.old) }
     ensures lengths { map length areas.new ≡ map length areas.old }
 {
     match add_each(areas, tables, places, one.counters.as_slice(), counts) {

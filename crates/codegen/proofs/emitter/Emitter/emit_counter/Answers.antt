@@ -4,7 +4,7 @@ use Rattle.source_tree.specs.InspectRules.{counter_item, tallied_rules}
 use Rattle.source_tree.specs.Broken.{each}
 use Rattle.source_tree.specs.NameRules.{item_rules}
 use Rattle.codegen.proofs.Kept.{front_kept, back_kept, item_kept}
-use Rattle.source_tree.specs.Inspecting.{tallied_entries, all_inspected, counter_entries}
+use Rattle.source_tree.specs.InspectLayout.{tallied_entries, all_inspected, counter_entries}
 use Rattle.codegen.specs.InspectCode.{Puts}
 use Rattle.codegen.proofs.InspectMaking.{counter_put, put_count}
 use Rattle.codegen.proofs.Sequences.{on_ok}

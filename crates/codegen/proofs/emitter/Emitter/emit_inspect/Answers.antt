@@ -4,7 +4,7 @@ use Rattle.source_tree.specs.InspectRules.{inspected_item, tallying_rules, repla
 use Rattle.source_tree.specs.Broken.{each}
 use Rattle.codegen.proofs.InspectKept.{keeps_inspect}
 use Rattle.codegen.proofs.Kept.{item_kept}
-use Rattle.source_tree.specs.Inspecting.{all_inspected, replacing_entries}
+use Rattle.source_tree.specs.InspectLayout.{all_inspected, replacing_entries}
 use Rattle.codegen.specs.InspectCode.{Puts, Counts}
 use Rattle.codegen.proofs.InspectMaking.{inspect_made}
 use Rattle.codegen.proofs.Sequences.{on_ok}

@@ -1,7 +1,7 @@
 use Rattle.std.proofs.Common.{ℕ, ◌≤◌, [], ◌∷◌, length, ap, ◌∙◌, arith}
 use Rattle.check_rules.specs.Named.{items_in}
 use Rattle.source_tree.specs.InspectRules.{replaced_text_rules}
-use Rattle.source_tree.specs.Inspecting.{replaced_text}
+use Rattle.source_tree.specs.InspectLayout.{replaced_text}
 use Rattle.codegen.proofs.Kept.{one_kept}
 use Rattle.codegen.proofs.InspectMaking.{puts_none, puts_more, puts_all}
 use Rattle.codegen.proofs.emitter.Emitter.emit_replaced_texts.Goals as goal
