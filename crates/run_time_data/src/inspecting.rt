@@ -67,7 +67,7 @@ fn add_at(
 ) -> Result<(), ProgramFault>
     requires stands { Stands tables.now areas.old place }
     requires counts { from + entries ≤ length counts.now }
-    ensures adds { Adds result areas.new (meaning.add_fits (there tables.now place) (meaning.fits_together (slice_index counts.now) from entries) areas.old) }
+    ensures adds { Adds result areas.new (meaning.add_fits (there tables.now place) (layout.fits_together (slice_index counts.now) from entries) areas.old) }
     ensures lengths { map length areas.new ≡ map length areas.old }
 {
     let one = &tables.items.as_slice()[place.item.number as usize];

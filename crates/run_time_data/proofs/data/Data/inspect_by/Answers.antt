@@ -3,7 +3,7 @@ use Rattle.std.specs.Prelude.{reverse, slice_get, slice_index}
 use Rattle.std.proofs.lemmas.Option.{slice_get_read}
 use Rattle.items.specs.Texts.{padded}
 use Rattle.text_ops.specs.Inspect.{tally, replaced}
-use Rattle.source_tree.specs.Inspecting as meaning
+use Rattle.source_tree.specs.InspectLayout as layout
 use Rattle.source_tree.specs.References.{part_of}
 use Rattle.data_instructions.specs.declared.place.Place.{Place}
 use Rattle.data_instructions.specs.declared.tables.DataItem.{DataItem}
@@ -119,7 +119,7 @@ returns-clause-does c =
     ∙ ap (λ (xs : List ℕ). replaced (padded one.size s.line) one.replacing xs) c.bytes-2.ensures.value
     ∙ ap (λ (o : DataItem). replaced (padded one.size s.line) one.replacing (part_of s.storage (item_place o p.offset))) seen_is in
     let adds = subst (λ (o : DataItem). Adds c.add_and_store-done.result c.add_and_store-done.new.areas
-    (added_and_stored (map (there c.args.tables.now) c.newest-places.result.now) (meaning.counted (slice_index c.as_slice-counts.result.now) 0 one.counters) one.replacing (item_place o p.offset) c.bytes-text.result.now s.storage))
+    (added_and_stored (map (there c.args.tables.now) c.newest-places.result.now) (layout.counted (slice_index c.as_slice-counts.result.now) 0 one.counters) one.replacing (item_place o p.offset) c.bytes-text.result.now s.storage))
     seen_is c.add_and_store-done.ensures.adds in
     let comes = inspect_comes c.args.tables.now one c.newest-places.result.now p to s c.as_slice-counts.result.now c.bytes-text.result.now c.add_and_store-done.result c.add_and_store-done.new.areas
     many order stand at here counted c.requires.form.counters text_is adds in
