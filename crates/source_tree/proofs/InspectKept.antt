@@ -7,7 +7,7 @@ use Rattle.std.proofs.lemmas.Bool.Decides.{nat_tests}
 use Rattle.std.proofs.lemmas.List.{length-replicate}
 use Rattle.std.proofs.lemmas.List.Elements.{All-from_recursion}
 use Rattle.text_ops.specs.declared.entry.Span.{Span}
-use Rattle.text_ops.specs.Entries.{IsSpan, IsFit, IfSpan, IsBy, IsEntry, fit_length}
+use Rattle.text_ops.specs.Entries.{IsSpan, IsFit, IfSpan, IsBy, IsEntry, AreWithin, fit_length}
 use Rattle.lexical.specs.declared.place.Place.{Place}
 use Rattle.source_tree.specs.declared.literal.LiteralValue.{LiteralValue}
 use Rattle.source_tree.specs.declared.literal.LiteralValue.TheVariants as literal
@@ -36,7 +36,7 @@ use Rattle.source_tree.specs.ValueRules.{has_form, most_literal_characters}
 use Rattle.source_tree.specs.ConditionRules.{operand_place}
 use Rattle.source_tree.specs.InspectRules.{counter_item, inspected_item, inspected_literal, inspected_rules, only_size, size_of, literal_size, replacing_size, same_size, by_rules, limit_rules, limits_rules, ordered_limits, tallied_text_rules, tallied_rules, tallying_rules, replaced_text_rules, replacing_rules, inspect_rules}
 use Rattle.source_tree.specs.Inspecting.{inspect}
-use Rattle.source_tree.specs.InspectLayout.{Source, Bytes, source, found_size, text_size, text_sizes, replacing_literal, replacing_text, What, Any, Occurs, Inspected, tallied_text, replaced_text, all_inspected, tallied_entries, counter_entries, replacing_entries, what_texts, by_texts, limit_text, limit_texts, entry_texts, entries_texts, fit_of, span_at, what_fit, by_span, limit_span, before_at, after_at, by_at, limits_at, entry_at, entries_at, all_tallied, all_replaced, tallied_size, inspected_size, inspect_by_spans}
+use Rattle.source_tree.specs.InspectLayout.{Source, Bytes, source, found_size, text_size, text_sizes, replacing_literal, replacing_text, What, Any, Occurs, Inspected, tallied_text, replaced_text, all_inspected, tallied_entries, counter_entries, replacing_entries, what_texts, by_texts, limit_text, limit_texts, entry_texts, entries_texts, fit_of, span_at, what_fit, by_span, limit_span, before_at, after_at, by_at, limits_at, entry_at, entries_at, all_tallied, all_replaced, tallied_size, inspected_size, inspection, inspect_by_spans}
 use Rattle.source_tree.proofs.SoundFiles.{left_none, right_none, kept}
 use Rattle.source_tree.proofs.InspectTaking.{sizes_append}
 use Rattle.source_tree.proofs.InspectMeaning.{whole_size, spans_mean}
@@ -102,6 +102,10 @@ module _ (items : List Placed) where
   AreSized = AllByRecursion IsSized
 
   -- ---- Their entries have them within all that is taken.
+
+  pub record EntriesWithin (one : Inspecting) : Type 0 where
+    pub tallying : AreWithin (inspection items one).tallying (inspected_size items one)
+    pub replacing : AreWithin (inspection items one).replacing (inspected_size items one)
 
   text_within : (one : Source) (at size : ℕ) → IsSome one → at + text_size items one ≤ size
       → IsSpan size (span_at items at one)
@@ -358,27 +362,36 @@ module _ (items : List Placed) where
 
     -- ---- INSPECT
 
-    kept_mean : (one : Inspecting) (storage : Storage) → inspect_rules items one ≡ []
-        → inspect items one storage ≡ inspect_by_spans items one storage
-    kept_mean one storage e =
+    kept_within : (one : Inspecting) → inspect_rules items one ≡ [] → EntriesWithin one
+    kept_within one e =
         let a = item_rules items inspected_item one.subject in
         let b = each (tallying_rules items) one.tallying in
         let c = each (replacing_rules items) one.replacing in
         let size = inspected_size items one in
         let whole = whole_size items one in
+        let front = all_tallied items one in
+        let back = all_replaced items one in
         let tallying = all_sized (tallying_rules items) counter_entries counter_sized one.tallying
         (right_none a b (left_none (a ++ b) c e)) in
         let replacing = all_sized (replacing_rules items) (replacing_entries items) replacing_sized one.replacing
         (right_none (a ++ b) c e) in
-        sym (spans_mean items one storage
-        (All-from_recursion (IsEntry size) (entries_at items 0 (all_tallied items one))
-        (entries_within (all_tallied items one) 0 size tallying (omega (arith, whole))))
-        (All-from_recursion (IsEntry size) (entries_at items (tallied_size items one) (all_replaced items one))
-        (entries_within (all_replaced items one) (tallied_size items one) size replacing (omega (arith, whole)))))
+        record {
+          tallying = All-from_recursion (IsEntry size) (entries_at items 0 front)
+              (entries_within front 0 size tallying (omega (arith, whole)));
+          replacing = All-from_recursion (IsEntry size) (entries_at items (tallied_size items one) back)
+              (entries_within back (tallied_size items one) size replacing (omega (arith, whole)));
+        }
 
-pub inspected_alike : (items : List Placed) → ((n : ℕ) (item : Placed) → slice_get items n ≡ Some item
-    → 1 ≤ item.item.length)
-    → (one : Inspecting) (storage : Storage) → inspect_rules items one ≡ []
-    → inspect items one storage ≡ inspect_by_spans items one storage
-inspected_alike items sized one storage e = kept_mean items (by_number (λ item. 1 ≤ item.item.length) items sized) one
-    storage e
+-- each item has a byte or more
+abbrev pub AreSomeBytes : List Placed → Type 0
+AreSomeBytes items = (n : ℕ) (item : Placed) → slice_get items n ≡ Some item → 1 ≤ item.item.length
+
+pub inspection_within : (items : List Placed) → AreSomeBytes items → (one : Inspecting) → inspect_rules items one ≡ []
+    → EntriesWithin items one
+inspection_within items sized one e = kept_within items (by_number (λ item. 1 ≤ item.item.length) items sized) one e
+
+pub inspected_alike : (items : List Placed) → AreSomeBytes items → (one : Inspecting) (storage : Storage)
+    → inspect_rules items one ≡ [] → inspect items one storage ≡ inspect_by_spans items one storage
+inspected_alike items sized one storage e =
+    let within = inspection_within items sized one e in
+    sym (spans_mean items one storage within.tallying within.replacing)
