@@ -1,10 +1,7 @@
 -- What the rules of INSPECT say of its texts and entries.
-use Rattle.std.proofs.Common.{◌≡◌, ℕ, Bool, true, false, List, [], ◌∷◌, ◌++◌, length, map, Option, Some, None, refl, sym, ap, subst, ◌∙◌, arith}
-use Rattle.std.specs.Prelude.{◌==◌, not, replicate, slice_get}
+use Rattle.std.proofs.Common.{◌≡◌, ℕ, Bool, true, false, List, [], ◌∷◌, ◌++◌, length, map, Option, Some, None, sym, ap, ◌∙◌}
+use Rattle.std.specs.Prelude.{replicate, slice_get}
 use Rattle.std.specs.List.{AllByRecursion}
-use Rattle.std.proofs.lemmas.Bool.Decides.{nat_tests}
-use Rattle.std.proofs.lemmas.List.{length-replicate}
-use Rattle.lexical.specs.declared.place.Place.{Place}
 use Rattle.source_tree.specs.declared.literal.Figurative.{Figurative}
 use Rattle.source_tree.specs.declared.literal.LiteralValue.{LiteralValue}
 use Rattle.source_tree.specs.declared.literal.LiteralValue.TheVariants as literal
@@ -22,17 +19,15 @@ use Rattle.source_tree.specs.declared.inspecting.ReplacedText.{ReplacedText}
 use Rattle.source_tree.specs.declared.inspecting.Replacing.{Replacing}
 use Rattle.source_tree.specs.declared.inspecting.Replacing.TheVariants as replacing
 use Rattle.source_tree.specs.declared.inspecting.Inspecting.{Inspecting}
-use Rattle.source_tree.specs.Broken.{Broken, where_so, each}
+use Rattle.source_tree.specs.Broken.{Broken, each}
 use Rattle.source_tree.specs.Display.{figurative_byte, shown_literal}
 use Rattle.source_tree.specs.LookUp.{items_named, first}
 use Rattle.source_tree.specs.NameRules.{item_rules}
 use Rattle.source_tree.specs.Places.{Placed}
-use Rattle.source_tree.specs.ConditionRules.{operand_place}
-use Rattle.source_tree.specs.InspectRules.{counter_item, inspected_item, inspected_literal, inspected_rules, only_size, size_of, literal_size, replacing_size, same_size, by_rules, limit_rules, two_limits, ordered_limits, limits_rules, tallied_text_rules, tallied_rules, tallying_rules, replaced_text_rules, replacing_rules, inspect_rules}
-use Rattle.source_tree.specs.InspectLayout.{Source, Bytes, Characters, Taking, Counter, Text, source, found_size, text_size, replacing_literal, replacing_text, What, Any, Occurs, Inspected, tallied_text, replaced_text, all_inspected, tallied_entries, counter_entries, replacing_entries, what_texts, by_texts, limit_text, limit_texts, entry_texts, entries_texts, tallying_takings, all_tallied, all_replaced, takings}
+use Rattle.source_tree.specs.InspectRules.{counter_item, inspected_item, inspected_literal, inspected_rules, size_of, by_rules, limit_rules, ordered_limits, limits_rules, tallied_text_rules, tallied_rules, tallying_rules, replaced_text_rules, replacing_rules, inspect_rules}
+use Rattle.source_tree.specs.InspectLayout.{Source, Bytes, Characters, Taking, Counter, Text, source, found_size, text_size, replacing_literal, replacing_text, What, Any, Occurs, Inspected, tallied_text, replaced_text, all_inspected, tallied_entries, counter_entries, replacing_entries, what_texts, by_texts, limit_text, limit_texts, entry_texts, entries_texts, tallying_takings, all_replaced, takings}
 use Rattle.codegen.specs.DataCode.{item_number}
 use Rattle.codegen.proofs.Codes.{left_none, right_none, only_named, item_there}
-use Rattle.codegen.proofs.Integers.{kept, not_false}
 use Rattle.codegen.proofs.Straight.{all_both}
 
 -- ---- the parts of a statement
@@ -50,56 +45,12 @@ keeps_inspect items one e =
     let f = left_none (a ++ b) c e in
     record { subject = left_none a b f; tallying = right_none a b f; replacing = right_none (a ++ b) c e }
 
--- ---- sizes
-
--- the size of what an entry fits
-abbrev pub what_size : List Placed → What → ℕ
-what_size items Any = 1
-what_size items (Occurs how text) = text_size items text
-
--- A replacing text has the size of what it replaces.
-abbrev pub SameSize : List Placed → What → Option Source → Type 0
-SameSize items what None = Unit {0}
-SameSize items what (Some by) = text_size items by ≡ what_size items what
-
-same_numbers : (n m : ℕ) → (n == m) ≡ true → n ≡ m
-same_numbers n m e = grind (arith, nat_tests)
-
 module _ (items : List Placed) where
-  -- the size of an item that is named, as the rules know it and as it is
-  item_size : (asked : Place → Placed → List Broken) (one : Reference) → item_rules items asked one ≡ []
-      → only_size (items_named items one.item) ≡ Some (text_size items (Bytes one))
-  item_size asked one e =
-      let found = only_named one.item.name.place _ (items_named items one.item) (left_none _ _ e) in
-      ap only_size found.1 ∙ sym (ap (λ l. Some (found_size (first l))) found.1)
-
   -- the length of the item that is found is the size of its text
   pub named_length : (one : Reference) → item_rules items inspected_item one ≡ [] → found_size (slice_get items (item_number items one.item)) ≡ text_size items (Bytes one)
   named_length one e =
       let found = only_named one.item.name.place _ (items_named items one.item) (left_none _ _ e) in
       ap found_size (item_there items one.item found.0 found.1) ∙ sym (ap (λ l. found_size (first l)) found.1)
-
-  known_size : (one : Operand) → inspected_rules items one ≡ [] → size_of items one ≡ Some (text_size items (source one))
-  known_size (operand.Item one) e = item_size inspected_item one e
-  known_size (operand.Literal one) e = refl
-
-  sizes_are_same : (place : Place) (known other : Option ℕ) (n m : ℕ) → known ≡ Some n → other ≡ Some m → where_so (not (same_size known other)) 64 place ≡ [] → m ≡ n
-  sizes_are_same place known other n m e f h =
-      sym (same_numbers n m (not_false (n == m) (kept (not (n == m)) 64 place (sym (ap (λ o. where_so (not (same_size o other)) 64 place) e ∙ ap (λ o. where_so (not (same_size (Some n) o)) 64 place) f) ∙ h))))
-
-  literal_same : (place : Place) (size : ℕ) (value : LiteralValue) → where_so (not (same_size (Some size) (literal_size value))) 64 place ≡ []
-      → text_size items (replacing_literal size value) ≡ size
-  literal_same place size (literal.Figurative constant) h = length-replicate size (figurative_byte constant)
-  literal_same place size (literal.Numeric number) h = sizes_are_same place (Some size) _ size _ refl refl h
-  literal_same place size (literal.Nonnumeric bytes) h = sizes_are_same place (Some size) _ size _ refl refl h
-  literal_same place size (literal.All bytes) h = sizes_are_same place (Some size) _ size _ refl refl h
-
-  by_same : (size : ℕ) (by : Operand) → by_rules items (Some size) by ≡ [] → text_size items (replacing_text size by) ≡ size
-  by_same size (operand.Item one) e =
-      let rules = inspected_rules items (operand.Item one) in
-      let here = item_size inspected_item one (left_none rules _ e) in
-      sizes_are_same (operand_place (operand.Item one)) (Some size) (replacing_size items (operand.Item one)) size _ refl here (right_none rules _ e)
-  by_same size (operand.Literal one) e = literal_same (operand_place (operand.Literal one)) size one.value (right_none (inspected_rules items (operand.Literal one)) _ e)
 
 -- both limits keep their rules, in whatever order they stand
 ordered_rules : (items : List Placed) (before after : Option Operand) (turned : Bool) → ordered_limits items before after turned ≡ []
@@ -132,7 +83,6 @@ module _ (items : List Placed) (P : Source → Type 0) where
   pub record KeepsInspected (one : Inspected) : Type 0 where
     pub what : KeepsWhat one.what
     pub by : KeepsBy one.by
-    pub same : SameSize items one.what one.by
     pub before : KeepsLimit one.limits.before
     pub after : KeepsLimit one.limits.after
 
@@ -224,10 +174,10 @@ module _ (items : List Placed) (P : Source → Type 0) where
     tallied_text_kept how one e =
         let text = operand_keeps one.text (left_none (inspected_rules items one.text) (limits_rules items one.limits) e) in
         let limits = limits_kept one.limits (right_none (inspected_rules items one.text) (limits_rules items one.limits) e) in
-        (record { what = text; by = tt; same = tt; before = limits.0; after = limits.1 }, tt)
+        (record { what = text; by = tt; before = limits.0; after = limits.1 }, tt)
 
     tallied_kept : (one : Tallied) → tallied_rules items one ≡ [] → AllKeep (tallied_entries one)
-    tallied_kept (tallied.Characters limits) e = let h = limits_kept limits e in (record { what = tt; by = tt; same = tt; before = h.0; after = h.1 }, tt)
+    tallied_kept (tallied.Characters limits) e = let h = limits_kept limits e in (record { what = tt; by = tt; before = h.0; after = h.1 }, tt)
     tallied_kept (tallied.Texts how texts) e = all_kept (tallied_text_rules items) (λ one. tallied_text how one ∷ []) (tallied_text_kept how) texts e
 
     counter_kept : (one : Tallying) → tallying_rules items one ≡ [] → AllKeep (counter_entries one)
@@ -242,23 +192,19 @@ module _ (items : List Placed) (P : Source → Type 0) where
         let c = limits_rules items one.limits in
         let f = left_none (a ++ b) c e in
         let text = operand_keeps one.text (left_none a b f) in
-        let known = known_size items one.text (left_none a b f) in
         let size = text_size items (source one.text) in
-        let by = subst (λ o. by_rules items o one.by ≡ []) known (right_none a b f) in
+        let by = by_keeps (size_of items one.text) size one.by (right_none a b f) (of_figurative (source one.text) text) in
         let limits = limits_kept one.limits (right_none (a ++ b) c e) in
-        (record { what = text; by = by_keeps (Some size) size one.by by (of_figurative (source one.text) text); same = by_same items size one.by by; before = limits.0; after = limits.1 }, tt)
+        (record { what = text; by = by; before = limits.0; after = limits.1 }, tt)
 
     replacing_kept : (one : Replacing) → replacing_rules items one ≡ [] → AllKeep (replacing_entries items one)
     replacing_kept (replacing.Characters by limits) e =
         let here = left_none (by_rules items (Some 1) by) (limits_rules items limits) e in
         let h = limits_kept limits (right_none (by_rules items (Some 1) by) (limits_rules items limits) e) in
-        (record { what = tt; by = by_keeps (Some 1) 1 by here of_one; same = by_same items 1 by here; before = h.0; after = h.1 }, tt)
+        (record { what = tt; by = by_keeps (Some 1) 1 by here of_one; before = h.0; after = h.1 }, tt)
     replacing_kept (replacing.Texts how texts) e = all_kept (replaced_text_rules items) (λ one. replaced_text items how one ∷ []) (replaced_text_kept how) texts e
 
     -- ---- INSPECT
-
-    pub tallied_keep : (one : Inspecting) → KeepsInspect items one → AllKeep (all_tallied items one)
-    tallied_keep one k = all_kept (tallying_rules items) counter_entries counter_kept one.tallying k.tallying
 
     pub replaced_keep : (one : Inspecting) → KeepsInspect items one → AllKeep (all_replaced items one)
     replaced_keep one k = all_kept (replacing_rules items) (replacing_entries items) replacing_kept one.replacing k.replacing
