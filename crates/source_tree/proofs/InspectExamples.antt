@@ -25,6 +25,7 @@ use Rattle.source_tree.proofs.Samples.{group, item, occurring, binary, packed, e
 unfoldable use Rattle.source_tree.proofs.Computing.{computing}
 use Rattle.decimal18.specs.Arithmetic as arithmetic
 use Rattle.decimal18.specs.Receiver as receivers
+use Rattle.source_tree.specs.InspectWalk.{Pattern, AnyCharacter, Occurrence, TextEntry}
 unfoldable use Rattle.source_tree.specs.InspectWalk.{tallies, replaced_subject, walk}
 
 -- ---- entries
@@ -98,6 +99,38 @@ two_counters = refl
 no_number : inspected (codes "ABCABC") (codes "x") (for_n (tallied.Characters anywhere ∷ [])) [] ≡ Err fault.Data
 unfolding computing arithmetic.sum tallies walk
 no_number = refl
+
+-- ---- The walk alone: at each place the entries in order; a LEADING whose first place another entry took never fits, and one that had its
+-- place goes on right after it; FIRST once; BEFORE without an occurrence means all places, AFTER none.
+
+abbrev sought : Pattern → TextEntry
+sought pattern = record { pattern = pattern; by = []; before = None; after = None }
+
+abbrev all_of : List ℕ → TextEntry
+all_of one = sought (Occurrence how.All one)
+
+abbrev leading : List ℕ → TextEntry
+leading one = sought (Occurrence how.Leading one)
+
+abbrev first_of : List ℕ → TextEntry
+first_of one = sought (Occurrence how.First one)
+
+tallies_alone : (tallies (all_of (codes "BA") ∷ all_of (codes "AB") ∷ []) (codes "ABAB") ≡ 0 ∷ 2 ∷ [])
+    × (tallies (all_of (codes "X") ∷ leading (codes "A") ∷ []) (codes "XAA") ≡ 1 ∷ 0 ∷ [])
+    × (tallies (leading (codes "A") ∷ []) (codes "AABA") ≡ 2 ∷ [])
+    × (tallies (record (leading (codes "A")) { after = Some (codes "B") } ∷ []) (codes "ABAAB") ≡ 2 ∷ [])
+    × (tallies (first_of (codes "A") ∷ all_of (codes "A") ∷ []) (codes "BAAA") ≡ 1 ∷ 2 ∷ [])
+    × (tallies (record (sought AnyCharacter) { before = Some (codes "Q") } ∷ []) (codes "ABC") ≡ 3 ∷ [])
+    × (tallies (record (sought AnyCharacter) { after = Some (codes "Q") } ∷ []) (codes "ABC") ≡ 0 ∷ [])
+    × (tallies (record (all_of (codes "BC")) { before = Some (codes "C") } ∷ []) (codes "ABC") ≡ 0 ∷ [])
+unfolding tallies walk
+tallies_alone = (refl, refl, refl, refl, refl, refl, refl, refl)
+
+replaced_alone : (replaced_subject (record (all_of (codes "AA")) { by = codes "XY" } ∷ []) (codes "AAAAA") ≡ codes "XYXYA")
+    × (replaced_subject (record (all_of (codes "A")) { by = codes "B" } ∷ record (all_of (codes "B")) { by = codes "A" } ∷ []) (codes "ABBA") ≡ codes "BAAB")
+    × (replaced_subject (record (first_of (codes "C")) { by = codes "-" } ∷ []) (codes "ABCABC") ≡ codes "AB-ABC")
+unfolding replaced_subject walk
+replaced_alone = (refl, refl, refl)
 
 -- ---- C is a counter in T: what is replaced is T as it was, and the store comes last; without REPLACING nothing is stored behind C.
 
