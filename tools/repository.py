@@ -1,4 +1,6 @@
 """What the tools know of the repository: its crates, what each needs, and the folders of their sources."""
+import importlib.machinery
+import importlib.util
 import os
 import subprocess
 import sys
@@ -50,6 +52,16 @@ def find_on_path(command):
         if os.path.isfile(path) and os.access(path, os.X_OK):
             return os.path.realpath(path)
     return None
+
+
+def toolchain_library():
+    """The toolchain's own reader of crates.txt, a Python module."""
+    path = f"{os.path.dirname(find_on_path('rt'))}/rtlib.py"
+    loader = importlib.machinery.SourceFileLoader("rtlib", path)
+    library = importlib.util.module_from_spec(importlib.util.spec_from_loader("rtlib", loader))
+    sys.modules["rtlib"] = library
+    loader.exec_module(library)
+    return library
 
 
 def write_mark(path, folders, begun):
