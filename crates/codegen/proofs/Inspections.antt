@@ -1,5 +1,5 @@
 -- Where INSPECT keeps its rules, its inspection has its texts within those that are taken.
-use Rattle.std.proofs.Common.{◌≡◌, ℕ, ◌≤◌, List, [], Option, Some, arith}
+use Rattle.std.proofs.Common.{◌≡◌, ℕ, ◌≤◌, List, [], Some, arith}
 use Rattle.std.specs.Prelude.{slice_get}
 use Rattle.source_tree.specs.declared.inspecting.Inspecting.{Inspecting}
 use Rattle.source_tree.specs.Places.{Placed}
