@@ -1,10 +1,12 @@
 -- The code of a statement doesn't depend on the instructions before it, but on how many there are.
-use Rattle.std.proofs.Common.{ℕ, zero, suc, List, [], ◌∷◌, length, Option, Some, None, ap, ◌∙◌, subst}
+use Rattle.std.proofs.Common.{ℕ, zero, suc, Bool, true, false, List, [], ◌∷◌, length, Option, Some, None, ap, ◌∙◌, subst}
 use Rattle.source_tree.specs.declared.condition.Condition.{Condition}
 use Rattle.source_tree.specs.declared.branching.Branching.{Branching}
 use Rattle.source_tree.specs.declared.branching.Branching.TheVariants as branch
 use Rattle.source_tree.specs.declared.evaluate.Subject.{Subject}
+use Rattle.source_tree.specs.declared.evaluate.Object.{Object}
 use Rattle.source_tree.specs.declared.evaluate.Selected.{Selected}
+use Rattle.source_tree.specs.declared.evaluate.Evaluate.{Evaluate}
 use Rattle.source_tree.specs.declared.ending.Ending.{Ending}
 use Rattle.source_tree.specs.declared.ending.Ending.TheVariants as ending
 use Rattle.source_tree.specs.declared.performing.Performed.{Performed}
@@ -17,7 +19,7 @@ use Rattle.source_tree.specs.declared.statement.Statement.{Statement, roll-State
 use Rattle.source_tree.specs.declared.statement.Statement.TheOpen.{Statement-F}
 use Rattle.source_tree.specs.declared.statement.Statement.TheFolds.{map-Statement, ind-Statement}
 use Rattle.source_tree.specs.Arithmetic.{is_there}
-use Rattle.source_tree.specs.Evaluate.{selected_asked}
+use Rattle.source_tree.specs.Evaluate.{looked_subject, selected_asked}
 use Rattle.source_tree.specs.Performing.{turns_of}
 use Rattle.source_tree.specs.Places.{Placed}
 use Rattle.source_tree.specs.Procedures.{Range, range_of}
@@ -31,8 +33,9 @@ use Rattle.codegen.specs.ArithmeticCode.{arithmetic_piece}
 use Rattle.codegen.specs.Meeting.{either_piece, nothing_piece}
 use Rattle.codegen.specs.ConditionCode.{condition_piece}
 use Rattle.codegen.specs.StringCode.{string_piece}
+use Rattle.codegen.specs.SubjectCode.{first_object, look, look_piece, subject_piece, is_asked_first, taken_from, subjects_piece}
 use Rattle.codegen.specs.UntilCode.{tick_piece, until_piece}
-use Rattle.codegen.specs.Layout.{ending_piece, loop_begin, count_begin, turn_end, counted_turn, times_piece, counted_piece, turns_piece, moving_piece, texts_piece, range_piece, turn_piece, phrase_piece, phrases_from, selecting_piece, branching_piece, filing_piece, verb_piece, statement_piece}
+use Rattle.codegen.specs.Layout.{ending_piece, loop_begin, count_begin, turn_end, counted_turn, times_piece, counted_piece, turns_piece, moving_piece, texts_piece, range_piece, turn_piece, phrase_piece, phrases_from, selecting_piece, evaluate_piece, branching_piece, filing_piece, verb_piece, statement_piece}
 use Rattle.codegen.proofs.Blind.{Blind, blind_as, constant_blind, count_blind, both_blind, in_order_blind, taking_blind, moving_blind, texts_blind}
 use Rattle.codegen.proofs.BlindArithmetic.{arithmetic_blind}
 use Rattle.codegen.proofs.BlindFiling.{filing_blind}
@@ -99,6 +102,19 @@ turns_blind items line (CountedBy one) turn f =
 turns_blind items line (Until one) turn f =
     both_blind (tick_piece line) (until_piece items one turn) (tick_blind line) (until_blind items one turn f)
 
+-- the looks at subjects
+module _ (items : List Placed) where
+  look_blind : (one : Option Condition) → Blind (look_piece items one)
+  look_blind None = nothing_blind
+  look_blind (Some one) = condition_blind items one
+
+  taken_blind : (once : Bool) (subjects : List Subject) → Blind (taken_from items once subjects)
+  taken_blind true subjects = nothing_blind
+  taken_blind false subjects = in_order_blind (subject_piece items) (λ one. look_blind (look items (looked_subject items one))) subjects
+
+  subjects_blind : (subjects : List Subject) (object : Option Object) → Blind (subjects_piece items subjects object)
+  subjects_blind subjects object = taken_blind (is_asked_first items subjects object) subjects
+
 module _ (scope : Scope) where
   abbrev items : List Placed
   items = scope.items
@@ -135,6 +151,11 @@ module _ (scope : Scope) where
         tested_blind (selected_asked items subjects one) (in_order inside one.statements) (selecting_piece scope inside subjects more other)
         (in_order_blind inside each_one one.statements) (selecting_blind subjects more other)
 
+    evaluate_blind : (one : Evaluate S) → Blind (evaluate_piece scope inside one)
+    evaluate_blind one =
+        both_blind (subjects_piece items one.subjects (first_object one.selected)) (selecting_piece scope inside one.subjects one.selected one.other)
+        (subjects_blind items one.subjects (first_object one.selected)) (selecting_blind one.subjects one.selected one.other)
+
     branching_blind : (line : ℕ) (one : Branching S) → Blind (branching_piece scope inside line one)
     branching_blind line (branch.If condition statements otherwise) =
         let first = in_order inside statements in
@@ -142,8 +163,7 @@ module _ (scope : Scope) where
         both_blind (tick_piece line) (both (condition_piece items condition) (either_piece first second)) (tick_blind line)
         (tested_blind condition first second (in_order_blind inside each_one statements) (phrase_blind otherwise))
     branching_blind line (branch.Evaluate one) =
-        both_blind (tick_piece line) (selecting_piece scope inside one.subjects one.selected one.other) (tick_blind line)
-        (selecting_blind one.subjects one.selected one.other)
+        both_blind (tick_piece line) (evaluate_piece scope inside one) (tick_blind line) (evaluate_blind one)
 
     verb_blind : (line : ℕ) (one : Verb S) → Blind (verb_piece scope inside line one)
     verb_blind line (verb.Moving one) = both_blind (tick_piece line) (moving_piece items one) (tick_blind line) (moving_blind items one)

@@ -1,6 +1,6 @@
 -- The code of a program names what is there, and its ways lead where they may, where the rules are kept.
 use Rattle.std.proofs.Common.{◌≡◌, ℕ, zero, suc, ◌+◌, ◌<◌, List, [], ◌∷◌, ◌++◌, length, Option, Some, None, refl, sym, ap, ◌∙◌, subst, inr, arith, append_assoc, length-append}
-use Rattle.std.specs.Prelude.{Bool, false, slice_get}
+use Rattle.std.specs.Prelude.{Bool, true, false, slice_get}
 use Rattle.std.specs.List.{AllByRecursion}
 use Rattle.lexical.specs.declared.place.Place.{Place}
 use Rattle.source_tree.specs.declared.branching.Branching.{Branching}
@@ -28,8 +28,8 @@ use Rattle.source_tree.specs.Arithmetic.{is_there}
 use Rattle.source_tree.specs.ArithmeticRules.{number_rules, operation_rules}
 use Rattle.source_tree.specs.Broken.{Broken, each}
 use Rattle.source_tree.specs.ConditionRules.{condition_rules, varying_rules, until_rules}
-use Rattle.source_tree.specs.Evaluate.{selected_asked}
-use Rattle.source_tree.specs.EvaluateRules.{selected_rules}
+use Rattle.source_tree.specs.Evaluate.{looked_subject, selected_asked}
+use Rattle.source_tree.specs.EvaluateRules.{subject_rules, selected_rules}
 use Rattle.source_tree.specs.Filing.{phrases_of}
 use Rattle.source_tree.specs.FilingRules.{filing_rules}
 use Rattle.source_tree.specs.MoveRules.{move_rules}
@@ -58,14 +58,16 @@ use Rattle.codegen.specs.ArithmeticCode.{arithmetic_piece}
 use Rattle.codegen.specs.StringCode.{string_piece}
 use Rattle.codegen.specs.ConditionCode.{condition_piece}
 use Rattle.codegen.specs.UntilCode.{tick_piece, turning_piece, until_before_piece, until_after_piece, until_from_piece, vary_begin_piece, vary_on_piece, until_piece}
-use Rattle.codegen.specs.Layout.{loop_begin, count_begin, turn_end, counted_turn, times_piece, counted_piece, range_piece, turn_piece, turns_piece, moving_piece, texts_piece, phrase_piece, phrases_from, phrases_piece, selecting_piece, branching_piece, stop_run_piece, filing_piece, verb_piece, statement_piece, sentence_piece}
+use Rattle.codegen.specs.SubjectCode.{first_object, look, look_piece, subject_piece, each_subject_piece, is_asked_first, taken_from, subjects_piece}
+use Rattle.codegen.specs.Layout.{loop_begin, count_begin, turn_end, counted_turn, times_piece, counted_piece, range_piece, turn_piece, turns_piece, moving_piece, texts_piece, phrase_piece, phrases_from, phrases_piece, selecting_piece, evaluate_piece, branching_piece, stop_run_piece, filing_piece, verb_piece, statement_piece, sentence_piece}
 use Rattle.codegen.proofs.Codes.{left_none, right_none}
 use Rattle.codegen.proofs.Layers.{verb_map, rolled_is}
 use Rattle.codegen.proofs.Standing.{at_seam}
 use Rattle.codegen.proofs.Blind.{Blind, in_order_blind}
 use Rattle.codegen.proofs.ConditionBlind.{nothing_blind, condition_blind}
 use Rattle.codegen.proofs.UntilBlind.{turn_before_blind, onward_blind, vary_on_blind}
-use Rattle.codegen.proofs.EvaluateKept.{statements_of, selected_kept, first_group, other_groups, groups_of, other_of}
+use Rattle.codegen.proofs.SubjectLooks.{look_rules, look_kept}
+use Rattle.codegen.proofs.EvaluateKept.{statements_of, selected_kept, first_group, other_groups, subjects_of, groups_of, other_of}
 use Rattle.codegen.proofs.BlindStatements.{counted_turn_blind, turn_blind, phrase_blind, selecting_blind, statement_blind}
 use Rattle.codegen.proofs.Straight.{AlwaysStraight, work_straight, taking_straight, moving_straight}
 use Rattle.codegen.proofs.ArithmeticStraight.{arithmetic_straight}
@@ -434,6 +436,23 @@ module _ (scope : Scope) (permits : Range → Bool) (formed : AreFormed scope.it
         (in_order_meets rules performs inside each_one one.statements (statements_of items rules subjects one first) (all_front P here later q))
         (selecting_meets subjects more other (other_groups items rules subjects one more e) others (all_back P here later q) r)
 
+    look_meets : (one : Option Condition) → look_rules items one ≡ [] → AlwaysMeets Q (look_piece items one)
+    look_meets None e before = nothing_meets Q before
+    look_meets (Some one) e before = condition_meets Q items formed one e before
+
+    each_subject_meets : (subjects : List Subject) → each (subject_rules items) subjects ≡ [] → AlwaysMeets Q (each_subject_piece items subjects)
+    each_subject_meets [] e before = nothing_meets Q before
+    each_subject_meets (one ∷ more) e before =
+        let l = looked_subject items one in
+        let rest = each (subject_rules items) more in
+        both_meet Q before (subject_piece items one before) (each_subject_piece items more (joined before (subject_piece items one before)))
+        (look_meets (look items l) (look_kept items l (left_none (subject_rules items one) rest e)) before)
+        (each_subject_meets more (right_none (subject_rules items one) rest e) (joined before (subject_piece items one before)))
+
+    taken_meet : (once : Bool) (subjects : List Subject) → each (subject_rules items) subjects ≡ [] → AlwaysMeets Q (taken_from items once subjects)
+    taken_meet true subjects e before = nothing_meets Q before
+    taken_meet false subjects e before = each_subject_meets subjects e before
+
     branching_meets : (line : ℕ) (one : Branching S) → branching_rules items rules one ≡ [] → Asked asked (branching_performs performs one)
         → AlwaysMeets Q (branching_piece scope inside line one)
     branching_meets line (branch.If condition statements otherwise) e q =
@@ -453,9 +472,12 @@ module _ (scope : Scope) (permits : Range → Bool) (formed : AreFormed scope.it
         let P = λ (p : Performance). asked p.range in
         let groups = each_performs (selected_performs performs) one.selected in
         let others = phrase_performs performs one.other in
-        pieces_meet Q (tick_piece line) (selecting_piece scope inside one.subjects one.selected one.other) (tick_meets Q line)
+        let object = first_object one.selected in
+        pieces_meet Q (tick_piece line) (evaluate_piece scope inside one) (tick_meets Q line)
+        (pieces_meet Q (subjects_piece items one.subjects object) (selecting_piece scope inside one.subjects one.selected one.other)
+        (taken_meet (is_asked_first items one.subjects object) one.subjects (subjects_of items rules one e))
         (selecting_meets one.subjects one.selected one.other (groups_of items rules one e) (other_of items rules one e)
-        (all_front P groups others q) (all_back P groups others q))
+        (all_front P groups others q) (all_back P groups others q)))
 
     -- straight code behind what uses one of the budget
     ticked : (line : ℕ) (piece : Piece) → AlwaysStraight piece → AlwaysMeets Q (both (tick_piece line) piece)

@@ -91,6 +91,12 @@ module _ (items : List Placed) where
 
     -- ---- the statement
 
+    pub subjects_of : (one : Evaluate S) → evaluate_rules items inside one ≡ [] → each (subject_rules items) one.subjects ≡ []
+    subjects_of one e =
+        let subjects = each (subject_rules items) one.subjects in
+        let groups = each (selected_rules items inside one.subjects) one.selected in
+        left_none subjects groups (left_none (subjects ++ groups) (phrase_rules inside one.other) e)
+
     pub groups_of : (one : Evaluate S) → evaluate_rules items inside one ≡ [] → each (selected_rules items inside one.subjects) one.selected ≡ []
     groups_of one e =
         let subjects = each (subject_rules items) one.subjects in

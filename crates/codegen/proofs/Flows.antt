@@ -1,5 +1,5 @@
 -- The code of a program finds what it needs, where the rules are kept: each statement begins and ends at rest.
-use Rattle.std.proofs.Common.{◌≡◌, ℕ, zero, suc, List, [], ◌∷◌, ◌++◌, length, map, Option, Some, None, Bool, false, refl, sym, ap, subst, ◌∙◌}
+use Rattle.std.proofs.Common.{◌≡◌, ℕ, zero, suc, List, [], ◌∷◌, ◌++◌, length, map, Option, Some, None, Bool, true, false, refl, sym, ap, subst, ◌∙◌}
 use Rattle.std.specs.Prelude.{slice_get}
 use Rattle.items.specs.declared.taken.Taken.{Taken}
 use Rattle.source_tree.specs.declared.moving.Moving.{Moving}
@@ -13,6 +13,7 @@ use Rattle.source_tree.specs.declared.branching.Branching.{Branching}
 use Rattle.source_tree.specs.declared.branching.Branching.TheVariants as branch
 use Rattle.source_tree.specs.declared.evaluate.Subject.{Subject}
 use Rattle.source_tree.specs.declared.evaluate.Selected.{Selected}
+use Rattle.source_tree.specs.declared.evaluate.Evaluate.{Evaluate}
 use Rattle.source_tree.specs.declared.condition.Condition.{Condition}
 use Rattle.source_tree.specs.declared.ending.Ending.TheVariants as ending
 use Rattle.source_tree.specs.declared.performing.Performed.{Performed}
@@ -35,8 +36,8 @@ use Rattle.source_tree.specs.Arithmetic.{is_there}
 use Rattle.source_tree.specs.ArithmeticRules.{number_rules, operation_rules}
 use Rattle.source_tree.specs.Broken.{Broken, each}
 use Rattle.source_tree.specs.ConditionRules.{condition_rules, varying_rules, until_rules}
-use Rattle.source_tree.specs.Evaluate.{selected_asked}
-use Rattle.source_tree.specs.EvaluateRules.{selected_rules}
+use Rattle.source_tree.specs.Evaluate.{looked_subject, selected_asked}
+use Rattle.source_tree.specs.EvaluateRules.{subject_rules, selected_rules}
 use Rattle.source_tree.specs.Filing.{phrases_of}
 use Rattle.source_tree.specs.FilingRules.{filing_rules}
 use Rattle.source_tree.specs.MoveRules.{sent_by, receives, move_rules}
@@ -47,7 +48,7 @@ use Rattle.source_tree.specs.Procedures.{Range, range_of}
 use Rattle.source_tree.specs.Setting.{Scope}
 use Rattle.source_tree.specs.StringRules.{string_rules}
 use Rattle.source_tree.specs.Until.{vary_operation}
-use Rattle.source_tree.specs.Rules.{integer_item, moving_rules, text_rules, phrase_rules, phrases_rules, performed_rules, turns_rules, branching_rules, file_phrases_rules, verb_rules, statement_rules, sentence_rules, paragraph_rules}
+use Rattle.source_tree.specs.Rules.{integer_item, moving_rules, text_rules, phrase_rules, phrases_rules, performed_rules, turns_rules, evaluate_rules, branching_rules, file_phrases_rules, verb_rules, statement_rules, sentence_rules, paragraph_rules}
 use Rattle.data_instructions.specs.declared.tables.DataTables.{DataTables}
 use Rattle.data_instructions.specs.declared.instruction.DataInstruction.{DataInstruction}
 use Rattle.data_instructions.specs.declared.instruction.DataInstruction.TheVariants as i
@@ -72,7 +73,8 @@ use Rattle.codegen.specs.ArithmeticCode.{arithmetic_piece}
 use Rattle.codegen.specs.ConditionCode.{condition_piece}
 use Rattle.codegen.specs.StringCode.{string_piece}
 use Rattle.codegen.specs.UntilCode.{tick_piece, turning_piece, until_before_piece, until_after_piece, until_from_piece, vary_begin_piece, vary_on_piece, until_piece}
-use Rattle.codegen.specs.Layout.{loop_begin, count_begin, turn_end, counted_turn, times_piece, counted_piece, turns_piece, range_piece, turn_piece, moving_piece, texts_piece, phrase_piece, phrases_from, phrases_piece, selecting_piece, branching_piece, filing_piece, verb_piece, statement_piece, sentence_piece, start_piece, back_piece, paragraph_piece}
+use Rattle.codegen.specs.SubjectCode.{first_object, look, look_piece, subject_piece, is_asked_first, taken_from, subjects_piece}
+use Rattle.codegen.specs.Layout.{loop_begin, count_begin, turn_end, counted_turn, times_piece, counted_piece, turns_piece, range_piece, turn_piece, moving_piece, texts_piece, phrase_piece, phrases_from, phrases_piece, selecting_piece, evaluate_piece, branching_piece, filing_piece, verb_piece, statement_piece, sentence_piece, start_piece, back_piece, paragraph_piece}
 use Rattle.codegen.proofs.Codes.{left_none, right_none, taking_coded, move_coded, display_coded, accept_coded, date_coded}
 use Rattle.codegen.proofs.ArithmeticCodes.{arithmetic_coded}
 use Rattle.codegen.proofs.PatternCodes.{initializes_codes, sets_codes, lie_each, lie_conditions}
@@ -89,7 +91,8 @@ use Rattle.codegen.proofs.Flowing.{rest, along_append, along_data, only_one, Flo
 use Rattle.codegen.proofs.ConditionBlind.{nothing_blind, condition_blind}
 use Rattle.codegen.proofs.ConditionFlows.{condition_flows}
 use Rattle.codegen.proofs.UntilBlind.{turn_before_blind, onward_blind, vary_on_blind}
-use Rattle.codegen.proofs.EvaluateKept.{statements_of, selected_kept, first_group, other_groups, groups_of, other_of}
+use Rattle.codegen.proofs.SubjectLooks.{look_rules, look_kept}
+use Rattle.codegen.proofs.EvaluateKept.{statements_of, selected_kept, first_group, other_groups, subjects_of, groups_of, other_of}
 use Rattle.codegen.proofs.BlindStatements.{counted_turn_blind, turn_blind, phrase_blind, selecting_blind, statement_blind}
 
 module _ (tables : DataTables) where
@@ -425,6 +428,28 @@ module _ (scope : Scope) (permits : Range → Bool) (whole : Code) (has : HasFil
         (each_flows one.statements (statements_of items rules subjects one first))
         (selecting_flows subjects more other (other_groups items rules subjects one more e) others)
 
+    look_flows : (one : Option Condition) → look_rules items one ≡ [] → BodyFlows whole (look_piece items one)
+    look_flows None e = nothing_flows_always items whole entries order lie
+    look_flows (Some one) e = tests_flow items whole entries order lie one e
+
+    subject_flows : AllFlow whole (subject_rules items) (subject_piece items)
+    subject_flows = record {
+      by = λ one before e st.
+          let l = looked_subject items one in (look_flows (look items l) (look_kept items l e)).by before st;
+    }
+
+    taken_flow : (once : Bool) (subjects : List Subject) → each (subject_rules items) subjects ≡ [] → BodyFlows whole (taken_from items once subjects)
+    taken_flow true subjects e = nothing_flows_always items whole entries order lie
+    taken_flow false subjects e =
+        record { by = λ before st. in_order_flows whole (subject_rules items) (subject_piece items) subject_flows subjects before e st }
+
+    evaluate_flows : (one : Evaluate S) → evaluate_rules items rules one ≡ [] → BodyFlows whole (evaluate_piece scope inside one)
+    evaluate_flows one e =
+        let object = first_object one.selected in
+        pair_flows (subjects_piece items one.subjects object) (selecting_piece scope inside one.subjects one.selected one.other)
+        (taken_flow (is_asked_first items one.subjects object) one.subjects (subjects_of items rules one e))
+        (selecting_flows one.subjects one.selected one.other (groups_of items rules one e) (other_of items rules one e))
+
     branching_flows : (line : ℕ) (one : Branching S) → branching_rules items rules one ≡ [] → BodyFlows whole (branching_piece scope inside line one)
     branching_flows line (branch.If condition statements otherwise) e =
         let first = in_order inside statements in
@@ -438,8 +463,7 @@ module _ (scope : Scope) (permits : Range → Bool) (whole : Code) (has : HasFil
         (tested_flows condition first second tests (in_order_blind inside blind statements) (phrase_blind scope inside blind otherwise)
         (each_flows statements firsts) (phrase_flows otherwise others))
     branching_flows line (branch.Evaluate one) e =
-        behind_tick line (selecting_piece scope inside one.subjects one.selected one.other)
-        (selecting_flows one.subjects one.selected one.other (groups_of items rules one e) (other_of items rules one e))
+        behind_tick line (evaluate_piece scope inside one) (evaluate_flows one e)
 
     verb_flows : (line : ℕ) (one : Verb S) → verb_rules scope permits rules one ≡ [] → BodyFlows whole (verb_piece scope inside line one)
     verb_flows line (verb.Moving one) e =

@@ -26,6 +26,7 @@ use Rattle.codegen.specs.ArithmeticCode.{arithmetic_piece}
 use Rattle.source_tree.specs.declared.branching.Branching.{Branching}
 use Rattle.source_tree.specs.declared.branching.Branching.TheVariants as branch
 use Rattle.source_tree.specs.declared.evaluate.Subject.{Subject}
+use Rattle.source_tree.specs.declared.evaluate.Object.{Object}
 use Rattle.source_tree.specs.declared.evaluate.Selected.{Selected}
 use Rattle.source_tree.specs.declared.condition.Condition.{Condition}
 use Rattle.source_tree.specs.declared.until.TestTime.{TestTime}
@@ -37,6 +38,7 @@ use Rattle.codegen.specs.DataCode.{work_piece, taking_piece}
 use Rattle.codegen.specs.ConditionCode.{condition_piece}
 use Rattle.codegen.specs.StringCode.{string_piece}
 use Rattle.codegen.specs.UntilCode.{tick_piece, turning_piece, until_from_piece, vary_begin_piece, vary_on_piece, until_piece}
+use Rattle.codegen.specs.SubjectCode.{first_object, subjects_piece}
 use Rattle.codegen.specs.Layout.{loop_begin, count_begin, turn_end, counted_turn, times_piece, counted_piece, turns_piece, turn_piece, phrase_piece, phrases_from, selecting_piece, verb_piece, statement_layer, statement_piece}
 use Rattle.codegen.proofs.Either.{either_map}
 use Rattle.codegen.proofs.FilingLayers.{filing_same}
@@ -189,12 +191,22 @@ module _ (scope : Scope) {A B : Type 0} (f : A → B) (g : B → Piece) where
       (either_map (in_order g (map f one.statements)) (in_order (λ a. g (f a)) one.statements) (selecting_piece scope g subjects (map mapped_group more) (mapped other))
       (selecting_piece scope (λ a. g (f a)) subjects more other) (in_order_map one.statements) (selecting_map subjects more other) (joined before test))
 
-  -- behind what uses one of the budget
+  -- the same first object
+  first_mapped : (selected : List (Selected A)) → first_object (map mapped_group selected) ≡ first_object selected
+  first_mapped [] = refl
+  first_mapped (one ∷ more) = refl
+
+  -- behind what uses one of the budget and the looks at the subjects
   groups_map : (line : ℕ) (subjects : List Subject) (selected : List (Selected A)) (other : Option (List A)) (before : Code)
-      → both (tick_piece line) (selecting_piece scope g subjects (map mapped_group selected) (mapped other)) before
-      ≡ both (tick_piece line) (selecting_piece scope (λ a. g (f a)) subjects selected other) before
+      → both (tick_piece line)
+      (both (subjects_piece items subjects (first_object (map mapped_group selected))) (selecting_piece scope g subjects (map mapped_group selected) (mapped other))) before
+      ≡ both (tick_piece line) (both (subjects_piece items subjects (first_object selected)) (selecting_piece scope (λ a. g (f a)) subjects selected other)) before
   groups_map line subjects selected other before =
-      let tick = tick_piece line before in ap (joined tick) (selecting_map subjects selected other (joined before tick))
+      let tick = tick_piece line before in
+      let looks = subjects_piece items subjects (first_object selected) (joined before tick) in
+      let groups = selecting_piece scope g subjects (map mapped_group selected) (mapped other) in
+      ap (λ (object : Option Object). both (tick_piece line) (both (subjects_piece items subjects object) groups) before) (first_mapped selected)
+      ∙ ap (λ (c : Code). joined tick (joined looks c)) (selecting_map subjects selected other (joined (joined before tick) looks))
 
   evaluate_map : (place : Place) (subjects : List Subject) (selected : List (Selected A)) (other : Option (List A)) (before : Code)
       → verb_piece scope g place.line

@@ -32,7 +32,9 @@ pub mod ConditionValues
 pub mod ConditionNames
 pub mod ConditionLayers
 pub mod EvaluateKept
+pub mod SubjectFaults
 pub mod Questions
+pub mod SubjectLooks
 pub mod Sides
 pub mod Varying
 -- The code of references, of statements on data and of conditions, and the machine along it
@@ -58,6 +60,7 @@ pub mod Evaluating
 pub mod DataDoing
 pub mod TextDoing
 pub mod ConditionDoes
+pub mod SubjectsDo
 pub mod Turning
 pub mod Branching
 pub mod UntilTurns

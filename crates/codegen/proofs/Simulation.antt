@@ -7,6 +7,7 @@ use Rattle.source_tree.specs.declared.branching.Branching.{Branching}
 use Rattle.source_tree.specs.declared.branching.Branching.TheVariants as branch
 use Rattle.source_tree.specs.declared.evaluate.Subject.{Subject}
 use Rattle.source_tree.specs.declared.evaluate.Selected.{Selected}
+use Rattle.source_tree.specs.declared.evaluate.Evaluate.{Evaluate}
 use Rattle.source_tree.specs.declared.condition.Condition.{Condition}
 use Rattle.source_tree.specs.declared.moving.Moving.{Moving}
 use Rattle.source_tree.specs.declared.name.Name.{Name}
@@ -31,7 +32,7 @@ use Rattle.source_tree.specs.Branching.{way, branching}
 use Rattle.source_tree.specs.Broken.{Broken, where_so, each}
 use Rattle.source_tree.specs.ConditionRules.{condition_rules, varying_rules, until_rules}
 use Rattle.source_tree.specs.Conditions.{holds}
-use Rattle.source_tree.specs.Evaluate.{one_of, selected_asked, selecting}
+use Rattle.source_tree.specs.Evaluate.{one_of, selected_asked, selecting, evaluating}
 use Rattle.source_tree.specs.EvaluateRules.{selected_rules}
 use Rattle.source_tree.specs.Evaluated.{Fault, Evaluated, ◌>>=◌}
 use Rattle.source_tree.specs.Filing.{phrases_of, filing}
@@ -45,7 +46,7 @@ use Rattle.source_tree.specs.Showing.{displayed}
 use Rattle.source_tree.specs.Storage.{Storage}
 use Rattle.source_tree.specs.StringRules.{string_rules}
 use Rattle.source_tree.specs.Stringing.{string, stringing}
-use Rattle.source_tree.specs.Rules.{moving_rules, text_rules, phrase_rules, phrases_rules, arithmetic_rules, stringing_rules, performed_rules, turns_rules, branching_rules, file_phrases_rules, verb_rules}
+use Rattle.source_tree.specs.Rules.{moving_rules, text_rules, phrase_rules, phrases_rules, arithmetic_rules, stringing_rules, performed_rules, turns_rules, evaluate_rules, branching_rules, file_phrases_rules, verb_rules}
 use Rattle.source_tree.specs.State.{State, Outcome, Done, showing, in_turn, spend, with_value, changing}
 use Rattle.source_tree.specs.Setting.{Scope}
 use Rattle.source_tree.specs.Texts.{texts}
@@ -83,12 +84,13 @@ use Rattle.codegen.specs.StringCode.{string_piece}
 use Rattle.codegen.specs.Meeting.{either_piece}
 use Rattle.codegen.specs.ConditionCode.{condition_piece}
 use Rattle.codegen.specs.UntilCode.{tick_piece, until_from_piece, vary_begin_piece, vary_on_piece, until_piece}
-use Rattle.codegen.specs.Layout.{moving_piece, texts_piece, times_piece, counted_piece, turns_piece, range_piece, turn_piece, phrase_piece, phrases_from, phrases_piece, selecting_piece, branching_piece, filing_piece, verb_piece}
+use Rattle.codegen.specs.SubjectCode.{first_object, is_asked_first, subjects_piece}
+use Rattle.codegen.specs.Layout.{moving_piece, texts_piece, times_piece, counted_piece, turns_piece, range_piece, turn_piece, phrase_piece, phrases_from, phrases_piece, selecting_piece, evaluate_piece, branching_piece, filing_piece, verb_piece}
 use Rattle.codegen.proofs.Pieces.{joined_assoc}
 use Rattle.codegen.proofs.Blind.{Blind, in_order_blind}
 use Rattle.codegen.proofs.ConditionBlind.{condition_blind}
 use Rattle.codegen.proofs.UntilBlind.{vary_on_blind}
-use Rattle.codegen.proofs.EvaluateKept.{statements_of, selected_kept, first_group, other_groups, groups_of, other_of}
+use Rattle.codegen.proofs.EvaluateKept.{statements_of, selected_kept, first_group, other_groups, subjects_of, groups_of, other_of}
 use Rattle.codegen.proofs.BlindStatements.{turn_blind, phrase_blind, selecting_blind}
 use Rattle.codegen.proofs.Standing.{Stands, front, back, first_stands, code_stands}
 use Rattle.codegen.proofs.Running.{at, one_step, WorksFrom, works_from}
@@ -97,7 +99,7 @@ use Rattle.codegen.proofs.ArithmeticCodes.{arithmetic_coded}
 use Rattle.codegen.proofs.PatternCodes.{initializes_codes, sets_codes}
 use Rattle.codegen.proofs.InspectCodes.{inspect_codes}
 use Rattle.codegen.proofs.StringCodes.{string_codes}
-use Rattle.codegen.proofs.Doing.{end_of, Does, PartDoes, Sits, back_sits, IsRoom, still_room, moved, stays, behind, parts_do, tick_part, ticks_alone, ending_does, nothing_does, Follows, in_order_does, Repeats, fewer_does}
+use Rattle.codegen.proofs.Doing.{end_of, Does, PartDoes, Sits, front_sits, back_sits, IsRoom, still_room, moved, stays, behind, parts_do, tick_part, ticks_alone, ending_does, nothing_does, Follows, in_order_does, Repeats, fewer_does}
 use Rattle.codegen.proofs.FilingDoes.{filing_does}
 use Rattle.codegen.proofs.HasFiles.{HasFiles}
 use Rattle.codegen.proofs.MoveDoing.{move_does}
@@ -106,6 +108,8 @@ use Rattle.codegen.proofs.Counting.{said_does}
 use Rattle.codegen.proofs.TextDoing.{changed_does, strung_does}
 use Rattle.codegen.proofs.ConditionDoes.{condition_does}
 use Rattle.codegen.proofs.Evaluating.{evaluated_does}
+use Rattle.codegen.proofs.SubjectLooks.{looks_value, looks_are}
+use Rattle.codegen.proofs.SubjectsDo.{taking, taking_then, subjects_do}
 use Rattle.codegen.proofs.UntilTurns.{Tests, until_from_does}
 use Rattle.codegen.proofs.Branching.{either_does}
 use Rattle.codegen.proofs.DataDoing.{behind_code, shown_does, calculated_does, taken_does, accepted_faultless}
@@ -508,6 +512,26 @@ module _ (whole : Code) (kept : ℕ → Type 0) (scope : Scope) (has : HasFiles 
         (record { by = λ before cs s below room sits. later.by before cs s below room sits }) in
         record { by = λ before cs s below room sits. both_ways.by before cs s below room sits }
 
+    evaluate_does : (one : Evaluate S) → evaluate_rules scope.items rules one ≡ []
+        → Repeats whole kept depth (evaluating scope.items run one) (evaluate_piece scope inside one)
+    evaluate_does one keep =
+        let object = first_object one.selected in
+        let once = is_asked_first scope.items one.subjects object in
+        let kept_groups = groups_of scope.items rules one keep in
+        let groups = selecting_does one.subjects one.selected one.other kept_groups (other_of scope.items rules one keep) in
+        let looks = subjects_do whole kept scope.items entries order lie depth one.subjects object (subjects_of scope.items rules one keep) in
+        let go = selecting scope.items run one.subjects one.selected one.other in
+        record {
+          by = λ before cs s below room sits.
+              let a = subjects_piece scope.items one.subjects object before in
+              let b = selecting_piece scope inside one.subjects one.selected one.other (joined before a) in
+              let found = looks_value scope.items once one.subjects s.storage in
+              subst (PartDoes whole kept before (joined a b) cs s)
+              (taking_then found s go ∙ looks_are scope.items rules run one.other one.subjects one.selected s once refl kept_groups)
+              (parts_do whole kept before a b cs s (taking found s) go (looks.by before cs s below room (front_sits whole kept before a b sits))
+              (λ t ds falls still. groups.by (joined before a) ds t (omega arith) (still room) (back_sits whole kept before a b sits)));
+        }
+
     branching_does : (line : ℕ) (one : Branching S) (before : Code) (cs : Own) (s : State) → branching_rules scope.items rules one ≡ []
         → s.budget ≤ depth → IsRoom whole cs
         → Sits whole kept before (branching_piece scope inside line one before)
@@ -529,8 +553,8 @@ module _ (whole : Code) (kept : ℕ → Type 0) (scope : Scope) (has : HasFiles 
         (λ t lt. ways.by (joined before a) cs t (omega arith) room (back_sits whole kept before a b sits))
     branching_does line (branch.Evaluate one) before cs s keep le room sits =
         let a = tick_piece line before in
-        let b = selecting_piece scope inside one.subjects one.selected one.other (joined before a) in
-        let groups = selecting_does one.subjects one.selected one.other (groups_of scope.items rules one keep) (other_of scope.items rules one keep) in
+        let b = evaluate_piece scope inside one (joined before a) in
+        let groups = evaluate_does one keep in
         tick_part whole kept line before b cs s (branching scope.items run (branch.Evaluate one)) sits.stands
         (λ t lt. groups.by (joined before a) cs t (omega arith) room (back_sits whole kept before a b sits))
 

@@ -19,6 +19,7 @@ use Rattle.source_tree.specs.declared.branching.Branching.{Branching}
 use Rattle.source_tree.specs.declared.branching.Branching.TheVariants as branch
 use Rattle.source_tree.specs.declared.evaluate.Subject.{Subject}
 use Rattle.source_tree.specs.declared.evaluate.Selected.{Selected}
+use Rattle.source_tree.specs.declared.evaluate.Evaluate.{Evaluate}
 use Rattle.source_tree.specs.declared.ending.Ending.{Ending}
 use Rattle.source_tree.specs.declared.ending.Ending.TheVariants as ending
 use Rattle.source_tree.specs.declared.performing.Performed.{Performed}
@@ -62,6 +63,7 @@ use Rattle.codegen.specs.ConditionCode.{condition_piece}
 use Rattle.codegen.specs.PatternCode.{initializes_piece, sets_piece}
 use Rattle.codegen.specs.StringCode.{string_piece}
 use Rattle.codegen.specs.InspectCode.{inspect_piece}
+use Rattle.codegen.specs.SubjectCode.{first_object, subjects_piece}
 use Rattle.codegen.specs.UntilCode.{tick_piece, until_piece}
 use Rattle.codegen.specs.FileCode.{code_files, sent_entry, file_piece, test_piece, unheard_piece, into_piece, from_piece, on_name_piece, on_record_piece}
 
@@ -160,10 +162,15 @@ module _ (scope : Scope) {S : Type 0} (inside : S → Piece) where
       both (condition_piece scope.items (selected_asked scope.items subjects one))
       (either_piece (in_order inside one.statements) (selecting_piece subjects more other))
 
+  -- EVALUATE, behind its `tick`
+  abbrev pub evaluate_piece : Evaluate S → Piece
+  evaluate_piece one =
+      both (subjects_piece scope.items one.subjects (first_object one.selected)) (selecting_piece one.subjects one.selected one.other)
+
   abbrev pub branching_piece : ℕ → Branching S → Piece
   branching_piece line (branch.If condition statements otherwise) =
       both (tick_piece line) (both (condition_piece scope.items condition) (either_piece (in_order inside statements) (phrase_piece otherwise)))
-  branching_piece line (branch.Evaluate one) = both (tick_piece line) (selecting_piece one.subjects one.selected one.other)
+  branching_piece line (branch.Evaluate one) = both (tick_piece line) (evaluate_piece one)
 
   -- ---- file statements
 

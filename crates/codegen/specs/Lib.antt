@@ -8,6 +8,7 @@ pub mod StringCode
 pub mod InspectCode
 pub mod UntilCode
 pub mod FileCode
+pub mod SubjectCode
 pub mod Operations
 pub mod Layout
 pub mod Phrases

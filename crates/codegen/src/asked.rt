@@ -43,7 +43,7 @@ fn emit_constant(code: &mut Code, truth: bool) -> Result<(), AllocError>
 
 impl<'a> Emitter<'a> {
     /// A condition that is asked.
-    fn emit_asked_condition(
+    pub(crate) fn emit_asked_condition(
         &self,
         code: &mut Code,
         one: AskedCondition<'_>,

@@ -42,7 +42,7 @@ pub(crate) enum Alone<'a> {
 }
 
 /// The operand that a side is.
-fn alone_side<'a>(side: &'a Side) -> Option<Alone<'a>>
+pub(crate) fn alone_side<'a>(side: &'a Side) -> Option<Alone<'a>>
     ensures { option_map operand_of result ≡ meaning.alone_side side.now }
 {
     match side {

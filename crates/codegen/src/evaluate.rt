@@ -10,7 +10,7 @@ ghost use Rattle.source_tree.specs.Rules.{all_permitted};
 ghost use Rattle.check_rules.specs.Named.{IsDeclared, items_in, scope_in};
 ghost use Rattle.codegen.specs.Pieces.{joined, in_order};
 ghost use Rattle.codegen.specs.ConditionCode.{condition_piece};
-ghost use Rattle.codegen.specs.Layout.{selecting_piece, statement_piece};
+ghost use Rattle.codegen.specs.Layout.{evaluate_piece, statement_piece};
 ghost use Rattle.codegen.specs.Phrases.{Opens};
 ghost use Rattle.codegen.specs.EvaluateCode.{OpensAll};
 
@@ -62,7 +62,7 @@ impl<'a> Emitter<'a> {
         Ok(ways)
     }
 
-    /// The groups of WHENs, and OTHER; all ways meet behind it.
+    /// The subjects, the groups of WHENs, and OTHER; all ways meet behind it.
     #[cycle(statement)]
     pub(crate) fn emit_evaluate(
         &self,
@@ -72,8 +72,9 @@ impl<'a> Emitter<'a> {
         requires declared { IsDeclared self.now.declarations.now }
         requires entries { entry_rules self.now.declarations.now.program.now.storage ≡ [] }
         requires rules { rules.evaluate_rules (items_in self.now.declarations.now) (rules.statement_rules (scope_in self.now.declarations.now) all_permitted) one.now ≡ [] }
-        ensures { OnOk result (code.new ≡ joined code.old (selecting_piece (scope_in self.now.declarations.now) (statement_piece (scope_in self.now.declarations.now)) one.now.subjects one.now.selected one.now.other code.old)) }
+        ensures { OnOk result (code.new ≡ joined code.old (evaluate_piece (scope_in self.now.declarations.now) (statement_piece (scope_in self.now.declarations.now)) one.now code.old)) }
     {
+        self.emit_subjects(code, one)?;
         let ways = self.emit_groups(code, one.subjects.as_slice(), one.selected.as_slice())?;
         self.emit_phrase(code, &one.other)?;
         emit_meetings(code, ways)

@@ -25,6 +25,7 @@ mod program;
 mod references;
 mod storage;
 mod stringing;
+mod subjects;
 mod text;
 mod times;
 mod until;

@@ -41,9 +41,10 @@ use Rattle.codegen.specs.ConditionCode.{condition_piece}
 use Rattle.codegen.specs.StringCode.{string_piece}
 use Rattle.codegen.specs.UntilCode.{tick_piece, turning_piece, until_before_piece, until_after_piece, until_from_piece, vary_begin_piece, vary_on_piece, until_piece}
 use Rattle.codegen.specs.FileCode.{file_piece, test_piece, unheard_piece, on_file_piece, into_piece, from_piece, on_name_piece}
+use Rattle.codegen.specs.SubjectCode.{first_object, subjects_piece}
 use Rattle.codegen.specs.Layout.{turn_end, count_begin, counted_turn, counted_piece, turn_piece, phrase_piece, phrases_piece, selecting_piece, branching_piece, taken_piece, success_piece, failure_piece, status_piece, statement_on_piece, alone_piece, filing_piece, statement_piece}
 use Rattle.codegen.specs.Phrases.{met, IsWay, met_all}
-use Rattle.codegen.proofs.EvaluateKept.{groups_of, other_of}
+use Rattle.codegen.proofs.EvaluateKept.{subjects_of, groups_of, other_of}
 use Rattle.codegen.proofs.Opening.{opened_way, opened_longer, with_last, still_ways, groups_go_on, groups_done}
 use Rattle.codegen.proofs.Questions.{whens_rules}
 use Rattle.codegen.proofs.StringCodes.{keeps_string, pointer_kept}
@@ -351,6 +352,11 @@ emit_groups-returns t c =
       within = c.loop-one.invariant.within;
     }
 
+pub emit_evaluate-emit_subjects-requires-clause-rules : goal.emit_evaluate-emit_subjects-requires-clause-rules
+emit_evaluate-emit_subjects-requires-clause-rules t c =
+    let scope = scope_in c.args.self.now.declarations.now in
+    subjects_of scope.items (statement_rules scope all_permitted) c.args.one.now c.requires.rules
+
 pub emit_evaluate-emit_groups-requires : goal.emit_evaluate-emit_groups-requires
 emit_evaluate-emit_groups-requires t c =
     let scope = scope_in c.args.self.now.declarations.now in
@@ -382,12 +388,15 @@ emit_evaluate-returns t c =
     let inside = statement_piece scope in
     let old = c.args.code.now in
     let one = c.args.one.now in
+    let now = c.emit_subjects.new.code in
     let ways = c.in_ok-ways.ways.items in
     on_ok c.emit_meetings.result c.emit_meetings.ensures
     (λ (e : c.emit_meetings.new.code ≡ met_all ways c.emit_phrase.new.code).
-    e ∙ ap (met_all ways) c.in_ok-emit_phrase.ensures ∙ c.in_ok-ways.ensures.same one.other
-    ∙ ap (λ (l : List Subject). joined old (selecting_piece scope inside l c.as_slice-2.result.now one.other old)) c.as_slice.ensures
-    ∙ ap (λ (l : List (Selected Statement)). joined old (selecting_piece scope inside one.subjects l one.other old)) c.as_slice-2.ensures)
+    then_piece (subjects_piece scope.items one.subjects (first_object one.selected)) (selecting_piece scope inside one.subjects one.selected one.other) old now
+    c.emit_meetings.new.code c.in_ok-emit_subjects.ensures
+    (e ∙ ap (met_all ways) c.in_ok-emit_phrase.ensures ∙ c.in_ok-ways.ensures.same one.other
+    ∙ ap (λ (l : List Subject). joined now (selecting_piece scope inside l c.as_slice-2.result.now one.other now)) c.as_slice.ensures
+    ∙ ap (λ (l : List (Selected Statement)). joined now (selecting_piece scope inside one.subjects l one.other now)) c.as_slice-2.ensures))
 
 pub emit_until-emit_vary_begin-requires-clause-rules : goal.emit_until-emit_vary_begin-requires-clause-rules
 emit_until-emit_vary_begin-requires-clause-rules t c =
