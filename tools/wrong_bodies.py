@@ -79,6 +79,11 @@ def head_of_impl(lines, number):
 
 # ---- what a wrong body changes
 
+def path_of(function):
+    """A function's path below its crate, as a check prints it."""
+    return "::".join(part for part in (function.module, f"{function.type}{function.trait}", function.name) if part)
+
+
 class Edit:
     """A wrong body, with the functions that it changes."""
 
@@ -133,9 +138,14 @@ def put_together(folder, edits):
 
 # ---- what a check says
 
+def is_proved(text):
+    """Whether a check proved all that it was asked for."""
+    return bool(re.search(r"^(logic=proved|only=(\d+) proved=\2$)", text, re.M))
+
+
 def judge(edit, text):
     """What a check says of a wrong body: `refused: ..`, or why it isn't."""
-    if not re.search(r"^logic=", text, re.M):
+    if not re.search(r"^(logic|only)=", text, re.M):
         limit = LIMIT.search(text)
         return f"NOT KNOWN: {limit[0]}" if limit else f"DOESN'T COMPILE: {first_error(text)}"
     lines = text.split("\n")
@@ -145,7 +155,7 @@ def judge(edit, text):
     lacking = next((line for line in lines if is_of_proof(edit, line) and LACKING.search(line)), None)
     if lacking:
         return f"NOT REFUSED for its meaning: a proof names what it lacks: {lacking[:120]}"
-    if re.search(r"^logic=proved", text, re.M):
+    if is_proved(text):
         return "NOT REFUSED: the crate is proved with it"
     return f"NOT REFUSED: no goal of its own is open: {first_error(text)}"
 
