@@ -21,6 +21,11 @@ has_characters characters (Some name) = bytes_eq characters name.characters
 abbrev pub is_named : QualifiedName → Called → Bool
 is_named reference one = is_called reference.name one.name && is_within reference.qualifiers one.around
 
+-- where there is one
+abbrev pub names_called : QualifiedName → Option Called → Bool
+names_called reference None = false
+names_called reference (Some one) = is_named reference one
+
 abbrev pub number_where : Bool → ℕ → List ℕ
 number_where test n = if test then n ∷ [] else []
 

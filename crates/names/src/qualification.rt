@@ -1,6 +1,7 @@
 //! Qualification (COBOL-85, Nucleus, "Qualification").
 
 ghost use Rattle.std.specs.Prelude.{◌≡◌};
+ghost use Rattle.std.specs.Option.{option_copied};
 ghost use Rattle.source_tree.specs.Names as names;
 ghost use Rattle.names.specs.Table.{names_of};
 
@@ -10,6 +11,16 @@ fn is_same(one: &Name, other: &Name) -> bool
     ensures { result ≡ names.same one.now other.now }
 {
     one.characters.as_slice() == other.characters.as_slice()
+}
+
+/// A thing of that name, if it has one, is called so.
+pub fn is_called(name: &Name, other: Option<&Name>) -> bool
+    ensures { result ≡ names.is_called name.now (option_copied other.entry) }
+{
+    match other {
+        Some(other) => is_same(name, other),
+        None => false,
+    }
 }
 
 /// Each qualifier is one of these names, in their order; names between may be left out.

@@ -1,12 +1,12 @@
 //! Tables of names, in the order of declaration.
 
-ghost use Rattle.std.specs.Prelude.{◌≡◌, ◌∷◌, ◌++◌, [], IfOk, OnOk};
+ghost use Rattle.std.specs.Prelude.{◌≡◌, ◌∷◌, ◌++◌, [], slice_get, IfOk, OnOk};
 ghost use Rattle.std.specs.Option.{option_copied};
 ghost use Rattle.names.specs.Positions as spec;
 ghost use Rattle.names.specs.Table.{IsNoted, IsTable, called, calls_in, noted_in};
 
 use crate::look_up::LookUp;
-use crate::qualification::is_within;
+use crate::qualification::{is_called, is_within};
 use indexmap::IndexMap;
 use source_tree::{Name, QualifiedName};
 use std::alloc::{AllocError, Global};
@@ -79,6 +79,19 @@ impl<'a> NameTable<'a> {
             last,
             before,
         })
+    }
+
+    /// A name with its qualifiers names the thing of that number, alone or among others.
+    pub fn is_named(&self, reference: &QualifiedName, number: usize) -> bool
+        ensures { result ≡ spec.names_called reference.now (slice_get (calls_in self.now) number) }
+    {
+        match self.declared.get(number) {
+            Some(one) => {
+                is_called(&reference.name, one.name)
+                    && is_within(reference.qualifiers.as_slice(), &one.around)
+            }
+            None => false,
+        }
     }
 
     /// What a name with its qualifiers names.
