@@ -18,7 +18,7 @@ use Rattle.entry_rules.specs.Walk.{is_outermost}
 -- 43, 44, 45
 abbrev pub form_rules : Position → ItemEntry → Item → Forest → List Broken
 form_rules at one item inner =
-    where_so (wrong_level at.level (number_of one.level) inner) 43 one.level.place
+    where_so (wrong_level at.in_file at.level (number_of one.level) inner) 43 one.level.place
     ++ where_so (wrong_clause (is_outermost at) at.nesting at.around one item) 44 one.level.place
     ++ where_so (wrong_picture one inner) 45 one.level.place
 

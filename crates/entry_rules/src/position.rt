@@ -115,13 +115,16 @@ impl Position {
         }
     }
 
-    /// An entry of this level can't stand here: 01 and 77 stand outermost, and 77 holds no items; the items of a group
-    /// have one level.
+    /// An entry of this level can't stand here: 01 and 77 stand outermost; 77 is no record of a file, and holds no items; the
+    /// items of a group have one level.
     pub fn is_wrong_level(self, level: u32, inner: &[Entry]) -> bool
-        ensures { result ≡ rules.wrong_level self.level level (nested inner.now) }
+        ensures { result ≡ rules.wrong_level self.in_file self.level level (nested inner.now) }
     {
         match self.level {
-            None => !(level == RECORD || (level == INDEPENDENT && !has_item(inner))),
+            None => {
+                let is_independent = level == INDEPENDENT && !self.in_file && !has_item(inner);
+                !(level == RECORD || is_independent)
+            }
             Some(wanted) => level != wanted,
         }
     }

@@ -120,7 +120,7 @@ pub record KeepsOwn (at : Position) (one : ItemEntry) (inner : Forest) (last : O
 pub keeps_own : (at : Position) (one : ItemEntry) (inner : Forest) (last : Option Redefinable) → own_rules at one (item_with at.around one inner) inner last ≡ [] → KeepsOwn at one inner last
 keeps_own at one inner last e =
     let item : Items.Item = item_with at.around one inner in
-    let parts = own_parts (too_many one) (too_large item) (wrong_level at.level (number_of one.level) inner) (wrong_clause (is_outermost at) at.nesting at.around one item) (wrong_picture one inner) one.level.place
+    let parts = own_parts (too_many one) (too_large item) (wrong_level at.in_file at.level (number_of one.level) inner) (wrong_clause (is_outermost at) at.nesting at.around one item) (wrong_picture one inner) one.level.place
     (redefinition_rules (is_outermost at && at.in_file) one (occurrences one * item.length) one.redefines last) (value_rules (at.in_file || at.has_no_value || redefines one) item one.value) e in
     record {
       times = at_most most_occurrences (occurrences one) parts.0;

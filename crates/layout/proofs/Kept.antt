@@ -126,7 +126,7 @@ entry_fits : (at : Position) (one : ItemEntry) (inner : Forest) (last : Option R
     → own_rules at one (item_with at.around one inner) inner last ≡ [] → FitsEntry at.around one inner
 entry_fits at one inner last level e =
     let item : Items.Item = item_with at.around one inner in
-    let parts = own_parts (too_many one) (too_large item) (wrong_level at.level (number_of one.level) inner) (wrong_clause (is_outermost at) at.nesting at.around one item) (wrong_picture one inner) one.level.place
+    let parts = own_parts (too_many one) (too_large item) (wrong_level at.in_file at.level (number_of one.level) inner) (wrong_clause (is_outermost at) at.nesting at.around one item) (wrong_picture one inner) one.level.place
     (redefinition_rules (is_outermost at && at.in_file) one (occurrences one * item.length) one.redefines last) (value_rules (at.in_file || at.has_no_value || redefines one) item one.value) e in
     let bytes = at_most most_item_bytes item.length parts.1 in
     record { level = level; times = at_most most_occurrences (occurrences one) parts.0; bytes = bytes; within = within_of at.around one inner parts.2 bytes }
