@@ -19,6 +19,7 @@ module _ (select : Select) (number : ℕ) where
   abbrev pub made : Organization → List AlternateKey → ℕ → ℕ → Item → Option ItemPlace → Option ItemPlace → meaning.ProgramFile
   made organization keys area size sent relative status = record {
     name = select.name;
+    select = select;
     entry = record {
       name = select.assigned.characters;
       spec = record { organization = organization; record_length = size; alternates = keys };

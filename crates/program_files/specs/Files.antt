@@ -22,6 +22,7 @@ place_at items (Some number) = plain_place (slice_get items number)
 abbrev pub file_in : List Placed → ProgramFile → meaning.ProgramFile
 file_in items one = record {
   name = one.select.now.name;
+  select = one.select.now;
   entry = record {
     name = one.select.now.assigned.characters;
     spec = record { organization = one.organization; record_length = one.record_length; alternates = one.alternates.items };
