@@ -10,6 +10,8 @@ use Rattle.source_tree.specs.declared.literal.LiteralValue.TheVariants as value
 use Rattle.source_tree.specs.declared.reference.Reference.{Reference}
 use Rattle.source_tree.specs.declared.expression.Expression.{Expression}
 use Rattle.source_tree.specs.declared.condition.Relation.{Relation}
+use Rattle.source_tree.specs.declared.condition.Relation.TheVariants as relation
+use Rattle.source_tree.specs.declared.condition.RelationalOperator.{RelationalOperator}
 use Rattle.source_tree.specs.declared.condition.SignTest.{SignTest}
 use Rattle.source_tree.specs.declared.condition.Class.{Class}
 use Rattle.source_tree.specs.declared.condition.Side.{Side}
@@ -56,9 +58,25 @@ side depth (side_as.Literal one) = λ from rest. (is_text one.value ≡ true) ×
 abbrev pub named : Condition → Part
 named whole = λ from rest. (one : Reference) × (whole ≡ c.Name one) × (reference one then without (tested goes_on)) from rest
 
+abbrev pub opposite : Relation → Relation
+opposite relation.Less = relation.GreaterOrEqual
+opposite relation.LessOrEqual = relation.Greater
+opposite relation.Equal = relation.NotEqual
+opposite relation.NotEqual = relation.Equal
+opposite relation.GreaterOrEqual = relation.Less
+opposite relation.Greater = relation.LessOrEqual
+
+abbrev pub denied : Bool → Relation → Relation
+denied false one = one
+denied true one = opposite one
+
+-- NOT gives the opposite relation.
+abbrev pub relation_of : RelationalOperator → Relation
+relation_of one = denied one.negated one.relation
+
 -- o [IS] [NOT] rel o
 abbrev pub compared : ℕ → Condition → Part
-compared depth whole = λ from rest. (first : Side) × (one : Relation) × (second : Side) × (whole ≡ c.Relation first one second)
+compared depth whole = λ from rest. (first : Side) × (one : RelationalOperator) × (second : Side) × (whole ≡ c.Relation first (relation_of one) second)
     × (side depth first then asked (asked_as.Relation one) then side depth second) from rest
 
 -- e [IS] [NOT] {POSITIVE|NEGATIVE|ZERO}
@@ -145,10 +163,10 @@ class_reader = do
   one ← asked_reader
   class_after item one
 
-unfoldable pub relation_reader : ℕ → Side → Relation → Parser Condition
+unfoldable pub relation_reader : ℕ → Side → RelationalOperator → Parser Condition
 relation_reader depth first one = do
   second ← side_reader depth
-  pure (c.Relation first one second)
+  pure (c.Relation first (relation_of one) second)
 
 abbrev pub sign_after : Side → Bool → SignTest → Parser Condition
 sign_after (side_as.Expression value) negated one = pure (c.Sign value negated one)

@@ -85,25 +85,16 @@ comparison one = telling test_in (test.Symbol one) or (ordering one or equality 
 abbrev pub is_not : Bool → Part
 is_not negated = optional (word w.Is) then stands (word w.Not) negated
 
-abbrev pub opposite : Relation → Relation
-opposite relation.Less = relation.GreaterOrEqual
-opposite relation.LessOrEqual = relation.Greater
-opposite relation.Equal = relation.NotEqual
-opposite relation.NotEqual = relation.Equal
-opposite relation.GreaterOrEqual = relation.Less
-opposite relation.Greater = relation.LessOrEqual
-
-abbrev pub denied : Bool → Relation → Relation
-denied false one = one
-denied true one = opposite one
-
 -- [IS] [NOT] rel | [IS] [NOT] {POSITIVE|NEGATIVE|ZERO} | [IS] [NOT] {NUMERIC|ALPHABETIC|ALPHABETIC-LOWER|ALPHABETIC-UPPER}
 abbrev pub asked : Asked → Part
-asked (asked_as.Relation one) = λ from rest. (negated : Bool) × (given : Relation) × (one ≡ denied negated given) × (is_not negated then comparison given) from rest
+asked (asked_as.Relation one) = is_not one.negated then comparison one.relation
 asked (asked_as.Sign negated one) = is_not negated then telling test_in (test.Sign one)
 asked (asked_as.Class negated one) = is_not negated then telling test_in (test.Class one)
 
 -- ---- reading
+
+abbrev pub written : Bool → Relation → Asked
+written negated one = asked_as.Relation (record { negated = negated; relation = one })
 
 unfoldable pub or_equal_phrase_reader : Parser Bool
 or_equal_phrase_reader = do
@@ -120,16 +111,16 @@ unfoldable pub order_reader : Bool → Relation → Parser Asked
 order_reader negated order = do
   skip w.Than
   equal ← or_equal_reader
-  pure (asked_as.Relation (denied negated (with_equal equal order)))
+  pure (written negated (with_equal equal order))
 
 -- behind EQUAL
 unfoldable pub equal_reader : Bool → Parser Asked
 equal_reader negated = do
   skip w.To
-  pure (asked_as.Relation (denied negated relation.Equal))
+  pure (written negated relation.Equal)
 
 abbrev pub asked_after : Bool → Test → Parser Asked
-asked_after negated (test.Symbol one) = pure (asked_as.Relation (denied negated one))
+asked_after negated (test.Symbol one) = pure (written negated one)
 asked_after negated (test.Order one) = order_reader negated one
 asked_after negated test.Equal = equal_reader negated
 asked_after negated (test.Sign one) = pure (asked_as.Sign negated one)

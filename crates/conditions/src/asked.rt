@@ -6,7 +6,7 @@ ghost use Rattle.grammar.specs.Reading.{Reads};
 ghost use Rattle.conditions.specs.Tests as spec;
 
 use grammar::{ReadFault, Tokens, past_word};
-use source_tree::{Class, Relation, SignTest};
+use source_tree::{Class, Relation, RelationalOperator, SignTest};
 use tokens::{Kind, Operator, Reserved, Token};
 
 /// What a word or a symbol asks for.
@@ -21,10 +21,10 @@ pub enum Test {
     Class(Class),
 }
 
-/// What is asked of an operand. NOT before a relation gives the opposite one.
+/// What is asked of an operand.
 #[derive(Clone, Copy, PartialEq, Eq)]
 pub enum Asked {
-    Relation(Relation),
+    Relation(RelationalOperator),
     Sign { negated: bool, sign: SignTest },
     Class { negated: bool, class: Class },
 }
@@ -147,20 +147,10 @@ fn with_equal(equal: bool, relation: Relation) -> Relation
     }
 }
 
-fn denied(negated: bool, relation: Relation) -> Relation
-    ensures { result ≡ spec.denied negated relation }
+fn written(negated: bool, relation: Relation) -> Asked
+    ensures { result ≡ spec.written negated relation }
 {
-    if !negated {
-        return relation;
-    }
-    match relation {
-        Relation::Less => Relation::GreaterOrEqual,
-        Relation::LessOrEqual => Relation::Greater,
-        Relation::Equal => Relation::NotEqual,
-        Relation::NotEqual => Relation::Equal,
-        Relation::GreaterOrEqual => Relation::Less,
-        Relation::Greater => Relation::LessOrEqual,
-    }
+    Asked::Relation(RelationalOperator { negated, relation })
 }
 
 /// What stands behind GREATER or LESS.
@@ -170,7 +160,7 @@ fn order(tokens: &mut Tokens<'_>, negated: bool, order: Relation) -> Result<Aske
 {
     tokens.skip(Reserved::Than);
     let equal = or_equal(tokens)?;
-    Ok(Asked::Relation(denied(negated, with_equal(equal, order))))
+    Ok(written(negated, with_equal(equal, order)))
 }
 
 /// What stands behind EQUAL.
@@ -179,14 +169,14 @@ fn equal(tokens: &mut Tokens<'_>, negated: bool) -> Result<Asked, ReadFault>
     ensures { Reads (spec.equal_reader negated tokens.old) result tokens.new }
 {
     tokens.skip(Reserved::To);
-    Ok(Asked::Relation(denied(negated, Relation::Equal)))
+    Ok(written(negated, Relation::Equal))
 }
 
 fn asked_after(tokens: &mut Tokens<'_>, negated: bool, test: Test) -> Result<Asked, ReadFault>
     ensures { Reads (spec.asked_after negated test tokens.old) result tokens.new }
 {
     match test {
-        Test::Symbol(relation) => Ok(Asked::Relation(denied(negated, relation))),
+        Test::Symbol(relation) => Ok(written(negated, relation)),
         Test::Order(relation) => order(tokens, negated, relation),
         Test::Equal => equal(tokens, negated),
         Test::Sign(sign) => Ok(Asked::Sign { negated, sign }),

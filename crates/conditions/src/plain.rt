@@ -9,7 +9,7 @@ use crate::asked::{Asked, begins_class, begins_test, read_asked};
 use crate::sides::side;
 use expressions::{begins_operator, past_reference, reference};
 use grammar::{ReadFault, Tokens, begins_name, beside};
-use source_tree::{Condition, Reference, Relation, Side, SignTest};
+use source_tree::{Condition, Reference, Relation, RelationalOperator, Side, SignTest};
 use std::alloc::Global;
 use tokens::Token;
 
@@ -70,20 +70,44 @@ fn of_class(alloc: Global, tokens: &mut Tokens<'_>) -> Result<Condition, ReadFau
     class_after(tokens, item, asked)
 }
 
+fn opposite(relation: Relation) -> Relation
+    ensures { result ≡ spec.opposite relation }
+{
+    match relation {
+        Relation::Less => Relation::GreaterOrEqual,
+        Relation::LessOrEqual => Relation::Greater,
+        Relation::Equal => Relation::NotEqual,
+        Relation::NotEqual => Relation::Equal,
+        Relation::GreaterOrEqual => Relation::Less,
+        Relation::Greater => Relation::LessOrEqual,
+    }
+}
+
+/// NOT gives the opposite relation.
+fn relation_of(one: RelationalOperator) -> Relation
+    ensures { result ≡ spec.relation_of one }
+{
+    if one.negated {
+        opposite(one.relation)
+    } else {
+        one.relation
+    }
+}
+
 #[tactic(auto, unfolding(crate::specs::Conditions::relation_reader))]
 fn relation(
     alloc: Global,
     tokens: &mut Tokens<'_>,
     depth: usize,
     left: Side,
-    relation: Relation,
+    operator: RelationalOperator,
 ) -> Result<Condition, ReadFault>
-    ensures { Reads (spec.relation_reader depth left relation tokens.old) result tokens.new }
+    ensures { Reads (spec.relation_reader depth left operator tokens.old) result tokens.new }
 {
     let right = side(alloc, tokens, depth)?;
     Ok(Condition::Relation {
         left,
-        relation,
+        relation: relation_of(operator),
         right,
     })
 }

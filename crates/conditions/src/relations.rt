@@ -6,7 +6,7 @@ ghost use Rattle.conditions.specs.Relations as spec;
 
 use crate::asked::{Asked, Test, next_test, read_asked};
 use grammar::{ReadFault, Tokens, past_word};
-use source_tree::Relation;
+use source_tree::RelationalOperator;
 use tokens::{Reserved, Token};
 
 /// A relational operator comes here, behind IS and NOT.
@@ -20,18 +20,18 @@ fn begins_relation(tokens: &[Token]) -> bool
 }
 
 #[tactic(auto, unfolding(crate::specs::Relations::some_relation_reader))]
-fn some_relation(tokens: &mut Tokens<'_>) -> Result<Relation, ReadFault>
+fn some_relation(tokens: &mut Tokens<'_>) -> Result<RelationalOperator, ReadFault>
     ensures { Reads (spec.some_relation_reader tokens.old) result tokens.new }
 {
     match read_asked(tokens)? {
-        Asked::Relation(relation) => Ok(relation),
+        Asked::Relation(operator) => Ok(operator),
         _ => Err(tokens.refuse()),
     }
 }
 
-/// A relational operator, with IS and NOT before it or without. Another word is refused where it stands.
+/// A relational operator as it is written, with IS before it or without. Another word is refused where it stands.
 #[tactic(auto, unfolding(crate::specs::Relations::relation_reader))]
-pub fn relation(tokens: &mut Tokens<'_>) -> Result<Relation, ReadFault>
+pub fn relation(tokens: &mut Tokens<'_>) -> Result<RelationalOperator, ReadFault>
     ensures { Reads (spec.relation_reader tokens.old) result tokens.new }
 {
     if begins_relation(tokens.rest()) {

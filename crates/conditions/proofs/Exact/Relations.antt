@@ -2,7 +2,7 @@
 use Rattle.std.proofs.Common.{◌≡◌, Bool, true, false, if◌then◌else◌, List, Ok, inl, inr, refl, ap, ◌∙◌, subst}
 use Rattle.tokens.specs.declared.reserved.Reserved.TheVariants as w
 use Rattle.tokens.specs.declared.token.Token.{Token}
-use Rattle.source_tree.specs.declared.condition.Relation.{Relation}
+use Rattle.source_tree.specs.declared.condition.RelationalOperator.{RelationalOperator}
 use Rattle.grammar.specs.declared.fault.Halt.{Halt}
 use Rattle.grammar.specs.Reading.{refuse, past_word}
 use Rattle.grammar.proofs.Outcomes.{Reached, step, unstep, value, last}
@@ -14,7 +14,7 @@ use Rattle.conditions.specs.Tests.{asked_reader}
 use Rattle.conditions.specs.Relations.{related, is_relation, begins_relation, relation_asked, some_relation_reader, relation_reader}
 use Rattle.conditions.proofs.Exact.Tests.{asked_sound, asked_complete, asked_shrinks, seen}
 
-taken : (one : Asked) (x : Relation) (i middle rest : List Token) → asked_reader i ≡ Ok (one, middle) → relation_asked one middle ≡ Ok (x, rest) → related x i rest
+taken : (one : Asked) (x : RelationalOperator) (i middle rest : List Token) → asked_reader i ≡ Ok (one, middle) → relation_asked one middle ≡ Ok (x, rest) → related x i rest
 taken (asked_as.Relation one) x i middle rest is e = subst (λ y. related y i rest) (value e) (asked_sound (asked_as.Relation one) i rest (last is e))
 taken (asked_as.Sign negated one) x i middle rest is e = cc
 taken (asked_as.Class negated one) x i middle rest is e = cc
@@ -27,11 +27,11 @@ relation_sound x i rest e = go (begins_relation i) e
     go true e = unstep (asked_reader i) _ e (λ one middle is e1. taken one x i middle rest is e1)
     go false e = cc
 
-relation_begins : (x : Relation) (i rest : List Token) → related x i rest → begins_relation i ≡ true
-relation_begins x i rest (negated, given, is, (i1, before, inl told)) = ap is_relation (seen negated (test.Symbol given) i i1 rest before told)
-relation_begins x i rest (negated, given, is, (i1, before, inr (inl (order, equal, as_order, (i2, told, others))))) =
-    ap is_relation (seen negated (test.Order order) i i1 i2 before told)
-relation_begins x i rest (negated, given, is, (i1, before, inr (inr (as_equal, (i2, told, to))))) = ap is_relation (seen negated test.Equal i i1 i2 before told)
+relation_begins : (x : RelationalOperator) (i rest : List Token) → related x i rest → begins_relation i ≡ true
+relation_begins x i rest (i1, before, inl told) = ap is_relation (seen x.negated (test.Symbol x.relation) i i1 rest before told)
+relation_begins x i rest (i1, before, inr (inl (order, equal, as_order, (i2, told, others)))) =
+    ap is_relation (seen x.negated (test.Order order) i i1 i2 before told)
+relation_begins x i rest (i1, before, inr (inr (as_equal, (i2, told, to)))) = ap is_relation (seen x.negated test.Equal i i1 i2 before told)
 
 pub relation_complete : {Allowed : Halt → Type 0} → Complete Allowed related relation_reader
 unfolding relation_reader some_relation_reader

@@ -26,7 +26,7 @@ use Rattle.conditions.specs.declared.asked.Test.TheVariants as test
 use Rattle.conditions.specs.declared.asked.Asked.{Asked}
 use Rattle.conditions.specs.declared.asked.Asked.TheVariants as asked_as
 use Rattle.conditions.specs.Tests as g
-use Rattle.conditions.specs.Tests.{test_in, symbol_of, denied, with_equal, first_told, next_test, is_class, begins_test, begins_class}
+use Rattle.conditions.specs.Tests.{test_in, symbol_of, with_equal, written, first_told, next_test, is_class, begins_test, begins_class}
 
 -- ---- words that stand or not
 
@@ -75,15 +75,15 @@ after_sound : (negated : Bool) (one : Test) (x : Asked) (i i2 i3 rest : List Tok
     → g.asked_after negated one i3 ≡ Ok (x, rest) → g.asked x i rest
 unfolding g.order_reader g.equal_reader
 after_sound negated (test.Symbol one) x i i2 i3 rest before told e =
-    subst (λ y. g.asked y i rest) (value e) (negated, one, refl, (i2, before, inl (subst (λ j. telling test_in (test.Symbol one) i2 j) (after e) told)))
+    subst (λ y. g.asked y i rest) (value e) (i2, before, inl (subst (λ j. telling test_in (test.Symbol one) i2 j) (after e) told))
 after_sound negated (test.Order one) x i i2 i3 rest before told e =
     unstep (skip w.Than i3) _ e (λ u i4 is4 e4.
     unstep (g.or_equal_reader i4) _ e4 (λ equal i5 is5 e5.
     subst (λ y. g.asked y i rest) (value e5)
-    (negated, with_equal equal one, refl, (i2, before, inr (inl (one, equal, refl, (i3, told, (i4, skip_sound w.Than u i3 i4 is4, or_equal_sound equal i4 rest (last is5 e5)))))))))
+    (i2, before, inr (inl (one, equal, refl, (i3, told, (i4, skip_sound w.Than u i3 i4 is4, or_equal_sound equal i4 rest (last is5 e5))))))))
 after_sound negated test.Equal x i i2 i3 rest before told e =
     unstep (skip w.To i3) _ e (λ u i4 is4 e4.
-    subst (λ y. g.asked y i rest) (value e4) (negated, relation.Equal, refl, (i2, before, inr (inr (refl, (i3, told, skip_sound w.To u i3 rest (last is4 e4)))))))
+    subst (λ y. g.asked y i rest) (value e4) (i2, before, inr (inr (refl, (i3, told, skip_sound w.To u i3 rest (last is4 e4))))))
 after_sound negated (test.Sign one) x i i2 i3 rest before told e =
     subst (λ y. g.asked y i rest) (value e) (i2, before, subst (λ j. telling test_in (test.Sign one) i2 j) (after e) told)
 after_sound negated (test.Class one) x i i2 i3 rest before told e =
@@ -107,16 +107,15 @@ asked_by negated one x i i2 i3 rest (i1, is, stands) told others =
 
 pub asked_complete : {Allowed : Halt → Type 0} → Complete Allowed g.asked g.asked_reader
 unfolding g.order_reader g.equal_reader
-asked_complete {Allowed = Allowed} (asked_as.Relation one) i rest (negated, given, is, (i2, before, inl told)) =
-    subst (λ y. Answers Allowed (g.asked_reader i) (asked_as.Relation y) rest) (sym is)
-    (asked_by negated (test.Symbol given) (asked_as.Relation (denied negated given)) i i2 rest rest before told (Reached refl))
-asked_complete {Allowed = Allowed} (asked_as.Relation one) i rest (negated, given, is, (i2, before, inr (inl (order, equal, as_order, (i3, told, (i4, than, or)))))) =
-    subst (λ y. Answers Allowed (g.asked_reader i) (asked_as.Relation y) rest) (sym (is ∙ ap (denied negated) as_order))
-    (asked_by negated (test.Order order) (asked_as.Relation (denied negated (with_equal equal order))) i i2 i3 rest before told
+asked_complete (asked_as.Relation one) i rest (i2, before, inl told) =
+    asked_by one.negated (test.Symbol one.relation) (asked_as.Relation one) i i2 rest rest before told (Reached refl)
+asked_complete {Allowed = Allowed} (asked_as.Relation one) i rest (i2, before, inr (inl (order, equal, as_order, (i3, told, (i4, than, or))))) =
+    subst (λ y. Answers Allowed (g.asked_reader i) (written one.negated y) rest) (sym as_order)
+    (asked_by one.negated (test.Order order) (written one.negated (with_equal equal order)) i i2 i3 rest before told
     (step (skip w.Than i3) _ (skip_complete w.Than tt i3 i4 than) (step (g.or_equal_reader i4) _ (or_equal_complete equal i4 rest or) (Reached refl))))
-asked_complete {Allowed = Allowed} (asked_as.Relation one) i rest (negated, given, is, (i2, before, inr (inr (as_equal, (i3, told, to))))) =
-    subst (λ y. Answers Allowed (g.asked_reader i) (asked_as.Relation y) rest) (sym (is ∙ ap (denied negated) as_equal))
-    (asked_by negated test.Equal (asked_as.Relation (denied negated relation.Equal)) i i2 i3 rest before told
+asked_complete {Allowed = Allowed} (asked_as.Relation one) i rest (i2, before, inr (inr (as_equal, (i3, told, to)))) =
+    subst (λ y. Answers Allowed (g.asked_reader i) (written one.negated y) rest) (sym as_equal)
+    (asked_by one.negated test.Equal (written one.negated relation.Equal) i i2 i3 rest before told
     (step (skip w.To i3) _ (skip_complete w.To tt i3 rest to) (Reached refl)))
 asked_complete (asked_as.Sign negated one) i rest (i2, before, told) = asked_by negated (test.Sign one) (asked_as.Sign negated one) i i2 rest rest before told (Reached refl)
 asked_complete (asked_as.Class negated one) i rest (i2, before, told) = asked_by negated (test.Class one) (asked_as.Class negated one) i i2 rest rest before told (Reached refl)
@@ -137,8 +136,8 @@ comparison_shrinks one i rest (inr (inl (order, equal, is, (i1, told, (i2, than,
 comparison_shrinks one i rest (inr (inr (is, (i1, told, to)))) = let a = telling_shrinks test_in test.Equal i i1 told in let b = skip_shrinks w.To i1 rest to in omega arith
 
 pub asked_shrinks : Shrinks g.asked
-asked_shrinks (asked_as.Relation one) i rest (negated, given, is, (i1, before, s)) =
-    let a = is_not_shrinks negated i i1 before in let b = comparison_shrinks given i1 rest s in omega arith
+asked_shrinks (asked_as.Relation one) i rest (i1, before, s) =
+    let a = is_not_shrinks one.negated i i1 before in let b = comparison_shrinks one.relation i1 rest s in omega arith
 asked_shrinks (asked_as.Sign negated one) i rest (i1, before, told) =
     let a = is_not_shrinks negated i i1 before in let b = telling_shrinks test_in (test.Sign one) i1 rest told in omega arith
 asked_shrinks (asked_as.Class negated one) i rest (i1, before, told) =
@@ -168,7 +167,7 @@ comparison_even one i rest (inr (inl (order, equal, is, (i1, told, (i2, than, or
 comparison_even one i rest (inr (inr (is, (i1, told, to)))) n = test_even test.Equal i i1 told n ∙ optional_even {p = word w.To} (word_even w.To) i1 rest to n
 
 pub asked_even : (x : Asked) → Even (g.asked x)
-asked_even (asked_as.Relation one) i rest (negated, given, is, (i1, before, s)) n = is_not_even negated i i1 before n ∙ comparison_even given i1 rest s n
+asked_even (asked_as.Relation one) i rest (i1, before, s) n = is_not_even one.negated i i1 before n ∙ comparison_even one.relation i1 rest s n
 asked_even (asked_as.Sign negated one) i rest (i1, before, told) n = is_not_even negated i i1 before n ∙ test_even (test.Sign one) i1 rest told n
 asked_even (asked_as.Class negated one) i rest (i1, before, told) n = is_not_even negated i i1 before n ∙ test_even (test.Class one) i1 rest told n
 
@@ -190,11 +189,11 @@ abbrev pub Seen : Asked → List Token → Type 0
 Seen x i = (one : Test) × (next_test i ≡ Some one) × (is_class (Some one) ≡ asks_class x)
 
 asked_seen : (x : Asked) (i rest : List Token) → g.asked x i rest → Seen x i
-asked_seen (asked_as.Relation one) i rest (negated, given, is, (i1, before, inl told)) = (test.Symbol given, seen negated (test.Symbol given) i i1 rest before told, refl)
-asked_seen (asked_as.Relation one) i rest (negated, given, is, (i1, before, inr (inl (order, equal, as_order, (i2, told, others))))) =
-    (test.Order order, seen negated (test.Order order) i i1 i2 before told, refl)
-asked_seen (asked_as.Relation one) i rest (negated, given, is, (i1, before, inr (inr (as_equal, (i2, told, to))))) =
-    (test.Equal, seen negated test.Equal i i1 i2 before told, refl)
+asked_seen (asked_as.Relation one) i rest (i1, before, inl told) = (test.Symbol one.relation, seen one.negated (test.Symbol one.relation) i i1 rest before told, refl)
+asked_seen (asked_as.Relation one) i rest (i1, before, inr (inl (order, equal, as_order, (i2, told, others)))) =
+    (test.Order order, seen one.negated (test.Order order) i i1 i2 before told, refl)
+asked_seen (asked_as.Relation one) i rest (i1, before, inr (inr (as_equal, (i2, told, to)))) =
+    (test.Equal, seen one.negated test.Equal i i1 i2 before told, refl)
 asked_seen (asked_as.Sign negated one) i rest (i1, before, told) = (test.Sign one, seen negated (test.Sign one) i i1 rest before told, refl)
 asked_seen (asked_as.Class negated one) i rest (i1, before, told) = (test.Class one, seen negated (test.Class one) i i1 rest before told, refl)
 
