@@ -37,7 +37,7 @@ key_is = word w.Key then optional (word w.Is)
 -- KEY [IS] [NOT] rel d, or neither where KEY does not stand
 abbrev pub start_key : Option StartKey → Part
 start_key None = without (word w.Key)
-start_key (Some one) = word w.Key then related one.relation then reference one.key
+start_key (Some one) = word w.Key then related one.operator then reference one.key
 
 -- ---- the statements
 
@@ -87,9 +87,9 @@ after_key_is i = option_map (past_word w.Is) (after_word w.Key i)
 -- behind KEY
 unfoldable pub some_key_reader : Parser (Option StartKey)
 some_key_reader = do
-  relation ← relation_reader
+  operator ← relation_reader
   key ← reference_reader
-  pure (Some (record { relation = relation; key = key }))
+  pure (Some (record { operator = operator; key = key }))
 
 abbrev pub start_key_at : Option (List Token) → Parser (Option StartKey)
 start_key_at None i = Ok (None, i)

@@ -69,9 +69,9 @@ fn read_key(alloc: Global, tokens: &mut Tokens<'_>) -> Result<Option<Reference>,
 fn some_key(alloc: Global, tokens: &mut Tokens<'_>) -> Result<Option<StartKey>, ReadFault>
     ensures { Reads (rule.some_key_reader tokens.old) result tokens.new }
 {
-    let relation = relation(tokens)?;
+    let operator = relation(tokens)?;
     let key = reference(alloc, tokens)?;
-    Ok(Some(StartKey { relation, key }))
+    Ok(Some(StartKey { operator, key }))
 }
 
 /// The KEY phrase of a START, where it stands.

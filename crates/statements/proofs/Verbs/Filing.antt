@@ -89,24 +89,24 @@ start_key_sound x i rest e = go (after_word w.Key i) refl e
     go : (o : Option (List Token)) → after_word w.Key i ≡ o → start_key_at o i ≡ Ok (x, rest) → rule.start_key x i rest
     go None is e = subst (λ y. rule.start_key y i rest) (value e) (after e, is_absent (finds_word w.Key) i is)
     go (Some m) is e =
-        unstep (relation_reader m) _ e (λ relation i1 is1 e1.
+        unstep (relation_reader m) _ e (λ operator i1 is1 e1.
         unstep (reference_reader i1) _ e1 (λ key i2 is2 e2.
         subst (λ y. rule.start_key y i rest) (value e2)
-        (m, word_found w.Key i m is, (i1, relation_sound relation m i1 is1, reference_sound key i1 rest (last is2 e2)))))
+        (m, word_found w.Key i m is, (i1, relation_sound operator m i1 is1, reference_sound key i1 rest (last is2 e2)))))
 
 start_key_complete : {Allowed : Halt → Type 0} → Complete Allowed rule.start_key start_key_reader
 unfolding start_key_reader some_key_reader
 start_key_complete None i rest s = rw (is_missing (finds_word w.Key) i s.1) (Reached (ap (λ j. Ok (None, j)) s.0))
 start_key_complete (Some one) i rest (m, key, (i1, related, item)) =
     rw (word_stands w.Key i m key)
-    (step (relation_reader m) _ (relation_complete one.relation m i1 related)
+    (step (relation_reader m) _ (relation_complete one.operator m i1 related)
     (step (reference_reader i1) _ (reference_complete one.key i1 rest item) (Reached refl)))
 
 start_key_shrinks : (x : Option StartKey) (i rest : List Token) → rule.start_key x i rest → length rest ≤ length i
 start_key_shrinks None i rest s = let l = ap length s.0 in omega arith
 start_key_shrinks (Some one) i rest (m, key, (i1, related, item)) =
     let a = word_shrinks w.Key i m key in
-    let b = relation_shrinks one.relation m i1 related in
+    let b = relation_shrinks one.operator m i1 related in
     let c = reference_shrinks one.key i1 rest item in omega arith
 
 word_below : (one : Reserved) (i rest : List Token) → word one i rest → length rest ≤ length i
