@@ -13,6 +13,7 @@ pub mod QuestionLayers
 pub mod ConditionItems
 pub mod Looking
 pub mod Adding
+pub mod Counted
 pub mod PerformedRanges
 pub mod Back
 pub mod ItemEntries

@@ -6,6 +6,7 @@ pub mod Comparing
 pub mod Kept
 pub mod Told
 pub mod Performs
+pub mod Counting
 pub mod Looking
 pub mod Found
 pub mod Selecting

@@ -59,7 +59,7 @@ impl<'a> Checked<'a> {
 
 /// Whether a program keeps the rules: 17, 18 and 40 to 69. Otherwise the answer is the first that it breaks, in the order of the
 /// definition: those of its entries, those of its files, those of the names of its procedures, those of its statements in the order of
-/// the text, and then 56; and 54 only where it breaks no other.
+/// the text, and then 56, and 69 of the number of its statements; and 54 only where it breaks no other.
 pub fn check(alloc: Global, program: &Program) -> Result<Checked<'_>, CheckError>
     ensures program { IfOk result (λ checked. checked ≡ program.now) }
     // A program that is accepted breaks no rule, and none of its PERFORMs leads back.
@@ -75,7 +75,7 @@ pub fn check(alloc: Global, program: &Program) -> Result<Checked<'_>, CheckError
 }
 
 impl<'a> Declarations<'a> {
-    /// The rules of the statements, 56 and 54, of a program that breaks none before them.
+    /// The rules of the statements, 56, 69 of their number, and 54, of a program that breaks none before them.
     fn procedure_division_rules(&self, alloc: Global) -> Result<(), CheckError>
         requires declared { IsDeclared self.now }
         requires kept { declaration_rules self.now.program.now ≡ [] }

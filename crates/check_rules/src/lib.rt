@@ -32,6 +32,7 @@ mod selects;
 mod sent;
 mod setting;
 mod sides;
+mod statement_count;
 mod statements;
 mod stringing;
 mod text;

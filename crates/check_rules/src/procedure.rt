@@ -1,9 +1,11 @@
-//! Rule 56: sections without any paragraph or sentence are no procedure.
+//! Rules of the whole procedure division: 56, sections without any paragraph or sentence are no procedure, and 69, its statements are
+//! too many.
 
 ghost use Rattle.std.specs.Prelude.{◌≡◌};
 ghost use Rattle.entry_rules.specs.Checks.{Finds};
 ghost use Rattle.source_tree.specs.Rules as spec;
 
+use crate::statement_count::statement_count_rules;
 use entry_rules::{BrokenRule, Rule};
 use source_tree::{Place, Program, Section};
 
@@ -32,11 +34,12 @@ fn procedures_place(other: Place, sections: &[Section]) -> Place
     }
 }
 
-/// There is a procedure.
+/// There is a procedure, and it has no more statements than may be.
 pub(crate) fn procedure_rules(program: &Program) -> Result<(), BrokenRule>
     ensures { Finds result (spec.procedure_rules program.now) }
 {
     let sections = program.sections.as_slice();
     let place = procedures_place(program.name.place, sections);
-    Rule::NoProcedure.broken_if(are_empty(sections), place)
+    Rule::NoProcedure.broken_if(are_empty(sections), place)?;
+    statement_count_rules(program)
 }
