@@ -19,3 +19,4 @@ pub mod Back
 pub mod ItemEntries
 pub mod EntryNumbers
 pub mod FilesFound
+pub mod KeysFound

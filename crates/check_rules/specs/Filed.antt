@@ -1,24 +1,21 @@
 -- Parts of the rules of file statements.
-use Rattle.std.specs.Prelude.{◌≡◌, ◌+◌, ◌==◌, Bool, false, not, ◌&&◌, ◌||◌, is_none, List, ◌++◌, Option, Some, None}
+use Rattle.std.specs.Prelude.{◌≡◌, ◌+◌, ◌==◌, Bool, not, ◌&&◌, ◌||◌, is_none, List, ◌++◌, Option, Some, None}
 use Rattle.std.specs.Borrow.{Bor}
 use Rattle.std.specs.List.{list_any}
 use Rattle.lexical.specs.declared.place.Place.{Place}
 use Rattle.records.specs.declared.file_spec.Organization.{Organization}
-use Rattle.records.specs.Spec.{same_place}
 use Rattle.records.specs.Steps.{is_relative}
 use Rattle.source_tree.specs.declared.phrases.FilePhrases.{FilePhrases}
 use Rattle.source_tree.specs.declared.reference.Reference.{Reference}
 use Rattle.source_tree.specs.Broken.{Broken, where_so}
 use Rattle.source_tree.specs.Filing.{is_in_sequence}
-use Rattle.source_tree.specs.FileRules.{is_key_kind}
 use Rattle.source_tree.specs.FilingRules.{is_sequential_file, is_random, has_at_end, has_invalid_key, keys_by, is_text, begins_key}
 use Rattle.source_tree.specs.ProgramFiles.{ProgramFile}
 use Rattle.source_tree.specs.References.{ItemPlace}
 use Rattle.layout.specs.declared.placed.PlacedItem.{PlacedItem}
 use Rattle.program_files.specs.declared.file.ProgramFile as compiled
-use Rattle.program_files.specs.Files.{file_in}
-use Rattle.source_tree.specs.Places.{Placed}
-use Rattle.check_rules.specs.FiledKeys.{place_of}
+use Rattle.names.specs.Positions.{Called}
+use Rattle.check_rules.specs.FiledKeys.{place_of, clause_names, names_key}
 use Rattle.check_rules.specs.Selecting.{is_plain}
 
 abbrev pub phrase_kind_rules : {S : Type 0} → Place → Organization → FilePhrases S → List Broken
@@ -44,26 +41,23 @@ start_file_rules place file =
 abbrev pub is_in_record : compiled.ProgramFile → Reference → PlacedItem → Bool
 is_in_record file reference one = is_plain reference one && (one.area == file.area)
 
-abbrev pub is_key_item : compiled.ProgramFile → Reference → PlacedItem → Bool
-is_key_item file reference one =
-    is_in_record file reference one && is_key_kind one.item.kind && list_any (same_place (place_of one)) (keys_by file.organization file.alternates.items)
+-- a key of the file; `called` is what the item is called
+abbrev pub is_key_item : compiled.ProgramFile → Reference → PlacedItem → Option Called → Bool
+is_key_item file reference one called = is_plain reference one && names_key file.select.now called
 
 abbrev pub begins_key_item : compiled.ProgramFile → Reference → PlacedItem → Bool
 begins_key_item file reference one =
     is_in_record file reference one && is_text one.item.kind && list_any (begins_key (place_of one)) (keys_by file.organization file.alternates.items)
 
-abbrev pub is_place : Option ItemPlace → PlacedItem → Bool
-is_place None one = false
-is_place (Some place) one = (place.area == one.area) && (place.offset == one.offset) && (place.item.length == one.item.length)
-
 -- the RELATIVE KEY of a relative file
-abbrev pub is_relative_key : ProgramFile → Reference → PlacedItem → Bool
-is_relative_key file reference one = is_relative file.entry.spec.organization && is_plain reference one && is_place file.places.relative_key one
+abbrev pub is_relative_key : compiled.ProgramFile → Reference → PlacedItem → Option Called → Bool
+is_relative_key file reference one called =
+    is_relative file.organization && is_plain reference one && clause_names file.select.now.relative_key called
 
 -- what KEY of START may name
-abbrev pub is_start_item : List Placed → compiled.ProgramFile → Reference → PlacedItem → Bool
-is_start_item items file reference one =
-    is_key_item file reference one || begins_key_item file reference one || is_relative_key (file_in items file) reference one
+abbrev pub is_start_item : compiled.ProgramFile → Reference → PlacedItem → Option Called → Bool
+is_start_item file reference one called =
+    is_key_item file reference one called || begins_key_item file reference one || is_relative_key file reference one called
 
 -- the item that stands there
 abbrev pub IsPlaced : Option ItemPlace → Option (Bor PlacedItem) → Type 0

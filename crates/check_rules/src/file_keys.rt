@@ -1,24 +1,49 @@
 //! The items that KEY of READ and START name.
 
-ghost use Rattle.std.specs.Prelude.{◌≡◌, map};
+ghost use Rattle.std.specs.Prelude.{◌≡◌, map, slice_get};
 ghost use Rattle.std.specs.List.{list_any};
-ghost use Rattle.records.specs.Spec.{same_place};
+ghost use Rattle.names.specs.Table.{calls_in};
 ghost use Rattle.source_tree.specs.FilingRules as spec;
 ghost use Rattle.check_rules.specs.Filed as filed;
 ghost use Rattle.check_rules.specs.FiledKeys as keys;
 
-use crate::keys::{is_key_kind, is_plain};
+use crate::file_phrases::is_relative;
+use crate::keys::is_plain;
 use items::Kind;
 use layout::PlacedItem;
+use names::NameTable;
 use program_files::ProgramFile;
 use records::{AlternateKey, KeyPlace, Organization};
-use source_tree::Reference;
+use source_tree::{AlternateKeyClause, Reference, Select};
 
-/// The item has the key's bytes.
-fn is_key(key: KeyPlace, one: &PlacedItem) -> bool
-    ensures { result ≡ same_place (keys.place_of one.now) key }
+/// A clause names the item of that number.
+fn clause_names(names: &NameTable<'_>, clause: &Option<Reference>, number: usize) -> bool
+    ensures { result ≡ keys.clause_names clause.now (slice_get (calls_in names.now) number) }
 {
-    one.offset == u32::from(key.offset) && one.item.length == u32::from(key.length)
+    match clause {
+        Some(one) => names.is_named(&one.item, number),
+        None => false,
+    }
+}
+
+/// One of the clauses names the item of that number.
+fn alternates_name(names: &NameTable<'_>, clauses: &[AlternateKeyClause], number: usize) -> bool
+    ensures { result ≡ list_any (keys.alternate_names (slice_get (calls_in names.now) number)) clauses.now }
+{
+    for clause in clauses {
+        if names.is_named(&clause.key.item, number) {
+            return true;
+        }
+    }
+    false
+}
+
+/// RECORD KEY or ALTERNATE RECORD KEY names the item of that number.
+fn names_key(names: &NameTable<'_>, select: &Select, number: usize) -> bool
+    ensures { result ≡ keys.names_key select.now (slice_get (calls_in names.now) number) }
+{
+    clause_names(names, &select.record_key, number)
+        || alternates_name(names, select.alternate_keys.as_slice(), number)
 }
 
 /// The item begins where the key does, and is no longer.
@@ -26,17 +51,6 @@ fn begins_key(key: KeyPlace, one: &PlacedItem) -> bool
     ensures { result ≡ spec.begins_key (keys.place_of one.now) key }
 {
     one.offset == u32::from(key.offset) && one.item.length <= u32::from(key.length)
-}
-
-fn is_alternate_key(alternates: &[AlternateKey], one: &PlacedItem) -> bool
-    ensures { result ≡ list_any (same_place (keys.place_of one.now)) (map keys.place alternates.now) }
-{
-    for key in alternates {
-        if is_key(key.place, one) {
-            return true;
-        }
-    }
-    false
 }
 
 fn begins_alternate_key(alternates: &[AlternateKey], one: &PlacedItem) -> bool
@@ -48,18 +62,6 @@ fn begins_alternate_key(alternates: &[AlternateKey], one: &PlacedItem) -> bool
         }
     }
     false
-}
-
-/// The item has the bytes of a key of the file.
-fn is_key_of(file: &ProgramFile<'_>, one: &PlacedItem) -> bool
-    ensures { result ≡ list_any (same_place (keys.place_of one.now)) (spec.keys_by file.now.organization file.now.alternates.items) }
-{
-    match file.organization {
-        Organization::Indexed(prime) => {
-            is_key(prime, one) || is_alternate_key(&file.alternates, one)
-        }
-        _ => false,
-    }
 }
 
 /// The item begins a key of the file.
@@ -88,20 +90,52 @@ fn is_in_record(file: &ProgramFile<'_>, reference: &Reference, one: &PlacedItem)
     is_plain(reference, one) && one.area == file.area
 }
 
-/// The item is a key of the file.
-pub(crate) fn is_key_item(file: &ProgramFile<'_>, reference: &Reference, one: &PlacedItem) -> bool
-    ensures { result ≡ filed.is_key_item file.now reference.now one.now }
-{
-    is_in_record(file, reference, one) && is_key_kind(one.item.kind) && is_key_of(file, one)
-}
-
-/// The item is a text that begins a key of the file.
-pub(crate) fn begins_key_item(
+/// The item of that number is a key of the file.
+pub(crate) fn is_key_item(
+    names: &NameTable<'_>,
     file: &ProgramFile<'_>,
     reference: &Reference,
     one: &PlacedItem,
+    number: usize,
 ) -> bool
+    ensures { result ≡ filed.is_key_item file.now reference.now one.now (slice_get (calls_in names.now) number) }
+{
+    is_plain(reference, one) && names_key(names, file.select, number)
+}
+
+/// The item is a text that begins a key of the file.
+fn begins_key_item(file: &ProgramFile<'_>, reference: &Reference, one: &PlacedItem) -> bool
     ensures { result ≡ filed.begins_key_item file.now reference.now one.now }
 {
     is_in_record(file, reference, one) && is_text(one.item.kind) && begins_key_of(file, one)
+}
+
+/// The item of that number is the RELATIVE KEY of a relative file.
+fn is_relative_key(
+    names: &NameTable<'_>,
+    file: &ProgramFile<'_>,
+    reference: &Reference,
+    one: &PlacedItem,
+    number: usize,
+) -> bool
+    ensures { result ≡ filed.is_relative_key file.now reference.now one.now (slice_get (calls_in names.now) number) }
+{
+    is_relative(file.organization)
+        && is_plain(reference, one)
+        && clause_names(names, &file.select.relative_key, number)
+}
+
+/// The item of that number is a key of the file, begins one, or is RELATIVE KEY.
+pub(crate) fn is_start_item(
+    names: &NameTable<'_>,
+    file: &ProgramFile<'_>,
+    reference: &Reference,
+    one: &PlacedItem,
+    number: usize,
+) -> bool
+    ensures { result ≡ filed.is_start_item file.now reference.now one.now (slice_get (calls_in names.now) number) }
+{
+    is_key_item(names, file, reference, one, number)
+        || begins_key_item(file, reference, one)
+        || is_relative_key(names, file, reference, one, number)
 }

@@ -7,36 +7,43 @@ ghost use Rattle.entry_rules.specs.Checks.{Finds};
 ghost use Rattle.source_tree.specs.Broken.{each};
 ghost use Rattle.source_tree.specs.FileRules.{clause_item};
 ghost use Rattle.source_tree.specs.FilingRules as spec;
+ghost use Rattle.source_tree.specs.LookUp.{items_named};
+ghost use Rattle.names.specs.Table.{calls_in};
 ghost use Rattle.program_files.specs.Files.{file_in, place_at};
 ghost use Rattle.check_rules.specs.Filed as filed;
+ghost use Rattle.check_rules.specs.FoundFiles.{IsKeyFound};
 ghost use Rattle.check_rules.specs.Named as declared;
 ghost use Rattle.check_rules.specs.Named.{IsDeclared, files_in, items_in};
 
 use crate::asked::Asked;
 use crate::declarations::Declarations;
 use crate::declared_items::item_number;
-use crate::file_keys::{begins_key_item, is_key_item};
+use crate::file_keys::{is_key_item, is_start_item};
 use crate::file_phrases::{
     is_in_sequence, is_random, is_relative, is_sequential, phrase_kind_rules, read_phrase_rules,
 };
-use crate::keys::is_plain;
 use crate::sent::Sent;
 use entry_rules::{BrokenRule, Rule};
 use layout::PlacedItem;
 use program_files::ProgramFile;
 use source_tree::{
-    FilePhrases, Filing, Name, OpenMode, Opening, Place, Reference, Relation, StartKey, Statement,
+    FilePhrases, Filing, Name, OpenMode, Opening, Place, QualifiedName, Reference, Relation,
+    RelationalOperator, StartKey, Statement,
 };
 use std::slice;
 
-/// =, > or NOT <, which START permits.
-fn is_start_relation(relation: Relation) -> bool
-    ensures { result ≡ spec.is_start_relation relation }
+/// =, > and >=, and < behind NOT, which START permits.
+fn is_start_operator(one: RelationalOperator) -> bool
+    ensures { result ≡ spec.is_start_operator one }
 {
-    matches!(
-        relation,
-        Relation::Equal | Relation::Greater | Relation::GreaterOrEqual
-    )
+    if one.negated {
+        matches!(one.relation, Relation::Less)
+    } else {
+        matches!(
+            one.relation,
+            Relation::Equal | Relation::Greater | Relation::GreaterOrEqual
+        )
+    }
 }
 
 impl<'a> Declarations<'a> {
@@ -87,13 +94,23 @@ impl<'a> Declarations<'a> {
         Ok(())
     }
 
+    /// The item that KEY names, and its number.
+    fn key_item(&self, name: &QualifiedName) -> Result<(usize, &PlacedItem), BrokenRule>
+        requires { IsDeclared self.now }
+        ensures { IsKeyFound (calls_in self.now.names) name.now.name.place result (items_named (items_in self.now) name.now) }
+    {
+        let number = item_number(&self.names, name)?;
+        Ok((number, &self.layout.items.as_slice()[number]))
+    }
+
     /// The item of KEY of READ, which is a key of the file.
     fn read_key_item_rules(&self, file: &ProgramFile<'_>, key: &Reference) -> Result<(), BrokenRule>
         requires { IsDeclared self.now }
         ensures { Finds result (clause_item (items_in self.now) (spec.read_key_item (file_in (items_in self.now) file.now)) key.now) }
     {
-        let found = self.item_named(&key.item)?;
-        Rule::FilePhrase.broken_if(!is_key_item(file, key, found), key.item.name.place)
+        let (number, found) = self.key_item(&key.item)?;
+        let is_key = is_key_item(&self.names, file, key, found, number);
+        Rule::FilePhrase.broken_if(!is_key, key.item.name.place)
     }
 
     /// KEY of READ, which a READ in sequence hasn't.
@@ -226,43 +243,13 @@ impl<'a> Declarations<'a> {
         phrase_kind_rules(name.place, file.organization, phrases)
     }
 
-    /// The item of RELATIVE KEY of a relative file.
-    fn is_relative_key(
-        &self,
-        file: &ProgramFile<'_>,
-        reference: &Reference,
-        one: &PlacedItem,
-    ) -> bool
-        requires { IsDeclared self.now }
-        ensures { result ≡ filed.is_relative_key (file_in (items_in self.now) file.now) reference.now one.now }
-    {
-        let Some(key) = self.relative_key(file) else {
-            return false;
-        };
-        is_relative(file.organization)
-            && is_plain(reference, one)
-            && (key.area == one.area
-                && key.offset == one.offset
-                && key.item.length == one.item.length)
-    }
-
-    /// A key of the file, what begins one, or RELATIVE KEY.
-    fn is_start_item(&self, file: &ProgramFile<'_>, reference: &Reference, one: &PlacedItem) -> bool
-        requires { IsDeclared self.now }
-        ensures { result ≡ filed.is_start_item (items_in self.now) file.now reference.now one.now }
-    {
-        is_key_item(file, reference, one)
-            || begins_key_item(file, reference, one)
-            || self.is_relative_key(file, reference, one)
-    }
-
     /// The item of KEY of START.
     fn start_item_rules(&self, file: &ProgramFile<'_>, key: &Reference) -> Result<(), BrokenRule>
         requires { IsDeclared self.now }
         ensures { Finds result (clause_item (items_in self.now) (spec.start_key_item (file_in (items_in self.now) file.now)) key.now) }
     {
-        let found = self.item_named(&key.item)?;
-        let is_start = self.is_start_item(file, key, found);
+        let (number, found) = self.key_item(&key.item)?;
+        let is_start = is_start_item(&self.names, file, key, found, number);
         Rule::StartKey.broken_if(!is_start, key.item.name.place)
     }
 
@@ -277,7 +264,7 @@ impl<'a> Declarations<'a> {
         let Some(one) = key else {
             return Ok(());
         };
-        Rule::StartKey.broken_if(!is_start_relation(one.relation), one.key.item.name.place)?;
+        Rule::StartKey.broken_if(!is_start_operator(one.operator), one.key.item.name.place)?;
         self.start_item_rules(file, &one.key)
     }
 
