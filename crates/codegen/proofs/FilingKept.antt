@@ -10,7 +10,7 @@ use Rattle.source_tree.specs.declared.phrases.FilePhrases.{FilePhrases}
 use Rattle.source_tree.specs.Broken.{Broken, where_so, each}
 use Rattle.source_tree.specs.FileRules.{clause_item}
 use Rattle.source_tree.specs.Filing.{is_in_sequence}
-use Rattle.source_tree.specs.FilingRules.{is_sequential_file, is_random, is_start_relation, read_key_item, start_key_item, phrase_kind_rules, read_phrase_rules, read_key_rules, into_rules, read_rules, record_item, from_rules, record_rules, start_key_rules, start_rules}
+use Rattle.source_tree.specs.FilingRules.{is_sequential_file, is_random, is_start_operator, read_key_item, start_key_item, phrase_kind_rules, read_phrase_rules, read_key_rules, into_rules, read_rules, record_item, from_rules, record_rules, start_key_rules, start_rules}
 use Rattle.source_tree.specs.LookUp.{first, items_named}
 use Rattle.source_tree.specs.NameRules.{named, subscript_rules, item_rules}
 use Rattle.source_tree.specs.Places.{Placed}
@@ -79,7 +79,7 @@ module _ (items : List Placed) where
     pub start_key_names_one : (file : ProgramFile) (one : StartKey) → start_key_rules items files file (Some one) ≡ [] → NamesOne items one.key
     start_key_names_one file one e =
         clause_names_one (start_key_item file) one.key
-        (right_none (where_so (not (is_start_relation one.relation)) 63 one.key.item.name.place) (clause_item items (start_key_item file) one.key) e)
+        (right_none (where_so (not (is_start_operator one.operator)) 63 one.key.item.name.place) (clause_item items (start_key_item file) one.key) e)
 
     -- ---- WRITE and REWRITE
 

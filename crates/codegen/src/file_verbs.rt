@@ -16,7 +16,7 @@ ghost use Rattle.codegen.specs.Filed.{spec_in};
 use crate::emitter::Emitter;
 use program_files::ProgramFile;
 use records::{Access, AlternateKey, KeyOfReference, Organization, Relation, Verb};
-use source_tree::{Reference, Relation as Asked, StartKey};
+use source_tree::{Reference, Relation as Asked, RelationalOperator, StartKey};
 use std::alloc::AllocError;
 
 /// Where an item begins in its record, and how long it is.
@@ -64,12 +64,13 @@ fn key_size(file: &ProgramFile<'_>, key: KeyOfReference) -> u16
     }
 }
 
-fn start_relation(relation: Asked) -> Relation
-    ensures { result ≡ meaning.start_relation relation }
+fn start_relation(one: RelationalOperator) -> Relation
+    ensures { result ≡ meaning.start_relation one }
 {
-    match relation {
-        Asked::Greater => Relation::Greater,
-        Asked::GreaterOrEqual => Relation::NotLess,
+    match (one.negated, one.relation) {
+        (false, Asked::Greater) => Relation::Greater,
+        (false, Asked::GreaterOrEqual) => Relation::NotLess,
+        (true, Asked::Less) => Relation::NotLess,
         _ => Relation::Equal,
     }
 }
@@ -77,17 +78,17 @@ fn start_relation(relation: Asked) -> Relation
 /// START by this relation, on so many bytes of a key, at most all of them. It is refused where 8 bits don't hold their number.
 fn start_on(
     file: &ProgramFile<'_>,
-    relation: Asked,
+    relation: Relation,
     key: KeyOfReference,
     size: u32,
 ) -> Result<Verb, AllocError>
-    ensures { IfOk result (λ verb. verb ≡ verbs.Start (meaning.start_relation relation) key (min size (key_length (spec_in file.now) key))) }
+    ensures { IfOk result (λ verb. verb ≡ verbs.Start relation key (min size (key_length (spec_in file.now) key))) }
 {
     let count = size.min(u32::from(key_size(file, key)));
     let Ok(count) = u8::try_from(count) else {
         return Err(AllocError);
     };
-    Ok(Verb::Start(start_relation(relation), key, count))
+    Ok(Verb::Start(relation, key, count))
 }
 
 /// READ in sequence, in place of by a key.
@@ -155,10 +156,11 @@ impl<'a> Emitter<'a> {
     {
         let Some(one) = key else {
             let prime = KeyOfReference::Prime;
-            return start_on(file, Asked::Equal, prime, u32::from(key_size(file, prime)));
+            return start_on(file, Relation::Equal, prime, u32::from(key_size(file, prime)));
         };
         let item = self.key_item(&one.key);
         let key = key_from(&file.alternates, item.offset)?;
-        start_on(file, one.relation, key, item.length)
+        let relation = start_relation(one.operator);
+        start_on(file, relation, key, item.length)
     }
 }
