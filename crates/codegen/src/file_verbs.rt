@@ -156,7 +156,8 @@ impl<'a> Emitter<'a> {
     {
         let Some(one) = key else {
             let prime = KeyOfReference::Prime;
-            return start_on(file, Relation::Equal, prime, u32::from(key_size(file, prime)));
+            let size = u32::from(key_size(file, prime));
+            return start_on(file, Relation::Equal, prime, size);
         };
         let item = self.key_item(&one.key);
         let key = key_from(&file.alternates, item.offset)?;
