@@ -6,6 +6,8 @@ use Rattle.records.specs.declared.fault.StoreFault.{StoreFault}
 use Rattle.records.specs.declared.keeps.Keeps.{Ghosts as Stores}
 use Rattle.records.specs.Calls.{StandsFor, Turns}
 use Rattle.records.proofs.Calls.{passed_on}
+use Rattle.records.specs.declared.answer.Outcome.{Outcome}
+use Rattle.records.specs.declared.answer.Outcome.TheVariants.{Missing, Taken, Done, Duplicate}
 use Rattle.records.specs.declared.file_spec.Organization.{Organization}
 use Rattle.records.specs.declared.file_spec.Organization.TheVariants.{Sequential, Relative, Indexed}
 use Rattle.records.specs.declared.key.KeyOfReference.TheVariants.{Prime}
@@ -17,11 +19,11 @@ use Rattle.records.specs.Spec.{Spec}
 use Rattle.records.specs.Rows.{Pair, same_bytes, part, place_of, named_pair, prime_place}
 use Rattle.records.specs.Files.{File, Files, file_at, empty_file}
 use Rattle.records.specs.Changes.{Changed, inserted, replaced, replaced_row, removed, row_at}
-use Rattle.records.specs.Stores.{Has, spec_of, files_after, pair_of}
+use Rattle.records.specs.Stores.{Has, spec_of, files_after, pair_of, is_change}
 use Rattle.records.specs.Tests.{is_sequential, may_write, may_change}
 use Rattle.records.specs.Connector.{Connector, entry_of}
-use Rattle.records.specs.Steps.{Step, step, next_number, is_past, is_out, is_other, writes, changes, row_to_change, ends}
-use Rattle.records.specs.FileStep.{area}
+use Rattle.records.specs.Steps.{Step, step, status_after, next_number, is_past, is_out, is_other, writes, changes, row_to_change, ends}
+use Rattle.records.specs.FileStep.{area, is_success}
 use Rattle.file_verbs.specs.declared.link.Link.{Link}
 use Rattle.file_verbs.specs.Links.{IsLinked, There, Gone, connector_of}
 
@@ -33,6 +35,13 @@ written_held files s l (Gone gone mode none) opened = let e : false ≡ true = s
 pub changed_held : (files : Files) (s : Select) (l : Link) → IsLinked files s l → may_change l.mode ≡ true → (held : File) × Has files s.file held
 changed_held files s l (There there held has) opened = (held, has)
 changed_held files s l (Gone gone mode none) opened = let e : false ≡ true = sym (ap may_change mode) ∙ opened in absurd cc
+
+-- an outcome that tells of a change is a success
+pub success_of : (outcome : Outcome) → is_change outcome ≡ true → is_success (status_after outcome) ≡ true
+success_of Missing is = let e : true ≡ false = sym is in absurd cc
+success_of Taken is = let e : true ≡ false = sym is in absurd cc
+success_of Done is = refl
+success_of Duplicate is = refl
 
 module _ (s : Select) (l : Link) (files : Files) (held : File) (has : Has files s.file held) (bytes : List ℕ) (number : ℕ) where
   abbrev pub was : Connector
@@ -57,6 +66,12 @@ module _ (s : Select) (l : Link) (files : Files) (held : File) (has : Has files 
   inserted_files n past out same past_is within out_is ascends =
       ap (λ (m : ℕ). files_after s.file.name.items files (inserted m bytes held)) same
       ∙ sym (ap (λ (t : Step). t.files) (inserts (sym (past_is ∙ ap (is_past s.file.organization s.access s.key_digits) same) ∙ within) (sym out_is ∙ ascends)))
+
+  pub inserted_changes : (n : ℕ) (past out : Bool) → n ≡ number_now → past ≡ is_past s.file.organization s.access s.key_digits n → past ≡ false → out ≡ is_out s.file.organization s.access bytes was.last.value → out ≡ false
+      → is_change (inserted n bytes held).outcome ≡ true → is_success (step (entry_of s) files was (area bytes number) Write).status ≡ true
+  inserted_changes n past out same past_is within out_is ascends change =
+      ap (λ (t : Step). is_success t.status) (inserts (sym (past_is ∙ ap (is_past s.file.organization s.access s.key_digits) same) ∙ within) (sym out_is ∙ ascends))
+      ∙ success_of (inserted number_now bytes held).outcome (ap (λ (m : ℕ). is_change (inserted m bytes held).outcome) (sym same) ∙ change)
 
   -- the row to change
   abbrev pub named : Pair

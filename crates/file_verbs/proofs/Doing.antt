@@ -5,7 +5,7 @@ use Rattle.std.specs.Option.{option_map}
 use Rattle.station.specs.Disk.{Disk, Sector, IsCrashImage}
 use Rattle.station.specs.declared.device.Device.{Ghosts as Devices}
 use Rattle.records.specs.declared.fault.StoreFault.{StoreFault}
-use Rattle.records.specs.declared.fault.StoreFault.TheVariants.{Damaged}
+use Rattle.records.specs.declared.fault.StoreFault.TheVariants.{Full, Damaged}
 use Rattle.records.specs.declared.keeps.Keeps.{Ghosts as Stores}
 use Rattle.records.specs.declared.select.Select.{Select}
 use Rattle.records.specs.declared.status.Status.{Status}
@@ -30,7 +30,7 @@ use Rattle.records.specs.Stores.{spec_of, key_length}
 use Rattle.records.specs.Calls.{StandsFor, Reads, Changes, Turns, Rests}
 use Rattle.records.specs.Connector.{Area}
 use Rattle.records.specs.Tests.{is_sequential, may_read, may_write, may_change, unless, then_unless}
-use Rattle.records.specs.FileStep.{makes_file, has_changed}
+use Rattle.records.specs.FileStep.{makes_file, has_changed, can_change_files}
 use Rattle.records.proofs.Calls.{reads_changes, reads_rests, reads_turns}
 use Rattle.file_verbs.specs.declared.link.Link.{Link}
 use Rattle.file_verbs.specs.declared.linked.Linked.{Linked}
@@ -152,6 +152,8 @@ module _ {S : Type 0} (s : Stores S) {D : Type 0} (d : Devices D) (verb : Verb) 
         (subst (λ (t : Select). IsLinked files t new.link) (sym select) (same_absent files old.select old.link new.link absent mode (linked opened))));
     turns = λ files stands linked. subst (λ (f : Files). Turns s d result (makes_file verb) (name_of old) files f store device store' device') (stays files)
         (reads_turns s d result store device store' device' reads held (makes_file verb) (name_of old) files stands (sound files stands (linked opened)));
+    full = λ files stands linked is. absurd (reads.has_room is);
+    never_full = λ none. reads.has_room;
     idle = λ honest. if_any (λ status. has_changed verb status ≡ false → d.state device' ≡ d.state device) result (λ status no. reads.only.state honest);
     same = err_both result same area_same (λ link area_is. record {
       connector_is = ap (λ (t : Select). connector_of (spec_of t.file) new.link) select ∙ link.connector;
@@ -169,14 +171,18 @@ module _ {S : Type 0} (s : Stores S) {D : Type 0} (d : Devices D) (verb : Verb) 
       → (d.is_honest device → IfOk result (λ status. has_changed verb status ≡ false → d.state device' ≡ d.state device))
       → OnErr result (new.link ≡ old.link) → OnErr result (left ≡ area) → OnErr result (Rests s d store device store' device')
       → ((files : Files) → IsLinked files old.select old.link → IsLinked (step_of verb files old area).files old.select old.link)
+      → ((files : Files) → StandsFor s d store device files → IsLinked files old.select old.link → result ≡ Err Full → has_changed verb (step_of verb files old area).status ≡ true)
+      → can_change_files verb ≡ true
       → Does s d verb result store device store' device' old new area left
-  changes_do changes select opened step turns mode absent idle same area_same rests stays = record {
+  changes_do changes select opened step turns mode absent idle same area_same rests stays full can_change = record {
     changes = changes;
     select = select;
     step = λ files stands linked. step files stands (linked opened);
     linked = λ files stands linked. on_ok result (λ _. subst (λ (t : Select). IsLinked (step_of verb files old area).files t new.link) (sym select)
         (same_absent (step_of verb files old area).files old.select old.link new.link absent mode (stays files (linked opened))));
     turns = λ files stands linked. turns files stands (linked opened);
+    full = λ files stands linked. full files stands (linked opened);
+    never_full = λ none is. let clash : true ≡ false = sym can_change ∙ none in cc;
     idle = idle;
     same = err_both result same area_same (λ link area_is. record {
       connector_is = ap (λ (t : Select). connector_of (spec_of t.file) new.link) select ∙ ap (connector_of (spec_of old.select.file)) link;
@@ -193,13 +199,17 @@ module _ {S : Type 0} (s : Stores S) {D : Type 0} (d : Devices D) (verb : Verb) 
       → ((files : Files) → StandsFor s d store device files → Turns s d result (makes_file verb) (name_of old) files (step_of verb files old area).files store device store' device')
       → (d.is_honest device → IfOk result (λ status. has_changed verb status ≡ false → d.state device' ≡ d.state device))
       → OnErr result (new.link ≡ old.link) → left ≡ area → OnErr result (Rests s d store device store' device')
+      → ((files : Files) → StandsFor s d store device files → result ≡ Err Full → has_changed verb (step_of verb files old area).status ≡ true)
+      → (can_change_files verb ≡ false → result ≢ Err Full)
       → Does s d verb result store device store' device' old new area left
-  opening_does changes select shut step linked turns idle same area_same rests = record {
+  opening_does changes select shut step linked turns idle same area_same rests full never_full = record {
     changes = changes;
     select = select;
     step = λ files stands _. step files stands;
     linked = λ files stands _. by_ok result (linked files stands) (λ one opened. by_case (step_of verb files old area).files opened one);
     turns = λ files stands _. turns files stands;
+    full = λ files stands _. full files stands;
+    never_full = never_full;
     idle = idle;
     same = err_both result same same (λ link _. record {
       connector_is = ap (λ (t : Select). connector_of (spec_of t.file) new.link) select ∙ ap (connector_of (spec_of old.select.file)) link;

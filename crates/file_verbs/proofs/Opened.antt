@@ -18,6 +18,7 @@ use Rattle.records.specs.Files.{File, Files, file_at, with_file, empty_file, pre
 use Rattle.records.specs.Stores.{spec_of}
 use Rattle.records.specs.Connector.{Connector, Area, entry_of}
 use Rattle.records.specs.Steps.{Step, step, open_there, open_absent, ends, opens}
+use Rattle.records.specs.FileStep.{has_changed}
 use Rattle.records.proofs.Maps.{specs_same}
 use Rattle.file_verbs.specs.declared.link.Link.{Link}
 use Rattle.file_verbs.specs.Links.{IsLinked, There}
@@ -115,6 +116,23 @@ module _ (s : Select) (files : Files) (c : Connector) (a : Area) where
   pub reads_absent : (mode : OpenMode) → mode ≡ Input → file_at s.file.name.items files ≡ None → s.optional ≡ true → step (entry_of s) files c a (Open mode) ≡ begun mode SuccessAbsent
   reads_absent mode is none optional =
       ap (λ (m : OpenMode). step (entry_of s) files c a (Open m)) is ∙ ap (there_by Input) none ∙ ap (optional_by Input) optional ∙ ap (λ (m : OpenMode). begun m SuccessAbsent) (sym is)
+
+  -- a mode that makes the file has changed files
+  abbrev changed_by : OpenMode → Step → Bool
+  changed_by mode t = has_changed (Open mode) t.status
+
+  pub output_changes : (mode : OpenMode) → mode ≡ Output → has_changed (Open mode) (step (entry_of s) files c a (Open mode)).status ≡ true
+  output_changes mode is = ap (λ (m : OpenMode). changed_by m (step (entry_of s) files c a (Open m))) is
+
+  pub absent_changes : (mode : OpenMode) → mode ≡ InputOutput → file_at s.file.name.items files ≡ None → s.optional ≡ true → has_changed (Open mode) (step (entry_of s) files c a (Open mode)).status ≡ true
+  absent_changes mode is none optional =
+      ap (λ (m : OpenMode). changed_by m (step (entry_of s) files c a (Open m))) is ∙ ap (λ (o : Option File). changed_by InputOutput (there_by InputOutput o)) none
+      ∙ ap (λ (b : Bool). changed_by InputOutput (optional_by InputOutput b)) optional
+
+  pub extend_changes : (mode : OpenMode) → mode ≡ Extend → file_at s.file.name.items files ≡ None → s.optional ≡ true → has_changed (Open mode) (step (entry_of s) files c a (Open mode)).status ≡ true
+  extend_changes mode is none optional =
+      ap (λ (m : OpenMode). changed_by m (step (entry_of s) files c a (Open m))) is ∙ ap (λ (o : Option File). changed_by Extend (there_by Extend o)) none
+      ∙ ap (λ (b : Bool). changed_by Extend (optional_by Extend b)) optional
 
   -- a file that is there as it is said is linked
   pub present_linked : (mode : OpenMode) (l : Link) → (mode ≡ Output → ⊥) → Present ≡ presence (file_at s.file.name.items files) (spec_of s.file) → l.is_absent ≡ false → IsLinked (after mode) s l

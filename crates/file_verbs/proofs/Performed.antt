@@ -154,11 +154,12 @@ module _ {S S' : Type 0} (s : Stores S) {s' : Stores S'} {D : Type 0} (d : Devic
     same = ok_map result (λ same. spent' ∙ same ∙ sym spent) changes.same;
     spent = λ is. spent ∙ changes.spent is;
     own_layout = changes.own_layout;
+    unwritten = changes.unwritten;
   }
 
   pub turns_over : (is_new : Bool) (name name' : List ℕ) (before after after' : Files) → name' ≡ name → after' ≡ after → OnOk result (s.stands new (d.state device').disk after → s'.stands new' (d.state device').disk after)
       → (Through (d.history device) (d.history device') (d.state device') (CrashLeaves (d.state device).events (Either s.holds before after)) → Through (d.history device) (d.history device') (d.state device') (CrashLeaves (d.state device).events (Either s'.holds before after)))
-      → (s.lacks_room old is_new name before after → s'.lacks_room old' is_new name before after)
+      → (s.lacks_room (d.state device).disk.present is_new name before after → s'.lacks_room (d.state device).disk.present is_new name before after)
       → Turns s d result is_new name before after old device new device' → Turns s' d result is_new name' before after' old' device new' device'
   turns_over is_new name name' before after after' named files lift moments lacks turns =
       subst (λ (n : List ℕ). Turns s' d result is_new n before after' old' device new' device') (sym named) (subst (λ (f : Files). Turns s' d result is_new name before f old' device new' device') (sym files) (record {

@@ -9,7 +9,7 @@ pub record IsOver {S : Type 0} (s : Keepers S) {C : Type 0} (c : Keepers C) (sto
   pub needs : c.needs all ≡ s.needs store
   pub spent : c.is_spent all ≡ s.is_spent store
   pub stands : (disk : Disk) (files : Files) → c.stands all disk files → s.stands store disk files
-  pub room : (is_new : Bool) (name : List ℕ) (before after : Files) → c.lacks_room all is_new name before after → s.lacks_room store is_new name before after
+  pub room : (image : List Sector) (is_new : Bool) (name : List ℕ) (before after : Files) → c.lacks_room image is_new name before after → s.lacks_room image is_new name before after
   pub holds : (image : List Sector) (files : Files) → c.holds image files → s.holds image files
   pub held : (image : List Sector) (files : Files) → s.holds image files → c.holds image files
 
@@ -18,4 +18,3 @@ pub record IsWider {C : Type 0} (c : Keepers C) (old new : C) : Type 0 where
   pub needs : c.needs new ≡ c.needs old
   pub spent : c.is_spent new ≡ c.is_spent old
   pub stands : (disk : Disk) (files : Files) → c.stands old disk files → c.stands new disk files
-  pub room : (is_new : Bool) (name : List ℕ) (before after : Files) → c.lacks_room new is_new name before after → c.lacks_room old is_new name before after

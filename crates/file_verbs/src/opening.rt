@@ -1,11 +1,11 @@
 //! OPEN and CLOSE.
-ghost use Rattle.std.specs.Prelude.{◌≡◌, ◌≤◌, ◌⊎◌, Some, None, true, false, ℕ, List, IfOk, OnOk, OnErr};
+ghost use Rattle.std.specs.Prelude.{◌≡◌, ◌≢◌, ◌≤◌, ◌⊎◌, Err, Some, None, true, false, ℕ, List, IfOk, OnOk, OnErr};
 ghost use Rattle.records.specs.Files.{Files, with_file, empty_file, presence, file_at};
 ghost use Rattle.records.specs.Calls.{StandsFor, Changes, Turns, Rests};
 ghost use Rattle.records.specs.Stores.{spec_of};
 ghost use Rattle.records.specs.Connector.{entry_of, opened, closed};
 ghost use Rattle.records.specs.Steps.{step};
-ghost use Rattle.records.specs.FileStep.{area, has_changed};
+ghost use Rattle.records.specs.FileStep.{area, has_changed, can_change_files};
 ghost use Rattle.file_verbs.specs.Links.{IsLink, IsLinked, Ends, connector_of};
 
 use crate::link::Link;
@@ -93,6 +93,9 @@ pub(crate) fn open_file<T: Store, D: Device>(
     ensures linked { (files : Files) → StandsFor T.Keeps D.Device store.old device.old files → (bytes : List ℕ) (number : ℕ) →
         OnOk result ((link.new.mode ≡ link.old.mode) ⊎ IsLinked (step (entry_of select.now) files (connector_of (spec_of select.now.file) link.old) (area bytes number) (Verb.Open mode)).files select.now link.new) }
     ensures link { IsLink select.now link.new }
+    ensures full { (files : Files) → StandsFor T.Keeps D.Device store.old device.old files → (bytes : List ℕ) (number : ℕ) → result ≡ Err StoreFault.Full →
+        has_changed (Verb.Open mode) (step (entry_of select.now) files (connector_of (spec_of select.now.file) link.old) (area bytes number) (Verb.Open mode)).status ≡ true }
+    ensures never_full { can_change_files (Verb.Open mode) ≡ false → result ≢ Err StoreFault.Full }
     ensures idle { D.is_honest device.old → IfOk result (λ status. has_changed (Verb.Open mode) status ≡ false → D.state device.new ≡ D.state device.old) }
     ensures same { OnErr result (link.new ≡ link.old) }
     ensures rests { OnErr result (Rests T.Keeps D.Device store.old device.old store.new device.new) }

@@ -1,5 +1,5 @@
 //! REWRITE and DELETE.
-ghost use Rattle.std.specs.Prelude.{◌≡◌, ◌≤◌, true, false, length, IfOk, OnOk, OnErr, if◌then◌else◌};
+ghost use Rattle.std.specs.Prelude.{◌≡◌, ◌≤◌, true, false, Err, length, IfOk, OnOk, OnErr, if◌then◌else◌};
 ghost use Rattle.records.specs.Rows.{part, place_of};
 ghost use Rattle.records.specs.Files.{Files};
 ghost use Rattle.records.specs.Calls.{StandsFor, Changes, Turns, Rests};
@@ -85,6 +85,8 @@ pub(crate) fn rewrite_row<T: Store, D: Device>(
     ensures absent { link.new.is_absent ≡ link.old.is_absent }
     // The position and the key of reference stay.
     ensures stays { OnOk result (link.new ≡ record link.old { was_read = false }) }
+    ensures full { (files : Files) → StandsFor T.Keeps D.Device store.old device.old files → IsLinked files select.now link.old → result ≡ Err StoreFault.Full →
+        has_changed Verb.Rewrite (step (entry_of select.now) files (connector_of (spec_of select.now.file) link.old) (area bytes.now number) Verb.Rewrite).status ≡ true }
     ensures idle { D.is_honest device.old → IfOk result (λ status. has_changed Verb.Rewrite status ≡ false → D.state device.new ≡ D.state device.old) }
     ensures same { OnErr result (link.new ≡ link.old) }
     ensures rests { OnErr result (Rests T.Keeps D.Device store.old device.old store.new device.new) }
@@ -123,6 +125,8 @@ pub(crate) fn delete_row<T: Store, D: Device>(
     ensures absent { link.new.is_absent ≡ link.old.is_absent }
     // The position and the key of reference stay.
     ensures stays { OnOk result (link.new ≡ record link.old { was_read = false }) }
+    ensures full { (files : Files) → StandsFor T.Keeps D.Device store.old device.old files → IsLinked files select.now link.old → result ≡ Err StoreFault.Full →
+        has_changed Verb.Delete (step (entry_of select.now) files (connector_of (spec_of select.now.file) link.old) (area bytes.now number) Verb.Delete).status ≡ true }
     ensures idle { D.is_honest device.old → IfOk result (λ status. has_changed Verb.Delete status ≡ false → D.state device.new ≡ D.state device.old) }
     ensures same { OnErr result (link.new ≡ link.old) }
     ensures rests { OnErr result (Rests T.Keeps D.Device store.old device.old store.new device.new) }

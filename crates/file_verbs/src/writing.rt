@@ -1,5 +1,5 @@
 //! WRITE.
-ghost use Rattle.std.specs.Prelude.{◌≡◌, ◌≤◌, true, false, length, if◌then◌else◌, IfOk, OnErr};
+ghost use Rattle.std.specs.Prelude.{◌≡◌, ◌≤◌, true, false, Err, length, if◌then◌else◌, IfOk, OnErr};
 ghost use Rattle.records.specs.Rows.{Pair};
 ghost use Rattle.records.specs.Files.{Files};
 ghost use Rattle.records.specs.Calls.{StandsFor, Changes, Turns, Rests};
@@ -161,6 +161,8 @@ pub(crate) fn write_row<T: Store, D: Device>(
     ensures link { IsLink select.now link.new }
     ensures mode { link.new.mode ≡ link.old.mode }
     ensures absent { link.new.is_absent ≡ link.old.is_absent }
+    ensures full { (files : Files) → StandsFor T.Keeps D.Device store.old device.old files → IsLinked files select.now link.old → result ≡ Err StoreFault.Full →
+        has_changed Verb.Write (step (entry_of select.now) files (connector_of (spec_of select.now.file) link.old) (area bytes.now number.old) Verb.Write).status ≡ true }
     ensures idle { D.is_honest device.old → IfOk result (λ status. has_changed Verb.Write status ≡ false → D.state device.new ≡ D.state device.old) }
     ensures same { OnErr result (link.new ≡ link.old) }
     ensures area { OnErr result (number.new ≡ number.old) }

@@ -1,16 +1,17 @@
-use Rattle.std.proofs.Common.{true, refl, sym, ◌∙◌, ap, subst, inl, inr}
+use Rattle.std.proofs.Common.{◌≡◌, true, false, refl, sym, ◌∙◌, ap, subst, inl, inr}
 use Rattle.std.specs.Prelude.{Ok, Some}
 use Rattle.records.specs.declared.status.Status.TheVariants.{SuccessAbsent, FileMissing, FileDiffers}
 use Rattle.records.specs.declared.verb.OpenMode.{OpenMode}
+use Rattle.records.specs.declared.verb.Verb.TheVariants.{Open}
 use Rattle.records.specs.Steps.{Step}
 use Rattle.station.proofs.TwoPhase.{on_ok}
 use Rattle.records.specs.Files.{Files}
 use Rattle.records.specs.Stores.{spec_of}
 use Rattle.records.specs.Calls.{Turns}
-use Rattle.records.specs.FileStep.{area}
+use Rattle.records.specs.FileStep.{area, can_change_files}
 use Rattle.records.proofs.Calls.{after_reads, reads_changes, reads_turns}
 use Rattle.file_verbs.specs.Links.{IsLinked, Gone, connector_of}
-use Rattle.file_verbs.proofs.Opened.{absent_is, output_makes, absent_makes, absent_extends, present_linked, looked, differs, misses, reads_absent}
+use Rattle.file_verbs.proofs.Opened.{absent_is, output_makes, absent_makes, absent_extends, output_changes, absent_changes, extend_changes, present_linked, looked, differs, misses, reads_absent}
 use Rattle.file_verbs.proofs.Taken.{ended}
 use Rattle.file_verbs.proofs.opening.open_file.Goals as goal
 
@@ -74,6 +75,8 @@ returns-in-Different g c =
         written_length = c.requires.link.written_length;
         last = c.requires.link.last;
       };
+      full = λ files stands bytes number is. absurd cc;
+      never_full = λ none is. absurd cc;
       idle = λ honest no. reads.only.state honest;
       same = tt;
       rests = tt;
@@ -99,6 +102,8 @@ returns-else-select g c =
         written_length = c.requires.link.written_length;
         last = c.requires.link.last;
       };
+      full = λ files stands bytes number is. absurd cc;
+      never_full = λ none is. absurd cc;
       idle = λ honest no. reads.only.state honest;
       same = tt;
       rests = tt;
@@ -119,7 +124,35 @@ returns-in-Input g c =
           let none = absent_is _ (spec_of s.file) (sym c.in-Absent.is ∙ c.in_ok-there.ensures.presence files stands) in
           inr (subst (λ (f : Files). IsLinked f s c.begin-in-Input.new.link) (sym (ap (λ (t : Step). t.files) (reads_absent s files (connector_of (spec_of s.file) l) (area bytes number) c.args.mode c.in-Input.is (absent_is _ (spec_of s.file) (sym c.in-Absent.is ∙ c.in_ok-there.ensures.presence files stands)) c.if-select.true))) (Gone c.begin-in-Input.ensures.absent (c.begin-in-Input.ensures.mode ∙ ap (λ (m : OpenMode). Some m) c.in-Input.is) none));
       link = c.begin-in-Input.ensures.link;
+      full = λ files stands bytes number is. absurd cc;
+      never_full = λ none is. absurd cc;
       idle = λ honest no. reads.only.state honest;
       same = tt;
       rests = tt;
     }
+
+pub returns-in-Output-clause-full : goal.returns-in-Output-clause-full
+returns-in-Output-clause-full g c = λ files stands bytes number is.
+    let s = c.args.select.now in
+    output_changes s files (connector_of (spec_of s.file) c.args.link.now) (area bytes number) c.args.mode c.in-Output.is
+
+pub returns-in-InputOutput-clause-full : goal.returns-in-InputOutput-clause-full
+returns-in-InputOutput-clause-full g c = λ files stands bytes number is.
+    let s = c.args.select.now in
+    let none = absent_is _ (spec_of s.file) (sym c.in-Absent.is ∙ c.in_ok-there.ensures.presence files stands) in
+    absent_changes s files (connector_of (spec_of s.file) c.args.link.now) (area bytes number) c.args.mode c.in-InputOutput.is none c.if-select.true
+
+pub returns-in-Extend-clause-full : goal.returns-in-Extend-clause-full
+returns-in-Extend-clause-full g c = λ files stands bytes number is.
+    let s = c.args.select.now in
+    let none = absent_is _ (spec_of s.file) (sym c.in-Absent.is ∙ c.in_ok-there.ensures.presence files stands) in
+    extend_changes s files (connector_of (spec_of s.file) c.args.link.now) (area bytes number) c.args.mode c.in-Extend.is none c.if-select.true
+
+pub returns-in-Output-clause-never_full : goal.returns-in-Output-clause-never_full
+returns-in-Output-clause-never_full g c = λ none. let clash : true ≡ false = sym (ap (λ (m : OpenMode). can_change_files (Open m)) c.in-Output.is) ∙ none in absurd cc
+
+pub returns-in-InputOutput-clause-never_full : goal.returns-in-InputOutput-clause-never_full
+returns-in-InputOutput-clause-never_full g c = λ none. let clash : true ≡ false = sym (ap (λ (m : OpenMode). can_change_files (Open m)) c.in-InputOutput.is) ∙ none in absurd cc
+
+pub returns-in-Extend-clause-never_full : goal.returns-in-Extend-clause-never_full
+returns-in-Extend-clause-never_full g c = λ none. let clash : true ≡ false = sym (ap (λ (m : OpenMode). can_change_files (Open m)) c.in-Extend.is) ∙ none in absurd cc

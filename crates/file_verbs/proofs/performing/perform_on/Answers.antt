@@ -14,7 +14,8 @@ returns-in-Open g c =
       does = as_verb c.args.verb (Open c.in-Open.mode) c.in-Open.is
           (opening_does g.T.Keeps g.D.Device (Open c.in-Open.mode) c.open_file.result c.args.store.now c.args.device.now c.open_file.new.store c.open_file.new.device old _ _ _ c.open_file.ensures.changes refl
           (open_shut old c.in-Open.mode (subst (May old) c.in-Open.is c.requires.may)) (λ files stands. c.open_file.ensures.step files stands bytes number) (λ files stands. c.open_file.ensures.linked files stands bytes number)
-          (λ files stands. c.open_file.ensures.turns files stands bytes number) c.open_file.ensures.idle c.open_file.ensures.same refl c.open_file.ensures.rests);
+          (λ files stands. c.open_file.ensures.turns files stands bytes number) c.open_file.ensures.idle c.open_file.ensures.same refl c.open_file.ensures.rests
+          (λ files stands. c.open_file.ensures.full files stands bytes number) c.open_file.ensures.never_full);
     }
 
 pub returns-in-Some : goal.returns-in-Some
@@ -45,7 +46,7 @@ returns-in-Write g c =
       does = as_verb c.args.verb Write c.in-Write.is
           (changes_do g.T.Keeps g.D.Device Write c.write_row.result c.args.store.now c.args.device.now c.write_row.new.store c.write_row.new.device old _ _ _ c.write_row.ensures.changes refl (write_open old may) c.write_row.ensures.step c.write_row.ensures.turns
           c.write_row.ensures.mode c.write_row.ensures.absent c.write_row.ensures.idle c.write_row.ensures.same (err_map c.write_row.result (λ e. ap (λ (n : ℕ). area c.args.bytes.now n) e) c.write_row.ensures.area) c.write_row.ensures.rests
-          (write_stays old (area c.args.bytes.now c.args.number.now) may));
+          (write_stays old (area c.args.bytes.now c.args.number.now) may) c.write_row.ensures.full refl);
     }
 
 pub returns-in-Rewrite : goal.returns-in-Rewrite
@@ -56,7 +57,7 @@ returns-in-Rewrite g c =
       does = as_verb c.args.verb Rewrite c.in-Rewrite.is
           (changes_do g.T.Keeps g.D.Device Rewrite c.rewrite_row.result c.args.store.now c.args.device.now c.rewrite_row.new.store c.rewrite_row.new.device old _ _ _ c.rewrite_row.ensures.changes refl (change_open old may) c.rewrite_row.ensures.step c.rewrite_row.ensures.turns
           c.rewrite_row.ensures.mode c.rewrite_row.ensures.absent c.rewrite_row.ensures.idle c.rewrite_row.ensures.same (err_any c.rewrite_row.result refl) c.rewrite_row.ensures.rests
-          (rewrite_stays old (area c.args.bytes.now c.args.number.now) may));
+          (rewrite_stays old (area c.args.bytes.now c.args.number.now) may) c.rewrite_row.ensures.full refl);
     }
 
 pub returns-in-Delete : goal.returns-in-Delete
@@ -67,7 +68,7 @@ returns-in-Delete g c =
       does = as_verb c.args.verb Delete c.in-Delete.is
           (changes_do g.T.Keeps g.D.Device Delete c.delete_row.result c.args.store.now c.args.device.now c.delete_row.new.store c.delete_row.new.device old _ _ _ c.delete_row.ensures.changes refl (change_open old may) c.delete_row.ensures.step c.delete_row.ensures.turns
           c.delete_row.ensures.mode c.delete_row.ensures.absent c.delete_row.ensures.idle c.delete_row.ensures.same (err_any c.delete_row.result refl) c.delete_row.ensures.rests
-          (delete_stays old (area c.args.bytes.now c.args.number.now) may));
+          (delete_stays old (area c.args.bytes.now c.args.number.now) may) c.delete_row.ensures.full refl);
     }
 
 pub returns-in-Start : goal.returns-in-Start

@@ -9,5 +9,4 @@ returns-clause-wider g c = record {
   needs = refl;
   spent = refl;
   stands = λ disk files stands. (stands.0, subst (AreLinked files) (sym c.in_ok-push.ensures.items) (added files c.args.self.now.links.items c.in_ok-linked.linked (ap is_some c.in_ok-linked.ensures.shut) stands.1));
-  room = λ is_new name before after lacks. lacks;
 }

@@ -5,7 +5,7 @@ use Rattle.records.specs.declared.verb.Verb.{Verb}
 use Rattle.records.specs.Calls.{StandsFor}
 use Rattle.records.specs.Connector.{Entry, Connector}
 use Rattle.records.specs.Steps.{Step, step}
-use Rattle.records.specs.FileStep.{area, barred_at, is_close, makes_file, file_step, Suits, IsStep}
+use Rattle.records.specs.FileStep.{area, barred_at, is_close, makes_file, has_changed, file_step, Suits, IsStep}
 use Rattle.file_verbs.specs.Connections.{entry, connector, entries_of, connectors_of, name_of, OpenLinked}
 use Rattle.file_verbs.specs.declared.linked.Linked.{Linked}
 use Rattle.file_verbs.specs.Links.{Ends}
@@ -141,6 +141,10 @@ returns g c =
           (ap (λ (t : Step). t.files) (own_step_is all c.args.file old lt here files a c.args.verb none))
           (ok_map r (λ now there. (there, all_after all c.args.file old new lt here does.select files a c.args.verb other none stands.there.1 now)) (does.linked files down linked))
           (λ moments. moments) (λ lacks. lacks) (does.turns files down linked);
+      full = λ files stands is.
+          ap (λ (t : Step). has_changed c.args.verb t.status) (own_step_is all c.args.file old lt here files a c.args.verb none)
+          ∙ does.full files (record { honest = stands.honest; there = stands.there.0 }) (subst (OpenLinked files) here (linked_at files all c.args.file old lt stands.there.1)) is;
+      never_full = does.never_full;
       idle = does.idle;
       refused = err_map r (λ same. record { connectors_are = same_connectors all c.args.file old new lt here does.select same.connector_is; area_is = same.area_is }) does.same;
       rests = err_both r (λ same rests. rests_over g.T.Keeps g.D.Device r store device store' device' refl (λ files stands. record { honest = stands.honest; there = stands.there.0 })
