@@ -119,7 +119,7 @@ impl Keeps for MemoryStore {
 
     ghost is_spent = { λ store. store.is_spent };
 
-    ghost lacks_room = { λ store is_new name before after. ⊥ };
+    ghost lacks_room = { λ image is_new name before after. ⊥ };
 }
 
 impl Store for MemoryStore {
