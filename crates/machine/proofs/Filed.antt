@@ -1,5 +1,5 @@
 -- A run in progress, over a file statement.
-use Rattle.std.proofs.Common.{◌≡◌, ◌≢◌, ◌⊎◌, ℕ, suc, ◌+◌, List, [], ◌∷◌, ◌++◌, length, Option, Some, refl, sym, ◌∙◌, ap, subst, append_assoc, inl, inr, arith}
+use Rattle.std.proofs.Common.{◌≡◌, ◌≢◌, ◌⊎◌, Bool, true, ℕ, suc, ◌+◌, List, [], ◌∷◌, ◌++◌, length, Option, Some, refl, sym, ◌∙◌, ap, subst, append_assoc, inl, inr, arith}
 use Rattle.std.specs.Prelude.{slice_get, false, Result, OnOk, OnErr}
 use Rattle.std.proofs.lemmas.List.{length-append}
 use Rattle.station.specs.declared.note.Note.{Note}
@@ -13,15 +13,15 @@ use Rattle.records.specs.declared.fault.StoreFault.TheVariants as fault
 use Rattle.records.specs.declared.status.Status.{Status}
 use Rattle.records.specs.declared.verb.Verb.{Verb}
 use Rattle.records.specs.Files.{Files}
-use Rattle.records.specs.Connector.{Connector}
+use Rattle.records.specs.Connector.{Entry, Connector}
 use Rattle.records.specs.Stores.{Either}
 use Rattle.records.specs.Statuses.{bytes_of}
 use Rattle.records.specs.Steps as file
-use Rattle.records.specs.FileStep.{connectors_after}
+use Rattle.records.specs.FileStep.{connectors_after, makes_file, has_changed}
 use Rattle.source_tree.specs.Told.{note_count}
 use Rattle.source_tree.specs.Meaning.{Run}
 use Rattle.source_tree.specs.ProgramFiles.{FilePlaces}
-use Rattle.source_tree.specs.FileStatements.{stored_by, step_by, step_on}
+use Rattle.source_tree.specs.FileStatements.{area_of, stored_by, step_by, step_on}
 use Rattle.source_tree.proofs.Telling.{notes_append}
 use Rattle.data_instructions.specs.Scratch.{Scratch}
 use Rattle.run_time_data.specs.Data as held
@@ -38,10 +38,11 @@ use Rattle.machine.specs.Prefix.{files_at, HoldsSoFar, Moment}
 use Rattle.machine.specs.declared.ended.Refusal.{Refusal}
 use Rattle.machine.specs.declared.ended.Refusal.TheVariants.{Device, Full, Damaged, Memory}
 use Rattle.machine.specs.declared.ended.Ended.TheVariants.{Refused}
-use Rattle.machine.specs.Ends.{is_barring, BeforeNote, EndsAs}
+use Rattle.machine.specs.Ends.{is_barring, BeforeNote, LacksRoom, EndsAs}
 use Rattle.machine.specs.Filing.{store_fault}
 use Rattle.machine.specs.Progress.{Running}
 use Rattle.machine.proofs.Moments.{as_many_taken}
+use Rattle.machine.proofs.Placed.{entry_here}
 use Rattle.machine.proofs.Beginnings.{RunsTo, tells_more, files_here}
 use Rattle.machine.proofs.Steps.{here_goes, files_now}
 
@@ -134,12 +135,37 @@ module _ (code : Code) (day : List ℕ) (run : Run) (before : State) (files : Fi
     console = as_many_taken before now s so_far.console lines;
   }
 
-  pub refused_by : (holds : List Sector → Files → Type 0) (s : State) (refusal : Refusal) (why : StoreFault) → why ≡ store_fault refusal → why ≢ fault.Damaged
-      → is_barring did.status ≡ false → s.events ≡ now.events → s.lines ≡ now.lines → EndsAs holds run before (Refused refusal) s
-  refused_by holds s Device why is sound asks events lines = as_many_taken before now s so_far.console lines
-  refused_by holds s Full why is sound asks events lines = given_up s events lines asks
-  refused_by holds s Damaged why is sound asks events lines = absurd (sound is)
-  refused_by holds s Memory why is sound asks events lines = given_up s events lines asks
+  -- a disk that lacks room for a change of files
+  pub record NoRoom (lacks_room : List Sector → Bool → List ℕ → Files → Files → Type 0) (s : State) : Type 0 where
+    pub changes : has_changed verb did.status ≡ true
+    pub room : lacks_room s.disk.present (makes_file verb) one.name files did.files
+
+  no_room : (lacks_room : List Sector → Bool → List ℕ → Files → Files → Type 0) (s : State) → s.events ≡ now.events → s.lines ≡ now.lines → is_barring did.status ≡ false
+      → NoRoom lacks_room s → LacksRoom lacks_room (entries_of code.tables code.files) run before s
+  unfolding step_by
+  no_room lacks_room s events lines asks no = record {
+    given_up = given_up s events lines asks;
+    verb = verb;
+    connectors = connectors;
+    area = area_of places r.scratch.areas;
+    before = files;
+    step = did;
+    before_is = sym files_before;
+    step_is = is;
+    after_is = sym files_then;
+    status_is = refl;
+    changes = no.changes;
+    room = subst (λ (name : List ℕ). lacks_room s.disk.present (makes_file verb) name files did.files)
+        (sym (ap (λ (e : Entry). e.name) (entry_here code.tables code.files file_index.number one there))) no.room;
+  }
+
+  pub refused_by : (holds : List Sector → Files → Type 0) (lacks_room : List Sector → Bool → List ℕ → Files → Files → Type 0) (s : State) (refusal : Refusal) (why : StoreFault) → why ≡ store_fault refusal → why ≢ fault.Damaged
+      → is_barring did.status ≡ false → s.events ≡ now.events → s.lines ≡ now.lines → (why ≡ fault.Full → NoRoom lacks_room s)
+      → EndsAs holds lacks_room (entries_of code.tables code.files) run before (Refused refusal) s
+  refused_by holds lacks_room s Device why is sound asks events lines full = as_many_taken before now s so_far.console lines
+  refused_by holds lacks_room s Full why is sound asks events lines full = no_room lacks_room s events lines asks (full is)
+  refused_by holds lacks_room s Damaged why is sound asks events lines full = absurd (sound is)
+  refused_by holds lacks_room s Memory why is sound asks events lines full = given_up s events lines asks
 
   -- where its status was received
   pub after_file : (s : State) (new : Registers) (status : Status) (after : List Connector) → s.events ≡ now.events ++ Noted (record { file = file_index.number; status = bytes_of status }) ∷ []

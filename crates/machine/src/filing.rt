@@ -1,16 +1,16 @@
 //! File statements.
 
-ghost use Rattle.std.specs.Prelude.{◌≡◌, ◌≢◌, ◌≤◌, ◌<◌, ◌+◌, ◌↔◌, true, false, ℕ, List, IfSome, length, map, slice_get, Some, OnOk, OnErr, IfOk, IfErr};
+ghost use Rattle.std.specs.Prelude.{◌≡◌, ◌≢◌, ◌≤◌, ◌<◌, ◌+◌, ◌↔◌, true, false, ℕ, List, IfSome, length, map, slice_get, Some, Err, OnOk, OnErr, IfOk, IfErr};
 ghost use Rattle.station.specs.State.{State, noted};
 ghost use Rattle.station.specs.History.{Moves, Through};
 ghost use Rattle.records.specs.Statuses.{bytes_of};
 ghost use Rattle.records.specs.Files.{Files};
 ghost use Rattle.records.specs.Spec.{is_spec};
 ghost use Rattle.records.specs.Calls.{StandsFor, Changes, Turns};
-ghost use Rattle.records.specs.FileStep.{entry_at, needs_no_store, makes_file, Suits};
+ghost use Rattle.records.specs.FileStep.{entry_at, needs_no_store, makes_file, has_changed, Suits};
 ghost use Rattle.source_tree.specs.FileStatements as meaning;
 ghost use Rattle.source_tree.specs.Meaning.{Run};
-ghost use Rattle.file_tables.specs.Files.{place_at, places_of, spec_of, entry_of};
+ghost use Rattle.file_tables.specs.Files.{place_at, places_of, spec_of, entry_of, entries_of};
 ghost use Rattle.code_image.specs.Demands.{IsVerified};
 ghost use Rattle.machine.specs.Prefix.{Moment};
 ghost use Rattle.machine.specs.Ends.{EndsAs};
@@ -113,6 +113,8 @@ fn perform<D: Device, F: FileVerbs>(
         Turns F.Keeps D.Device result (makes_file verb) one.now.name files
         (meaning.step_by (F.entries verbs.old) (places_of tables.now file.number one.now) verb files (F.connectors verbs.old) areas.old).files
         verbs.old device.old verbs.new device.new }
+    ensures full { (files : Files) → StandsFor F.Keeps D.Device verbs.old device.old files → result ≡ Err StoreFault.Full →
+        has_changed verb (meaning.step_by (F.entries verbs.old) (places_of tables.now file.number one.now) verb files (F.connectors verbs.old) areas.old).status ≡ true }
 {
     let old = relative_number(areas, tables, one.relative_key);
     let mut number = old;
@@ -191,7 +193,7 @@ pub(crate) fn file_statement<S: Station, F: FileVerbs>(
         OnOk result ((after : Files) × StandsFor F.Keeps S.Device verbs.new station.new after × Running code.now day run before after (F.connectors verbs.new) (address + 1) left registers.new (S.state station.new)) }
     ensures over { (day : List ℕ) (run : Run) (before : State) (left : ℕ) (files : Files) → StandsFor F.Keeps S.Device verbs.old station.old files →
         Running code.now day run before files (F.connectors verbs.old) address left registers.old (S.state station.old) →
-        IfErr result (λ ended. EndsAs F.holds run before ended (S.state station.new)) }
+        IfErr result (λ ended. EndsAs F.holds F.lacks_room (entries_of code.now.tables code.now.files) run before ended (S.state station.new)) }
 {
     let one = &code.files.as_slice()[file.number as usize];
     let areas = &mut registers.scratch.areas;

@@ -8,7 +8,7 @@ use Rattle.run_time_data.specs.Data.{scratch_of}
 use Rattle.records.specs.Connector.{Entry, Connector}
 use Rattle.source_tree.specs.FileStatements.{step_by}
 use Rattle.file_tables.specs.Files.{entries_of, places_of}
-use Rattle.records.specs.FileStep.{entry_at}
+use Rattle.records.specs.FileStep.{entry_at, makes_file}
 use Rattle.code_image.specs.declared.instruction.Instruction.TheVariants as instruction
 use Rattle.machine.proofs.Standing.{stands_behind_stored}
 use Rattle.machine.proofs.Placed.{on_ok, on_ok_from, at_file, entry_here, entries_many, finds_places}
@@ -163,7 +163,12 @@ returns-in-Err-clause-over g c = λ day run before left files stands so_far.
     let turns = c.in-Err.ensures.turns files stands in
     let console = c.in-Err.ensures.changes.only.console stands.honest in
     refused_by code day run before files connectors c.args.address left r (g.S.Device.state c.args.station.now) so_far c.args.file c.args.verb one c.requires.here w.there did is
-    g.F.Keeps.holds (g.S.Device.state c.perform-performed.new.device) c.refusal_of.result c.in-Err.fault c.refusal_of.ensures
+    g.F.Keeps.holds g.F.Keeps.lacks_room (g.S.Device.state c.perform-performed.new.device) c.refusal_of.result c.in-Err.fault c.refusal_of.ensures
     (λ damaged. turns.sound (ap Err damaged))
     (step_looks entries (places_of code.tables c.args.file.number one) c.args.verb files connectors r.scratch.areas c.in-Err.ensures.asks)
     console.events console.lines
+    (λ full. record {
+      changes = c.in-Err.ensures.full files stands (ap Err full);
+      room = subst (λ (u : State). g.F.Keeps.lacks_room u.disk.present (makes_file c.args.verb) one.name files did.files)
+          (sym (c.in-Err.ensures.changes.unwritten (ap Err full) stands.honest)) (turns.room (ap Err full));
+    })

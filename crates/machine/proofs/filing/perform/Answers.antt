@@ -2,7 +2,7 @@ use Rattle.std.proofs.Common.{◌≡◌, ◌∙◌, List, ℕ, length, sym, ap, 
 use Rattle.std.specs.Prelude.{slice_set}
 use Rattle.records.specs.declared.status.Status.{Status}
 use Rattle.records.specs.Steps.{Step}
-use Rattle.records.specs.FileStep.{makes_file, area, entry_at, IsStep, Suits}
+use Rattle.records.specs.FileStep.{makes_file, has_changed, area, entry_at, IsStep, Suits}
 use Rattle.records.specs.Spec.{is_spec}
 use Rattle.records.specs.Connector.{Entry, Connector}
 use Rattle.records.specs.Calls.{Turns}
@@ -105,3 +105,12 @@ returns-in-Ok-clause-turns g c = λ files stands.
     c.perform-performed.new.self c.perform-performed.new.device) (ap (λ (e : Entry). e.name) c.requires.entry)
     (subst (λ (s : Step). Turns g.F.Keeps g.D.Device {T = Status} (Ok c.in-Ok.status) (makes_file c.args.verb) (entry_at entries c.args.file.number).name files s.files c.args.verbs.now c.args.device.now
     c.perform-performed.new.self c.perform-performed.new.device) is (c.in-Ok.ensures.turns files stands))
+
+pub returns-in-Err-clause-full : goal.returns-in-Err-clause-full
+returns-in-Err-clause-full g c = λ files stands full.
+    let entries : List Entry = g.F.FileVerbs.entries c.args.verbs.now in
+    let connectors : List Connector = g.F.FileVerbs.connectors c.args.verbs.now in
+    let places : FilePlaces = places_of c.args.tables.now c.args.file.number c.args.one.now in
+    let is = step_of entries places c.args.verb files connectors c.args.areas.now c.as_mut_slice.result.now c.relative_number-old.result
+    (c.as_mut_slice.ensures.value ∙ c.exchange.ensures.bytes) c.relative_number-old.ensures in
+    sym (ap (λ (s : Step). has_changed c.args.verb s.status) is) ∙ c.in-Err.ensures.full files stands full
