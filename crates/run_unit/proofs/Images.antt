@@ -9,7 +9,8 @@ use Rattle.source_tree.specs.Meaning.{meaning}
 use Rattle.code_image.specs.Demands.{IsVerified, Refuses}
 use Rattle.image_tables.specs.declared.fault.ImageFault.{ImageFault}
 use Rattle.image_tables.specs.declared.fault.ImageFault.TheVariants as in_image
-use Rattle.run_unit.specs.Ends.{ForImage, IsEndOfImage}
+use Rattle.run_unit.specs.Ends.{ForImage, IsCauseOf, IsEndOfImage}
+use Rattle.run_unit.specs.declared.ended.Refusal.{Refusal}
 use Rattle.run_unit.specs.declared.ended.Refusal.TheVariants.{Image, Device, Full, Damaged, Memory}
 use Rattle.run_unit.specs.declared.ended.Ended.{Ended}
 use Rattle.run_unit.specs.declared.ended.Ended.TheVariants.{Stopped, Budget, Faulted, Refused}
@@ -71,3 +72,11 @@ made tree code (Err e) ends files verified bytes spelt = tt
 pub none_too : {A B : Type 0} (xs : List A) (ys : List B) → length xs ≡ length ys → ys ≡ [] → xs ≡ []
 none_too [] ys same none = refl
 none_too (x ∷ xs) ys same none = let zero : length ys ≡ 0 = ap length none in absurd (omega arith)
+
+-- bytes are never refused for damage
+pub no_damage : (refusal : Refusal) (image : List ℕ) → IsCauseOf refusal image → Refused refusal ≡ Refused Damaged → ⊥
+no_damage (Image fault) image cause is = cc
+no_damage Device image cause is = cause
+no_damage Full image cause is = cause
+no_damage Damaged image cause is = cause
+no_damage Memory image cause is = cc

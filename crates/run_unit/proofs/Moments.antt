@@ -1,11 +1,13 @@
 -- Moments and ends of a run, over connectors and over the store below them, and without files.
-use Rattle.std.proofs.Common.{◌≡◌, ◌∙◌, ◌⊎◌, ℕ, suc, ◌+◌, List, [], ◌++◌, refl, sym, subst, ap, arith, inl, inr}
+use Rattle.std.proofs.Common.{◌≡◌, ◌∙◌, ◌⊎◌, Bool, ℕ, suc, ◌+◌, List, [], ◌++◌, refl, sym, subst, ap, arith, inl, inr}
 use Rattle.std.proofs.lemmas.List.{append-nil}
 use Rattle.station.specs.Disk.{Sector}
 use Rattle.station.specs.State.{State, Event}
 use Rattle.station.specs.History.{Through, EachImage}
 use Rattle.station.proofs.Spans.{stays, weakens}
 use Rattle.records.specs.Files.{Files}
+use Rattle.records.specs.Connector.{Entry}
+use Rattle.records.specs.FileStep.{entry_at, makes_file}
 use Rattle.source_tree.specs.State as end
 use Rattle.source_tree.specs.State.{End}
 use Rattle.source_tree.specs.Given.{Given, given_on, given_over}
@@ -21,7 +23,7 @@ use Rattle.machine.specs.declared.ended.Ended.{Ended as MachineEnded}
 use Rattle.machine.specs.declared.ended.Ended.TheVariants as machine
 use Rattle.machine.specs.declared.ended.Refusal.TheVariants as refused
 use Rattle.machine.specs.Prefix.{files_at, last_files, NoteComes, HoldsSoFar, TakesLines, Moment}
-use Rattle.machine.specs.Ends.{code_of, day_of, Finished, EndsAs, IsOwnEnd}
+use Rattle.machine.specs.Ends.{code_of, day_of, Finished, LacksRoom, EndsAs, IsOwnEnd}
 use Rattle.machine.proofs.Moments.{nothing_taken}
 use Rattle.machine.proofs.Beginnings.{tells_more, files_here}
 use Rattle.run_unit.specs.Alone.{Alone, FinishedAlone, EndsAlone, RunsAlone}
@@ -55,6 +57,25 @@ runs_as machine code day files s budget run same_code same_day runs =
     subst (λ (c : Code). Runs c (given_over files s (day_of machine) budget) run) (sym same_code)
     (subst (λ (d : List ℕ). Runs code (given_over files s d budget) run) (sym same_day) runs)
 
+-- where an image lacks room by one sense, it does by another
+pub room_under : (lacks lacks' : List Sector → Bool → List ℕ → Files → Files → Type 0)
+    → ((image : List Sector) (is_new : Bool) (name : List ℕ) (before after : Files) → lacks image is_new name before after → lacks' image is_new name before after)
+    → (entries : List Entry) (run : Run) (old now : State) → LacksRoom lacks entries run old now → LacksRoom lacks' entries run old now
+room_under lacks lacks' under entries run old now is = record {
+  given_up = is.given_up;
+  verb = is.verb;
+  connectors = is.connectors;
+  area = is.area;
+  before = is.before;
+  step = is.step;
+  before_is = is.before_is;
+  step_is = is.step_is;
+  after_is = is.after_is;
+  status_is = is.status_is;
+  changes = is.changes;
+  room = under now.disk.present (makes_file is.verb) (entry_at entries is.given_up.file).name is.before is.step.files is.room;
+}
+
 -- ---- where what an image holds by one sense, it holds by another
 
 module _ (here below : List Sector → Files → Type 0) (under : (image : List Sector) (files : Files) → here image files → below image files)
@@ -80,33 +101,39 @@ module _ (here below : List Sector → Files → Type 0) (under : (image : List 
     disk = is.disk;
   }
 
-  ends_below : (ended : MachineEnded) (now : State) → EndsAs here run old ended now → EndsOver below run old (ended_of ended) now
-  ends_below machine.Stopped now ends = finished_below end.Stopped now ends
-  ends_below machine.Budget now ends = finished_below end.Budget now ends
-  ends_below (machine.Faulted fault line) now ends = finished_below (end.Faulted (fault_of fault) line) now ends
-  ends_below (machine.Refused refused.Device) now ends = ends
-  ends_below (machine.Refused refused.Full) now ends = ends
-  ends_below (machine.Refused refused.Damaged) now ends = ends
-  ends_below (machine.Refused refused.Memory) now ends = inl ends
+  -- and where it lacks room by the one sense, it does by the other
+  module _ (lacks lacks' : List Sector → Bool → List ℕ → Files → Files → Type 0)
+      (under_room : (image : List Sector) (is_new : Bool) (name : List ℕ) (before after : Files) → lacks image is_new name before after → lacks' image is_new name before after)
+      (entries entries' : List Entry) (same : entries ≡ entries') where
+    ends_below : (ended : MachineEnded) (now : State) → EndsAs here lacks entries run old ended now → EndsOver below (LacksRoom lacks' entries') run old (ended_of ended) now
+    ends_below machine.Stopped now ends = finished_below end.Stopped now ends
+    ends_below machine.Budget now ends = finished_below end.Budget now ends
+    ends_below (machine.Faulted fault line) now ends = finished_below (end.Faulted (fault_of fault) line) now ends
+    ends_below (machine.Refused refused.Device) now ends = ends
+    ends_below (machine.Refused refused.Full) now ends =
+        subst (λ (es : List Entry). LacksRoom lacks' es run old now) same (room_under lacks lacks' under_room entries run old now ends)
+    ends_below (machine.Refused refused.Damaged) now ends = ends
+    ends_below (machine.Refused refused.Memory) now ends = inl ends
 
-  -- a machine ran
-  pub ran_over : (past later : List State) (new : State) (ended : MachineEnded) → Moment below run old old
-      → Through past later new (Moment here run old) → EndsAs here run old ended new → RunsOver below run past old (ended_of ended) later new
-  ran_over past later new ended first moments ends = record {
-    first = first;
-    moments = weakens past later new (Moment here run old) (Moment below run old) moment_below moments;
-    ends = ends_below ended new ends;
-  }
+    -- a machine ran
+    pub ran_over : (past later : List State) (new : State) (ended : MachineEnded) → Moment below run old old
+        → Through past later new (Moment here run old) → EndsAs here lacks entries run old ended new
+        → RunsOver below (LacksRoom lacks' entries') run past old (ended_of ended) later new
+    ran_over past later new ended first moments ends = record {
+      first = first;
+      moments = weakens past later new (Moment here run old) (Moment below run old) moment_below moments;
+      ends = ends_below ended new ends;
+    }
 
 -- memory ran out before the run
-pub never_ran : (holds : List Sector → Files → Type 0) (run : Run) (past : List State) (old : State)
-    → Moment holds run old old → RunsOver holds run past old (Refused Memory) past old
-never_ran holds run past old first = record { first = first; moments = stays past old (Moment holds run old) first; ends = inr refl }
+pub never_ran : (holds : List Sector → Files → Type 0) (no_room : Run → State → State → Type 0) (run : Run) (past : List State) (old : State)
+    → Moment holds run old old → RunsOver holds no_room run past old (Refused Memory) past old
+never_ran holds no_room run past old first = record { first = first; moments = stays past old (Moment holds run old) first; ends = inr refl }
 
 -- files that are there aren't found damaged
-pub no_damage_over : (holds : List Sector → Files → Type 0) (run : Run) (old : State) (ended : Ended) (now : State)
-    → EndsOver holds run old ended now → ended ≡ Refused Damaged → ⊥
-no_damage_over holds run old ended now ends is = subst (λ (e : Ended). EndsOver holds run old e now) is ends
+pub no_damage_over : (holds : List Sector → Files → Type 0) (no_room : Run → State → State → Type 0) (run : Run) (old : State) (ended : Ended) (now : State)
+    → EndsOver holds no_room run old ended now → ended ≡ Refused Damaged → ⊥
+no_damage_over holds no_room run old ended now ends is = subst (λ (e : Ended). EndsOver holds no_room run old e now) is ends
 
 -- ---- runs without files
 
@@ -124,7 +151,7 @@ lines_taken : (all seen rest : List Event) (old now : State) → note_count all 
 lines_taken all seen rest old now none is (inl takes) = takes
 lines_taken all seen rest old now none is (inr comes) = absurd (no_note seen rest (sym (ap note_count is) ∙ none) comes)
 
-module _ (holds : List Sector → Files → Type 0) (run : Run) (old : State) (none : note_count run.events ≡ 0) where
+module _ (holds : List Sector → Files → Type 0) (lacks : List Sector → Bool → List ℕ → Files → Files → Type 0) (entries : List Entry) (run : Run) (old : State) (none : note_count run.events ≡ 0) where
   alone_of : (now : State) → Moment holds run old now → Alone run old now
   alone_of now moment = record {
     told = moment.told;
@@ -135,7 +162,7 @@ module _ (holds : List Sector → Files → Type 0) (run : Run) (old : State) (n
   finished_alone : (how : End) (now : State) → Finished holds run how old now → FinishedAlone run how old now
   finished_alone how now is = record { end = is.end; told = is.told; lines = is.lines; disk = is.disk none }
 
-  ends_alone : (ended : MachineEnded) (now : State) → IsOwnEnd ended → EndsAs holds run old ended now → EndsAlone run old (ended_of ended) now
+  ends_alone : (ended : MachineEnded) (now : State) → IsOwnEnd ended → EndsAs holds lacks entries run old ended now → EndsAlone run old (ended_of ended) now
   ends_alone machine.Stopped now own ends = finished_alone end.Stopped now ends
   ends_alone machine.Budget now own ends = finished_alone end.Budget now ends
   ends_alone (machine.Faulted fault line) now own ends = finished_alone (end.Faulted (fault_of fault) line) now ends
@@ -146,7 +173,7 @@ module _ (holds : List Sector → Files → Type 0) (run : Run) (old : State) (n
 
   -- a machine ran
   pub ran_alone : (past later : List State) (new : State) (ended : MachineEnded) → IsOwnEnd ended
-      → Through past later new (Moment holds run old) → EndsAs holds run old ended new → RunsAlone run past old (ended_of ended) later new
+      → Through past later new (Moment holds run old) → EndsAs holds lacks entries run old ended new → RunsAlone run past old (ended_of ended) later new
   ran_alone past later new ended own moments ends = record {
     moments = weakens past later new (Moment holds run old) (Alone run old) alone_of moments;
     ends = ends_alone ended new own ends;

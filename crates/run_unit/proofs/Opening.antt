@@ -1,11 +1,12 @@
 -- A volume that is opened, and a run over its files.
-use Rattle.std.proofs.Common.{◌≡◌, ◌∙◌, ◌⊎◌, ℕ, List, sym, subst, ap, inl, inr}
+use Rattle.std.proofs.Common.{◌≡◌, ◌∙◌, ◌⊎◌, Bool, ℕ, List, sym, subst, ap, inl, inr}
 use Rattle.station.specs.Disk.{Sector}
 use Rattle.station.specs.State.{State, synced}
 use Rattle.station.specs.History.{Through}
 use Rattle.station.specs.Opening.{Opening}
 use Rattle.station.proofs.Spans.{goes, weakens, then, weaker}
 use Rattle.records.specs.Files.{Files}
+use Rattle.records.specs.Connector.{Entry}
 use Rattle.records.specs.declared.fault.StoreFault.{StoreFault}
 use Rattle.records.specs.declared.fault.StoreFault.TheVariants as store
 use Rattle.source_tree.specs.Given.{given_over}
@@ -15,8 +16,10 @@ use Rattle.run_unit.specs.Ends.{of_opening}
 use Rattle.source_tree.specs.State as end
 use Rattle.data_instructions.specs.Faults.{fault_of}
 use Rattle.machine.specs.Prefix.{Moment}
+use Rattle.machine.specs.Ends.{LacksRoom}
 use Rattle.half_store.specs.Half.{Holds as HoldsHalf}
-use Rattle.run_unit.specs.Volume.{EndsOver, IsUnopened, IsUnwritten, RunsOver}
+use Rattle.alternate_keys.specs.Stands.{LacksRoom as LacksTrees}
+use Rattle.run_unit.specs.Volume.{EndsOver, IsUnopened, IsUnwritten, RunsOver, lacks_half}
 use Rattle.run_unit.specs.Volume.{RunsOnVolume, Unopened, Opened, RunsOnHalves, NotOpened, HeldFiles}
 use Rattle.run_unit.specs.declared.ended.Refusal.{Refusal}
 use Rattle.run_unit.specs.declared.ended.Refusal.TheVariants.{Image, Device, Full, Damaged, Memory}
@@ -55,11 +58,11 @@ unfolding given_over
 given_after files old mid day budget is = sym (ap (λ (s : State). given_over files s day budget) is)
 
 -- the run over what was opened
-pub ran_on : (holds : List Sector → Files → Type 0) (run : Run) (past opened later : List State) (old mid new : State) (ended : Ended)
-    → Through past opened mid (Opening old) → mid ≡ synced old → RunsOver holds run opened mid ended later new
-    → RunsOnVolume holds run past old ended later new
-ran_on holds run past opened later old mid new ended opening is runs =
-    Opened opened opening.spans (subst (λ (s : State). RunsOver holds run opened s ended later new) is runs)
+pub ran_on : (holds : List Sector → Files → Type 0) (no_room : Run → State → State → Type 0) (run : Run) (past opened later : List State) (old mid new : State) (ended : Ended)
+    → Through past opened mid (Opening old) → mid ≡ synced old → RunsOver holds no_room run opened mid ended later new
+    → RunsOnVolume holds no_room run past old ended later new
+ran_on holds no_room run past opened later old mid new ended opening is runs =
+    Opened opened opening.spans (subst (λ (s : State). RunsOver holds no_room run opened s ended later new) is runs)
 
 -- ---- a volume that another store has looked at
 
@@ -84,50 +87,54 @@ given_later files old mid day budget (inr is) = given_after files old mid day bu
 opening_then : (old mid : State) → Opening old mid → (s : State) → Opening mid s → Opening old s
 opening_then old mid first s second = record { events = second.events ∙ first.events; images = λ image crash. first.images image (second.images image crash) }
 
-pub on_volume_then : (holds : List Sector → Files → Type 0) (run : Run) (past looked later : List State) (old mid new : State) (ended : Ended)
-    → Through past looked mid (Opening old) → IsUnwritten old mid → RunsOnVolume holds run looked mid ended later new
-    → RunsOnVolume holds run past old ended later new
-on_volume_then holds run past looked later old mid new ended first is (Unopened why through same) =
+pub on_volume_then : (holds : List Sector → Files → Type 0) (no_room : Run → State → State → Type 0) (run : Run) (past looked later : List State) (old mid new : State) (ended : Ended)
+    → Through past looked mid (Opening old) → IsUnwritten old mid → RunsOnVolume holds no_room run looked mid ended later new
+    → RunsOnVolume holds no_room run past old ended later new
+on_volume_then holds no_room run past looked later old mid new ended first is (Unopened why through same) =
     Unopened why (goes past looked later mid new (Opening old) first
     (weakens looked later new (Opening mid) (Opening old) (opening_then old mid first.now) through))
     (unwritten_then old mid new is same)
-on_volume_then holds run past looked later old mid new ended first is (Opened opened spans runs) =
+on_volume_then holds no_room run past looked later old mid new ended first is (Opened opened spans runs) =
     Opened opened (then past looked opened (Opening old) first.spans (weaker looked opened (Opening mid) (Opening old) (opening_then old mid first.now) spans))
-    (subst (λ (s : State). RunsOver holds run opened s ended later new) (synced_after old mid is) runs)
+    (subst (λ (s : State). RunsOver holds no_room run opened s ended later new) (synced_after old mid is) runs)
 
-pub on_halves_then : (run : Files → Run) (past looked later : List State) (old mid new : State) (ended : Ended)
-    → Through past looked mid (Opening old) → IsUnwritten old mid → RunsOnHalves run looked mid ended later new
-    → RunsOnHalves run past old ended later new
-on_halves_then run past looked later old mid new ended first is (NotOpened why through same) =
+pub on_halves_then : (entries : List Entry) (run : Files → Run) (past looked later : List State) (old mid new : State) (ended : Ended)
+    → Through past looked mid (Opening old) → IsUnwritten old mid → RunsOnHalves entries run looked mid ended later new
+    → RunsOnHalves entries run past old ended later new
+on_halves_then entries run past looked later old mid new ended first is (NotOpened why through same) =
     NotOpened why (goes past looked later mid new (Opening old) first
     (weakens looked later new (Opening mid) (Opening old) (opening_then old mid first.now) through))
     (unwritten_then old mid new is same)
-on_halves_then run past looked later old mid new ended first is (HeldFiles files held runs) =
+on_halves_then entries run past looked later old mid new ended first is (HeldFiles files held runs) =
     HeldFiles files (subst (λ (image : List Sector). HoldsHalf image files) (present_after old mid is) held)
-    (on_volume_then HoldsHalf (run files) past looked later old mid new ended first is runs)
+    (on_volume_then HoldsHalf (LacksRoom lacks_half entries) (run files) past looked later old mid new ended first is runs)
 
 -- ---- where what an image holds by one store, it holds by either
 
+-- the volume in an image lacks room, in trees
+abbrev pub lacks_trees : List Sector → Bool → List ℕ → Files → Files → Type 0
+lacks_trees image is_new name before after = LacksTrees image is_new name after
+
 module _ (here either : List Sector → Files → Type 0) (also : (image : List Sector) (files : Files) → here image files → either image files)
-    (run : Run) where
-  ends_either : (old : State) (ended : Ended) (now : State) → EndsOver here run old ended now → EndsOver either run old ended now
+    (run : Run) (no_room none_either : Run → State → State → Type 0) (also_none : (old now : State) → no_room run old now → none_either run old now) where
+  ends_either : (old : State) (ended : Ended) (now : State) → EndsOver here no_room run old ended now → EndsOver either none_either run old ended now
   ends_either old Stopped now ends = finished_below here either also run old end.Stopped now ends
   ends_either old Budget now ends = finished_below here either also run old end.Budget now ends
   ends_either old (Faulted fault line) now ends = finished_below here either also run old (end.Faulted (fault_of fault) line) now ends
   ends_either old (Refused (Image fault)) now ends = ends
   ends_either old (Refused Device) now ends = ends
-  ends_either old (Refused Full) now ends = ends
+  ends_either old (Refused Full) now ends = also_none old now ends
   ends_either old (Refused Damaged) now ends = ends
   ends_either old (Refused Memory) now ends = ends
 
-  over_either : (past : List State) (old : State) (ended : Ended) (later : List State) (new : State) → RunsOver here run past old ended later new → RunsOver either run past old ended later new
+  over_either : (past : List State) (old : State) (ended : Ended) (later : List State) (new : State) → RunsOver here no_room run past old ended later new → RunsOver either none_either run past old ended later new
   over_either past old ended later new runs = record {
     first = moment_below here either also run old old runs.first;
     moments = weakens past later new (Moment here run old) (Moment either run old) (moment_below here either also run old) runs.moments;
     ends = ends_either old ended new runs.ends;
   }
 
-  pub on_either : (past : List State) (old : State) (ended : Ended) (later : List State) (new : State) → RunsOnVolume here run past old ended later new → RunsOnVolume either run past old ended later new
+  pub on_either : (past : List State) (old : State) (ended : Ended) (later : List State) (new : State) → RunsOnVolume here no_room run past old ended later new → RunsOnVolume either none_either run past old ended later new
   on_either past old ended later new (Unopened why through same) = Unopened why through same
   on_either past old ended later new (Opened opened spans runs) = Opened opened spans (over_either opened (synced old) ended later new runs)
 

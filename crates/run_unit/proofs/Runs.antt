@@ -1,17 +1,20 @@
 -- What a call promises of the program that it runs: of an image, and of a source text.
 use Rattle.std.proofs.Common.{◌≡◌, ℕ, List, [], ◌∷◌, length, refl, sym, subst, ap, arith}
 use Rattle.records.specs.Files.{Files}
+use Rattle.records.specs.Connector.{Entry}
 use Rattle.file_recovery.specs.Recovered.{HoldsFiles}
 use Rattle.source_tree.specs.declared.program.Program.{Program}
 use Rattle.source_tree.specs.Given.{Given}
 use Rattle.source_tree.specs.Meaning.{Run, meaning}
 use Rattle.code_image.specs.declared.code.Code.{Code}
+use Rattle.file_tables.specs.Files.{entries_of}
 use Rattle.code_image.specs.Table.{Runs}
+use Rattle.machine.specs.Ends.{LacksRoom}
 use Rattle.run_unit.specs.Trees.{IsTreeOf}
 use Rattle.run_unit.specs.Images.{MeansAs, IsCompiled}
 use Rattle.run_unit.specs.Alone.{RunsAlone}
 use Rattle.run_unit.specs.Ends.{ForImage, IsEndOfImage}
-use Rattle.run_unit.specs.Volume.{RunsOnVolume, RunsOnHalves, IsOfHalves}
+use Rattle.run_unit.specs.Volume.{RunsOnVolume, RunsOnHalves, IsOfHalves, lacks_either}
 use Rattle.run_unit.specs.Runs.{Call, given_alone, given_files, RunsAsMeant, ImageRuns, TextRuns}
 use Rattle.run_unit.specs.declared.ended.Refusal.TheVariants.{Damaged}
 use Rattle.run_unit.specs.declared.ended.Ended.{Ended}
@@ -44,17 +47,17 @@ module _ (code loaded : Code) (same : loaded ≡ code) (means : Given → Run)
   abbrev pub DidOnVolume : Type 0
   DidOnVolume = (files : Files) → HoldsFiles call.old.disk.present files
       → (run : Run) → Runs loaded (given_files call files) run
-      → RunsOnVolume HoldsFiles run call.past call.old call.ended call.later call.new
+      → RunsOnVolume HoldsFiles (LacksRoom lacks_either (entries_of loaded.tables loaded.files)) run call.past call.old call.ended call.later call.new
 
   -- and over one of halves
   abbrev pub DidOnHalves : Type 0
   DidOnHalves = IsOfHalves call.old.disk.present
       → (run : Files → Run) → ((files : Files) → Runs loaded (given_files call files) (run files))
-      → RunsOnHalves run call.past call.old call.ended call.later call.new
+      → RunsOnHalves (entries_of loaded.tables loaded.files) run call.past call.old call.ended call.later call.new
 
   -- the code has no files
   pub runs_alone : loaded.files ≡ [] → DidAlone → (call.ended ≡ Refused Damaged → ⊥)
-      → RunsAsMeant means (length code.files) call
+      → RunsAsMeant (entries_of code.tables code.files) means (length code.files) call
   runs_alone none alone sound =
       let zero = no_length code (subst (λ (c : Code). c.files ≡ []) same none) in
       record {
@@ -67,13 +70,15 @@ module _ (code loaded : Code) (same : loaded ≡ code) (means : Given → Run)
   -- it has some
   pub runs_files : (loaded.files ≡ [] → ⊥) → DidOnVolume → DidOnHalves
       → ((files : Files) → HoldsFiles call.old.disk.present files → call.ended ≡ Refused Damaged → ⊥)
-      → RunsAsMeant means (length code.files) call
+      → RunsAsMeant (entries_of code.tables code.files) means (length code.files) call
   runs_files some volume halves sound = record {
     alone = λ zero. absurd (some (subst (λ (c : Code). c.files ≡ []) (sym same) (no_files code zero)));
     volume = λ with files held.
-        volume files held (means (given_files call files)) (runs_loaded (given_files call files));
-    halves = λ with of_halves. halves of_halves
-        (λ files. means (given_files call files)) (λ files. runs_loaded (given_files call files));
+        subst (λ (c : Code). RunsOnVolume HoldsFiles (LacksRoom lacks_either (entries_of c.tables c.files)) (means (given_files call files)) call.past call.old call.ended call.later call.new) same
+        (volume files held (means (given_files call files)) (runs_loaded (given_files call files)));
+    halves = λ with of_halves.
+        subst (λ (c : Code). RunsOnHalves (entries_of c.tables c.files) (λ files. means (given_files call files)) call.past call.old call.ended call.later call.new) same
+        (halves of_halves (λ files. means (given_files call files)) (λ files. runs_loaded (given_files call files)));
     sound = sound;
   }
 
@@ -94,5 +99,7 @@ module _ (source image : List ℕ) (compiled : IsCompiled source image) where
   pub compiled_runs : OneTreeOfText → (call : Call) → ImageRuns image call → TextRuns source call
   compiled_runs one call runs tree is =
       let has = compiled_tree one tree is in
-      subst (λ (count : ℕ). RunsAsMeant (meaning tree) count call) has.files
-      (runs has.code has.is (meaning tree) has.runs)
+      let entries : List Entry = entries_of has.code.tables has.code.files in (
+        entries,
+        subst (λ (count : ℕ). RunsAsMeant entries (meaning tree) count call) has.files (runs has.code has.is (meaning tree) has.runs),
+      )

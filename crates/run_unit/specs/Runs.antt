@@ -3,16 +3,19 @@ use Rattle.std.specs.Prelude.{◌≡◌, ◌≢◌, ℕ, List, length}
 use Rattle.station.specs.State.{State}
 use Rattle.station.specs.declared.device.Device.{Ghosts as Devices}
 use Rattle.records.specs.Files.{Files}
+use Rattle.records.specs.Connector.{Entry}
 use Rattle.file_recovery.specs.Recovered.{HoldsFiles}
 use Rattle.source_tree.specs.declared.program.Program.{Program}
 use Rattle.source_tree.specs.Given.{Given, given_on, given_over}
 use Rattle.source_tree.specs.Meaning.{Run, meaning}
 use Rattle.code_image.specs.declared.code.Code.{Code}
+use Rattle.file_tables.specs.Files.{entries_of}
 use Rattle.code_image.specs.Table.{Runs}
+use Rattle.machine.specs.Ends.{LacksRoom}
 use Rattle.run_unit.specs.Trees.{IsTreeOf}
 use Rattle.run_unit.specs.Images.{IsImageOf}
 use Rattle.run_unit.specs.Alone.{RunsAlone}
-use Rattle.run_unit.specs.Volume.{RunsOnVolume, RunsOnHalves, IsOfHalves}
+use Rattle.run_unit.specs.Volume.{RunsOnVolume, RunsOnHalves, IsOfHalves, lacks_either}
 use Rattle.run_unit.specs.declared.ended.Refusal.TheVariants.{Damaged}
 use Rattle.run_unit.specs.declared.ended.Ended.{Ended}
 use Rattle.run_unit.specs.declared.ended.Ended.TheVariants.{Refused}
@@ -49,21 +52,23 @@ given_alone call = given_on call.old call.day call.budget
 abbrev pub given_files : Call → Files → Given
 given_files call files = given_over files call.old call.day call.budget
 
--- The call runs a program of so many files, of which this is the run for whatever it is given.
-pub record RunsAsMeant (means : Given → Run) (count : ℕ) (call : Call) : Type 0 where
+-- The call runs a program of so many files, these entries, of which this is the run for whatever it is given.
+pub record RunsAsMeant (entries : List Entry) (means : Given → Run) (count : ℕ) (call : Call) : Type 0 where
   -- Without files: at each moment the events so far are a beginning of the run's, the console's first lines were taken,
   -- and no sector was written. After the program's own end they are all of the run's events, and the end is the run's.
   pub alone : count ≡ 0 → RunsAlone (means (given_alone call)) call.past call.old call.ended call.later call.new
   -- With files, over a volume that holds files: from its opening on, at each moment the events so far are a beginning of
   -- the run's with these files, and whatever a crash leaves holds the files after the statuses that were received, or
   -- after one more, which is in progress. After the program's own end they are all of the run's events, the end is the
-  -- run's, and the files are its last. If the volume isn't opened, no sector is written.
+  -- run's, and the files are its last. If the volume isn't opened, no sector is written. If it ends as 81, it does so in a
+  -- statement that would change files, and the volume as it is lacks room for that: too few of its sectors are free, the
+  -- files would be more than 255, or no generation is left.
   pub volume : count ≢ 0 → (files : Files) → HoldsFiles call.old.disk.present files
-      → RunsOnVolume HoldsFiles (means (given_files call files)) call.past call.old call.ended call.later call.new
+      → RunsOnVolume HoldsFiles (LacksRoom lacks_either entries) (means (given_files call files)) call.past call.old call.ended call.later call.new
   -- With files, over a volume of halves, of which nothing else is presumed. It is read whole when it is opened: either it
   -- isn't opened, and no sector is written, or it held files, and the run is the one with these.
   pub halves : count ≢ 0 → IsOfHalves call.old.disk.present
-      → RunsOnHalves (λ files. means (given_files call files)) call.past call.old call.ended call.later call.new
+      → RunsOnHalves entries (λ files. means (given_files call files)) call.past call.old call.ended call.later call.new
   -- 82 isn't reported of a volume that holds files.
   pub sound : (files : Files) → HoldsFiles call.old.disk.present files → call.ended ≢ Refused Damaged
 
@@ -71,8 +76,9 @@ pub record RunsAsMeant (means : Given → Run) (count : ℕ) (call : Call) : Typ
 abbrev pub ImageRuns : List ℕ → Call → Type 0
 ImageRuns image call = (code : Code) → IsImageOf image code
     → (means : Given → Run) → ((given : Given) → Runs code given (means given))
-    → RunsAsMeant means (length code.files) call
+    → RunsAsMeant (entries_of code.tables code.files) means (length code.files) call
 
--- The call runs a source text: what its tree means.
+-- The call runs a source text: what its tree means, on files as its image says them.
 abbrev pub TextRuns : List ℕ → Call → Type 0
-TextRuns source call = (tree : Program) → IsTreeOf source tree → RunsAsMeant (meaning tree) (length tree.selects) call
+TextRuns source call = (tree : Program) → IsTreeOf source tree
+    → (entries : List Entry) × RunsAsMeant entries (meaning tree) (length tree.selects) call

@@ -6,6 +6,7 @@ ghost use Rattle.machine.specs.Ends.{IsDigit};
 ghost use Rattle.run_unit.specs.Images.{IsImageOf, IsCompiled};
 ghost use Rattle.run_unit.specs.Ends.{HasCause, ForImage, IfUnbegun, IsEndOfImage};
 ghost use Rattle.run_unit.specs.Runs.{TextRuns, call_on};
+ghost use Rattle.run_unit.specs.Volume.{IsDamageFound};
 
 use crate::ended::{Ended, Refusal};
 use crate::image::run_image;
@@ -32,6 +33,10 @@ pub fn run_volume<S: Station>(
     ensures unbegun { IfUnbegun result (station.new ≡ station.old) }
     ensures memory { (code : Code) → IsImageOf image.now code → code.files ≡ [] →
         result ≡ Ended.Refused Refusal.Memory → station.new ≡ station.old }
+    // 82 tells that the volume can't be opened, and then nothing was shown or written, or that its roots and map sectors are sound, and a
+    // file statement met damage.
+    ensures unwritten { S.is_honest station.old → result ≡ Ended.Refused Refusal.Damaged →
+        IsDamageFound (S.state station.old) (S.state station.new) }
     // Bytes that `compile` made of a source text are never refused by 70 to 74.
     ensures own { (source : List ℕ) → IsCompiled source image.now → IsEndOfImage result }
     // What the source text's tree means is run, without files or over the volume that there is.

@@ -6,6 +6,7 @@ ghost use Rattle.machine.specs.Ends.{IsDigit};
 ghost use Rattle.run_unit.specs.Images.{IsImageOf};
 ghost use Rattle.run_unit.specs.Ends.{HasCause, IsCauseOf, ForImage, IfUnbegun, IsLoaded};
 ghost use Rattle.run_unit.specs.Runs.{ImageRuns, call_on};
+ghost use Rattle.run_unit.specs.Volume.{IsDamageFound};
 
 use crate::ended::{Ended, Refusal};
 use crate::volume::{run_alone, run_on_volume};
@@ -45,6 +46,10 @@ pub fn run_image<S: Station>(
     ensures unbegun { IfUnbegun result (station.new ≡ station.old) }
     ensures memory { (code : Code) → IsImageOf image.now code → code.files ≡ [] →
         result ≡ Ended.Refused Refusal.Memory → station.new ≡ station.old }
+    // Whatever the volume holds: 82 tells that it can't be opened, and then nothing was shown or written, or that its roots and map
+    // sectors are sound, and a file statement met damage.
+    ensures unwritten { S.is_honest station.old → result ≡ Ended.Refused Refusal.Damaged →
+        IsDamageFound (S.state station.old) (S.state station.new) }
     // What the image's code does by the machine's table is run, without files or over the volume that there is.
     ensures runs { S.is_honest station.old →
         ImageRuns image.now (call_on S.Device result day budget station.old station.new) }

@@ -1,6 +1,6 @@
 //! Runs over a store of files.
 
-ghost use Rattle.std.specs.Prelude.{◌≡◌, ◌≢◌, ◌≤◌, ◌↔◌, false, ℕ, List, All, IfOk, IfErr};
+ghost use Rattle.std.specs.Prelude.{◌≡◌, ◌≢◌, ◌≤◌, ◌↔◌, Bool, false, ℕ, List, All, IfOk, IfErr};
 ghost use Rattle.station.specs.Disk.{Disk, Sector};
 ghost use Rattle.records.specs.Files.{Files};
 ghost use Rattle.records.specs.Calls.{StandsFor};
@@ -10,7 +10,7 @@ ghost use Rattle.source_tree.specs.Meaning.{Run};
 ghost use Rattle.code_image.specs.Demands.{IsVerified};
 ghost use Rattle.code_image.specs.Points.{all_closed};
 ghost use Rattle.code_image.specs.Table.{Runs};
-ghost use Rattle.machine.specs.Ends.{IsDigit};
+ghost use Rattle.machine.specs.Ends.{IsDigit, LacksRoom};
 ghost use Rattle.run_unit.specs.Ends.{HasCause, IsRun};
 ghost use Rattle.run_unit.specs.Volume.{RunsOver};
 ghost use Rattle.run_unit.specs.declared.ended.Refusal.TheVariants.{Memory};
@@ -41,6 +41,8 @@ pub(crate) fn connect<T: Store + Drop>(
         ⟦<Connectors<T> as Keeps>⟧.holds image files → T.holds image files }
     ensures stands { IfOk result (λ all. (disk : Disk) (files : Files) →
         T.stands store disk files → ⟦<Connectors<T> as Keeps>⟧.stands all disk files) }
+    ensures room { (image : List Sector) (is_new : Bool) (name : List ℕ) (before after : Files) →
+        ⟦<Connectors<T> as Keeps>⟧.lacks_room image is_new name before after → T.lacks_room image is_new name before after }
     ensures memory { IfErr result (λ refusal. refusal ≡ Memory) }
 {
     let mut connectors = Connectors::new(alloc, store);
@@ -74,10 +76,11 @@ pub fn run_over<S: Station, T: Store + Drop>(
     // The code isn't refused.
     ensures run { IsRun result }
     // At each moment the files are those after the statuses that were received, or after one more, which is in progress. After the
-    // program's own end they are the last, and the events are all of the run's.
+    // program's own end they are the last, and the events are all of the run's. 81 comes only in a statement that would change files, on
+    // a disk that lacks room for that.
     ensures runs { (files : Files) → StandsFor T.Keeps S.Device store station.old files →
         (run : Run) → Runs code (given_over files (S.state station.old) day budget) run →
-        RunsOver T.holds run (S.history station.old) (S.state station.old)
+        RunsOver T.holds (LacksRoom T.lacks_room (entries_of code.tables code.files)) run (S.history station.old) (S.state station.old)
         result (S.history station.new) (S.state station.new) }
     // 82 isn't reported of files that the store stands for.
     ensures sound { (files : Files) → StandsFor T.Keeps S.Device store station.old files →

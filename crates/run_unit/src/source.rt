@@ -7,6 +7,7 @@ ghost use Rattle.run_unit.specs.Faults.{fault_of};
 ghost use Rattle.run_unit.specs.Trees.{IsTreeOf, IsFaultOf};
 ghost use Rattle.run_unit.specs.Ends.{IsEndOfImage, ForSource};
 ghost use Rattle.run_unit.specs.Runs.{TextRuns, call_on};
+ghost use Rattle.run_unit.specs.Volume.{IsDamageFound};
 ghost use Rattle.run_unit.specs.declared.fault.CompileError.TheVariants.{Memory};
 
 use crate::compiling::compile;
@@ -37,6 +38,10 @@ pub fn run_source<S: Station>(
     ensures own { IfOk result IsEndOfImage }
     ensures memory { (tree : Program) → IsTreeOf source.now tree → tree.selects ≡ [] →
         result ≡ Ok (Ended.Refused Refusal.Memory) → station.new ≡ station.old }
+    // 82 tells that the volume can't be opened, and then nothing was shown or written, or that its roots and map sectors are sound, and a
+    // file statement met damage.
+    ensures unwritten { S.is_honest station.old → result ≡ Ok (Ended.Refused Refusal.Damaged) →
+        IsDamageFound (S.state station.old) (S.state station.new) }
     // A source text is run only if it has a tree. One with a tree is refused for want of memory alone.
     ensures accepted { IfOk result (λ _. (tree : Program) × IsTreeOf source.now tree) }
     ensures only { (tree : Program) → IsTreeOf source.now tree → IfErr result (λ e. e ≡ Memory) }

@@ -7,10 +7,11 @@ ghost use Rattle.records.specs.Files.{Files};
 ghost use Rattle.source_tree.specs.Given.{given_on, given_over};
 ghost use Rattle.source_tree.specs.Meaning.{Run};
 ghost use Rattle.code_image.specs.Table.{Runs};
-ghost use Rattle.machine.specs.Ends.{IsDigit};
+ghost use Rattle.file_tables.specs.Files.{entries_of};
+ghost use Rattle.machine.specs.Ends.{IsDigit, LacksRoom};
 ghost use Rattle.run_unit.specs.Alone.{RunsAlone};
 ghost use Rattle.run_unit.specs.Ends.{HasCause, IsRun};
-ghost use Rattle.run_unit.specs.Volume.{RunsOnVolume, RunsOnHalves, IsOfHalves};
+ghost use Rattle.run_unit.specs.Volume.{RunsOnVolume, RunsOnHalves, IsOfHalves, IsUnwritten, IsDamageFound, lacks_half, lacks_either};
 
 use crate::ended::{Ended, Refusal};
 use crate::no_volume::NoVolume;
@@ -73,15 +74,16 @@ fn run_on_halves<S: Station>(
     ensures volume { S.is_honest station.old →
         (files : Files) → HoldsHalf (S.state station.old).disk.present files →
         (run : Run) → Runs code (given_over files (S.state station.old) day budget) run →
-        RunsOnVolume HoldsHalf run (S.history station.old) (S.state station.old)
+        RunsOnVolume HoldsHalf (LacksRoom lacks_half (entries_of code.tables code.files)) run (S.history station.old) (S.state station.old)
         result (S.history station.new) (S.state station.new) }
     ensures halves { S.is_honest station.old → (run : Files → Run) →
         ((files : Files) → Runs code (given_over files (S.state station.old) day budget) (run files)) →
-        RunsOnHalves run (S.history station.old) (S.state station.old)
+        RunsOnHalves (entries_of code.tables code.files) run (S.history station.old) (S.state station.old)
         result (S.history station.new) (S.state station.new) }
     ensures sound { S.is_honest station.old →
         (files : Files) → HoldsHalf (S.state station.old).disk.present files →
         result ≢ Ended.Refused Refusal.Damaged }
+    ensures unwritten { S.is_honest station.old → result ≡ Ended.Refused Refusal.Damaged → IsUnwritten (S.state station.old) (S.state station.new) }
 {
     one_list_of_files();
     match HalfStore::open(alloc, station) {
@@ -106,16 +108,17 @@ pub(crate) fn run_on_volume<S: Station>(
     ensures volume { S.is_honest station.old →
         (files : Files) → HoldsFiles (S.state station.old).disk.present files →
         (run : Run) → Runs code (given_over files (S.state station.old) day budget) run →
-        RunsOnVolume HoldsFiles run (S.history station.old) (S.state station.old)
+        RunsOnVolume HoldsFiles (LacksRoom lacks_either (entries_of code.tables code.files)) run (S.history station.old) (S.state station.old)
         result (S.history station.new) (S.state station.new) }
     ensures halves { S.is_honest station.old → IsOfHalves (S.state station.old).disk.present →
         (run : Files → Run) →
         ((files : Files) → Runs code (given_over files (S.state station.old) day budget) (run files)) →
-        RunsOnHalves run (S.history station.old) (S.state station.old)
+        RunsOnHalves (entries_of code.tables code.files) run (S.history station.old) (S.state station.old)
         result (S.history station.new) (S.state station.new) }
     ensures sound { S.is_honest station.old →
         (files : Files) → HoldsFiles (S.state station.old).disk.present files →
         result ≢ Ended.Refused Refusal.Damaged }
+    ensures unwritten { S.is_honest station.old → result ≡ Ended.Refused Refusal.Damaged → IsDamageFound (S.state station.old) (S.state station.new) }
 {
     match PagedStore::open(alloc, station, CACHED_PAGES) {
         Ok(store) => run_over(alloc, code, station, store, day, budget),

@@ -36,3 +36,6 @@ returns-clause-runs g c = λ honest.
     let compiled =
     subst (λ bytes. IsCompiled source bytes) (sym c.as_slice.ensures.value) c.in_ok-image.ensures.image in
     c.compiled_bytes.ensures.runs source image _ compiled (c.run_image.ensures.runs honest)
+
+pub returns-clause-unwritten : goal.returns-clause-unwritten
+returns-clause-unwritten g c = λ honest is. c.run_image.ensures.unwritten honest (value {r = Ok c.run_image.result} refl is)

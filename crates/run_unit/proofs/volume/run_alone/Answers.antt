@@ -19,6 +19,6 @@ returns-clause-alone g c = λ honest run runs.
     (subst (λ (given : Given). Runs c.args.code given run) (given_none s c.args.day c.args.budget) runs) in
     let there = c.in-Ok.ensures.stands s.disk [] refl in
     subst (λ (ended : Ended). RunsAlone run past s ended later new) (sym c.of.ensures)
-    (ran_alone _ run s none past later new c.run.result own
+    (ran_alone _ _ _ run s none past later new c.run.result own
     (c.run.ensures.moments [] (record { honest = honest; there = there }) run has)
     (c.run.ensures.ends [] (record { honest = honest; there = there }) run has))

@@ -4,9 +4,11 @@ use Rattle.half_store.specs.Half.{Holds}
 use Rattle.half_store.specs.Stands.{Stands}
 use Rattle.half_store.specs.Stored.{files_of}
 use Rattle.source_tree.specs.Given.{Given}
+use Rattle.file_tables.specs.Files.{entries_of}
 use Rattle.code_image.specs.Table.{Runs}
+use Rattle.machine.specs.Ends.{LacksRoom}
 use Rattle.run_unit.specs.declared.ended.Ended.TheVariants.{Refused}
-use Rattle.run_unit.specs.Volume.{Unopened, NotOpened, HeldFiles}
+use Rattle.run_unit.specs.Volume.{Unopened, NotOpened, HeldFiles, lacks_half}
 use Rattle.run_unit.proofs.Opening.{read_cause, refused_opening, given_after, ran_on}
 use Rattle.run_unit.proofs.volume.run_on_halves.Goals as goal
 
@@ -16,7 +18,7 @@ returns-in-Ok-clause-volume g c = λ honest files held run runs.
     let mid = g.S.Device.state c.open.new.device in
     let same = given_after files s mid c.args.day c.args.budget (c.in-Ok.ensures.state honest) in
     let own = c.one_list_of_files.ensures s.disk.present (files_of c.in-Ok.store.files.items) files (c.in-Ok.ensures.holds honest) held in
-    ran_on Holds run (g.S.Device.history c.args.station.now) (g.S.Device.history c.open.new.device) (g.S.Device.history c.run_over.new.station)
+    ran_on Holds (LacksRoom lacks_half (entries_of c.args.code.tables c.args.code.files)) run (g.S.Device.history c.args.station.now) (g.S.Device.history c.open.new.device) (g.S.Device.history c.run_over.new.station)
     s mid (g.S.Device.state c.run_over.new.station) c.run_over.result
     (c.open.ensures.moments honest) (c.in-Ok.ensures.state honest)
     (c.run_over.ensures.runs files (record {
@@ -31,7 +33,7 @@ returns-in-Ok-clause-halves g c = λ honest run runs.
     let files = files_of c.in-Ok.store.files.items in
     let same = given_after files s mid c.args.day c.args.budget (c.in-Ok.ensures.state honest) in
     HeldFiles files (c.in-Ok.ensures.holds honest)
-    (ran_on Holds (run files) (g.S.Device.history c.args.station.now) (g.S.Device.history c.open.new.device) (g.S.Device.history c.run_over.new.station)
+    (ran_on Holds (LacksRoom lacks_half (entries_of c.args.code.tables c.args.code.files)) (run files) (g.S.Device.history c.args.station.now) (g.S.Device.history c.open.new.device) (g.S.Device.history c.run_over.new.station)
     s mid (g.S.Device.state c.run_over.new.station) c.run_over.result
     (c.open.ensures.moments honest) (c.in-Ok.ensures.state honest)
     (c.run_over.ensures.runs files (record { honest = c.open.ensures.only.honest.0 honest; there = c.in-Ok.ensures.stands honest }) (run files)
@@ -54,3 +56,10 @@ pub returns-in-Err-clause-halves : goal.returns-in-Err-clause-halves
 returns-in-Err-clause-halves g c = λ honest run runs.
     NotOpened (refused_opening c.in-Err.fault c.of_opening.result c.of_opening.ensures)
     (c.open.ensures.moments honest) (c.in-Err.ensures.unwritten honest)
+
+pub returns-in-Ok-clause-unwritten : goal.returns-in-Ok-clause-unwritten
+returns-in-Ok-clause-unwritten g c = λ honest is.
+    absurd (c.run_over.ensures.sound (files_of c.in-Ok.store.files.items) (record { honest = c.open.ensures.only.honest.0 honest; there = c.in-Ok.ensures.stands honest }) is)
+
+pub returns-in-Err-clause-unwritten : goal.returns-in-Err-clause-unwritten
+returns-in-Err-clause-unwritten g c = λ honest is. c.in-Err.ensures.unwritten honest

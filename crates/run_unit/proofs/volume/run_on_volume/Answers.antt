@@ -7,11 +7,14 @@ use Rattle.file_recovery.proofs.Foreign.{half_foreign, half_is_foreign}
 use Rattle.file_recovery.proofs.TwoStores.{either_cause}
 use Rattle.half_store.specs.Opened.{IsReadCause}
 use Rattle.source_tree.specs.Given.{Given}
+use Rattle.file_tables.specs.Files.{entries_of}
 use Rattle.code_image.specs.Table.{Runs}
+use Rattle.machine.specs.Ends.{LacksRoom}
 use Rattle.run_unit.specs.declared.ended.Ended.TheVariants.{Refused}
-use Rattle.run_unit.specs.Volume.{Unopened, NotOpened}
+use Rattle.run_unit.specs.Volume.{Unopened, NotOpened, lacks_half, lacks_either}
+use Rattle.run_unit.proofs.Moments.{room_under}
 use Rattle.run_unit.proofs.Opening.{read_cause, refused_opening, no_layout}
-use Rattle.run_unit.proofs.Opening.{given_after, given_later, present_after, ran_on, on_volume_then, on_halves_then, on_either}
+use Rattle.run_unit.proofs.Opening.{given_after, given_later, present_after, unwritten_then, lacks_trees, ran_on, on_volume_then, on_halves_then, on_either}
 use Rattle.run_unit.proofs.volume.run_on_volume.Goals as goal
 
 pub returns-in-Ok-clause-volume : goal.returns-in-Ok-clause-volume
@@ -21,9 +24,10 @@ returns-in-Ok-clause-volume g c = λ honest files held run runs.
     let same = given_after files s mid c.args.day c.args.budget (c.in-Ok.ensures.state honest) in
     ⊎_elim
     (λ trees.
-    on_either HoldsTrees HoldsFiles (λ image files is. inl is) run (g.S.Device.history c.args.station.now) s c.run_over.result
+    on_either HoldsTrees HoldsFiles (λ image files is. inl is) run (LacksRoom lacks_trees (entries_of c.args.code.tables c.args.code.files)) (LacksRoom lacks_either (entries_of c.args.code.tables c.args.code.files))
+    (room_under lacks_trees lacks_either (λ image is_new name before after lacks. inl lacks) (entries_of c.args.code.tables c.args.code.files) run) (g.S.Device.history c.args.station.now) s c.run_over.result
     (g.S.Device.history c.run_over.new.station) (g.S.Device.state c.run_over.new.station)
-    (ran_on HoldsTrees run (g.S.Device.history c.args.station.now) (g.S.Device.history c.open.new.device) (g.S.Device.history c.run_over.new.station)
+    (ran_on HoldsTrees (LacksRoom lacks_trees (entries_of c.args.code.tables c.args.code.files)) run (g.S.Device.history c.args.station.now) (g.S.Device.history c.open.new.device) (g.S.Device.history c.run_over.new.station)
     s mid (g.S.Device.state c.run_over.new.station) c.run_over.result (c.open.ensures.moments honest) (c.in-Ok.ensures.state honest)
     (c.run_over.ensures.runs files (record { honest = c.open.ensures.honest.0 honest; there = c.in-Ok.ensures.stands honest files trees }) run
     (subst (λ (given : Given). Runs c.args.code given run) same runs))))
@@ -52,9 +56,10 @@ returns-in-Layout-clause-volume g c = λ honest files held run runs.
     ⊎_elim
     (λ trees. absurd (no_layout (subst IsReadCause c.in-Layout.is (c.in-Err.ensures.opens honest files trees))))
     (λ half.
-    on_either HoldsHalf HoldsFiles (λ image files is. inr is) run (g.S.Device.history c.args.station.now) s c.run_on_halves.result
+    on_either HoldsHalf HoldsFiles (λ image files is. inr is) run (LacksRoom lacks_half (entries_of c.args.code.tables c.args.code.files)) (LacksRoom lacks_either (entries_of c.args.code.tables c.args.code.files))
+    (room_under lacks_half lacks_either (λ image is_new name before after lacks. inr lacks) (entries_of c.args.code.tables c.args.code.files) run) (g.S.Device.history c.args.station.now) s c.run_on_halves.result
     (g.S.Device.history c.run_on_halves.new.station) (g.S.Device.state c.run_on_halves.new.station)
-    (on_volume_then HoldsHalf run (g.S.Device.history c.args.station.now) (g.S.Device.history c.open.new.device) (g.S.Device.history c.run_on_halves.new.station)
+    (on_volume_then HoldsHalf (LacksRoom lacks_half (entries_of c.args.code.tables c.args.code.files)) run (g.S.Device.history c.args.station.now) (g.S.Device.history c.open.new.device) (g.S.Device.history c.run_on_halves.new.station)
     s mid (g.S.Device.state c.run_on_halves.new.station) c.run_on_halves.result (c.open.ensures.moments honest) as_was
     (c.run_on_halves.ensures.volume (c.open.ensures.honest.0 honest) files (subst (λ (image : List Sector). HoldsHalf image files) (sym (present_after s mid as_was)) half) run
     (subst (λ (given : Given). Runs c.args.code given run) (given_later files s mid c.args.day c.args.budget as_was) runs))))
@@ -65,7 +70,7 @@ returns-in-Layout-clause-halves g c = λ honest halves run runs.
     let s = g.S.Device.state c.args.station.now in
     let mid = g.S.Device.state c.open.new.device in
     let as_was = c.in-Err.ensures.unwritten honest in
-    on_halves_then run (g.S.Device.history c.args.station.now) (g.S.Device.history c.open.new.device) (g.S.Device.history c.run_on_halves.new.station)
+    on_halves_then (entries_of c.args.code.tables c.args.code.files) run (g.S.Device.history c.args.station.now) (g.S.Device.history c.open.new.device) (g.S.Device.history c.run_on_halves.new.station)
     s mid (g.S.Device.state c.run_on_halves.new.station) c.run_on_halves.result (c.open.ensures.moments honest) as_was
     (c.run_on_halves.ensures.halves (c.open.ensures.honest.0 honest) run
     (λ files. subst (λ (given : Given). Runs c.args.code given (run files)) (given_later files s mid c.args.day c.args.budget as_was) (runs files)))
@@ -99,3 +104,16 @@ pub returns-in_default-clause-halves : goal.returns-in_default-clause-halves
 returns-in_default-clause-halves g c = λ honest halves run runs.
     NotOpened (refused_opening c.in-Err.fault c.of_opening.result c.of_opening.ensures)
     (c.open.ensures.moments honest) (c.in-Err.ensures.unwritten honest)
+
+-- ---- damage
+
+pub returns-in-Ok-clause-unwritten : goal.returns-in-Ok-clause-unwritten
+returns-in-Ok-clause-unwritten g c = λ honest is. inr (c.in-Ok.ensures.map honest)
+
+pub returns-in-Layout-clause-unwritten : goal.returns-in-Layout-clause-unwritten
+returns-in-Layout-clause-unwritten g c = λ honest is.
+    inl (unwritten_then (g.S.Device.state c.args.station.now) (g.S.Device.state c.open.new.device) (g.S.Device.state c.run_on_halves.new.station)
+    (c.in-Err.ensures.unwritten honest) (c.run_on_halves.ensures.unwritten (c.open.ensures.honest.0 honest) is))
+
+pub returns-in_default-clause-unwritten : goal.returns-in_default-clause-unwritten
+returns-in_default-clause-unwritten g c = λ honest is. inl (c.in-Err.ensures.unwritten honest)
