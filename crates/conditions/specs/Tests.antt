@@ -93,8 +93,8 @@ asked (asked_as.Class negated one) = is_not negated then telling test_in (test.C
 
 -- ---- reading
 
-abbrev pub written : Bool → Relation → Asked
-written negated one = asked_as.Relation (record { negated = negated; relation = one })
+abbrev pub operator : Bool → Relation → Asked
+operator negated one = asked_as.Relation (record { negated = negated; relation = one })
 
 unfoldable pub or_equal_phrase_reader : Parser Bool
 or_equal_phrase_reader = do
@@ -111,16 +111,16 @@ unfoldable pub order_reader : Bool → Relation → Parser Asked
 order_reader negated order = do
   skip w.Than
   equal ← or_equal_reader
-  pure (written negated (with_equal equal order))
+  pure (operator negated (with_equal equal order))
 
 -- behind EQUAL
 unfoldable pub equal_reader : Bool → Parser Asked
 equal_reader negated = do
   skip w.To
-  pure (written negated relation.Equal)
+  pure (operator negated relation.Equal)
 
 abbrev pub asked_after : Bool → Test → Parser Asked
-asked_after negated (test.Symbol one) = pure (written negated one)
+asked_after negated (test.Symbol one) = pure (operator negated one)
 asked_after negated (test.Order one) = order_reader negated one
 asked_after negated test.Equal = equal_reader negated
 asked_after negated (test.Sign one) = pure (asked_as.Sign negated one)

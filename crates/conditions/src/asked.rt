@@ -147,8 +147,8 @@ fn with_equal(equal: bool, relation: Relation) -> Relation
     }
 }
 
-fn written(negated: bool, relation: Relation) -> Asked
-    ensures { result ≡ spec.written negated relation }
+fn operator(negated: bool, relation: Relation) -> Asked
+    ensures { result ≡ spec.operator negated relation }
 {
     Asked::Relation(RelationalOperator { negated, relation })
 }
@@ -160,7 +160,7 @@ fn order(tokens: &mut Tokens<'_>, negated: bool, order: Relation) -> Result<Aske
 {
     tokens.skip(Reserved::Than);
     let equal = or_equal(tokens)?;
-    Ok(written(negated, with_equal(equal, order)))
+    Ok(operator(negated, with_equal(equal, order)))
 }
 
 /// What stands behind EQUAL.
@@ -169,14 +169,14 @@ fn equal(tokens: &mut Tokens<'_>, negated: bool) -> Result<Asked, ReadFault>
     ensures { Reads (spec.equal_reader negated tokens.old) result tokens.new }
 {
     tokens.skip(Reserved::To);
-    Ok(written(negated, Relation::Equal))
+    Ok(operator(negated, Relation::Equal))
 }
 
 fn asked_after(tokens: &mut Tokens<'_>, negated: bool, test: Test) -> Result<Asked, ReadFault>
     ensures { Reads (spec.asked_after negated test tokens.old) result tokens.new }
 {
     match test {
-        Test::Symbol(relation) => Ok(written(negated, relation)),
+        Test::Symbol(relation) => Ok(operator(negated, relation)),
         Test::Order(relation) => order(tokens, negated, relation),
         Test::Equal => equal(tokens, negated),
         Test::Sign(sign) => Ok(Asked::Sign { negated, sign }),

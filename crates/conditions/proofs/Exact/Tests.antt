@@ -26,7 +26,7 @@ use Rattle.conditions.specs.declared.asked.Test.TheVariants as test
 use Rattle.conditions.specs.declared.asked.Asked.{Asked}
 use Rattle.conditions.specs.declared.asked.Asked.TheVariants as asked_as
 use Rattle.conditions.specs.Tests as g
-use Rattle.conditions.specs.Tests.{test_in, symbol_of, with_equal, written, first_told, next_test, is_class, begins_test, begins_class}
+use Rattle.conditions.specs.Tests.{test_in, symbol_of, with_equal, operator, first_told, next_test, is_class, begins_test, begins_class}
 
 -- ---- words that stand or not
 
@@ -110,12 +110,12 @@ unfolding g.order_reader g.equal_reader
 asked_complete (asked_as.Relation one) i rest (i2, before, inl told) =
     asked_by one.negated (test.Symbol one.relation) (asked_as.Relation one) i i2 rest rest before told (Reached refl)
 asked_complete {Allowed = Allowed} (asked_as.Relation one) i rest (i2, before, inr (inl (order, equal, as_order, (i3, told, (i4, than, or))))) =
-    subst (λ y. Answers Allowed (g.asked_reader i) (written one.negated y) rest) (sym as_order)
-    (asked_by one.negated (test.Order order) (written one.negated (with_equal equal order)) i i2 i3 rest before told
+    subst (λ y. Answers Allowed (g.asked_reader i) (operator one.negated y) rest) (sym as_order)
+    (asked_by one.negated (test.Order order) (operator one.negated (with_equal equal order)) i i2 i3 rest before told
     (step (skip w.Than i3) _ (skip_complete w.Than tt i3 i4 than) (step (g.or_equal_reader i4) _ (or_equal_complete equal i4 rest or) (Reached refl))))
 asked_complete {Allowed = Allowed} (asked_as.Relation one) i rest (i2, before, inr (inr (as_equal, (i3, told, to)))) =
-    subst (λ y. Answers Allowed (g.asked_reader i) (written one.negated y) rest) (sym as_equal)
-    (asked_by one.negated test.Equal (written one.negated relation.Equal) i i2 i3 rest before told
+    subst (λ y. Answers Allowed (g.asked_reader i) (operator one.negated y) rest) (sym as_equal)
+    (asked_by one.negated test.Equal (operator one.negated relation.Equal) i i2 i3 rest before told
     (step (skip w.To i3) _ (skip_complete w.To tt i3 rest to) (Reached refl)))
 asked_complete (asked_as.Sign negated one) i rest (i2, before, told) = asked_by negated (test.Sign one) (asked_as.Sign negated one) i i2 rest rest before told (Reached refl)
 asked_complete (asked_as.Class negated one) i rest (i2, before, told) = asked_by negated (test.Class one) (asked_as.Class negated one) i i2 rest rest before told (Reached refl)
