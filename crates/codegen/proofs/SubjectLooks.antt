@@ -39,7 +39,7 @@ use Rattle.code_image.specs.declared.code.Code.{Code}
 use Rattle.codegen.specs.Pieces.{Piece, joined}
 use Rattle.codegen.specs.ConditionCode.{relation_piece}
 use Rattle.codegen.specs.DataCode.{item_number}
-use Rattle.codegen.specs.SubjectCode.{zero_side, is_single, is_numeric, object_of_when, first_object, is_at_hand, is_faultless, value_look, look, look_piece, asks_at_once, is_asked_first}
+use Rattle.codegen.specs.SubjectCode.{zero_side, is_single, is_numeric, object_of_when, first_object, is_at_hand, is_faultless, value_look, look, look_piece, each_subject_piece, asks_at_once, is_asked_first, taken_from, subjects_piece}
 use Rattle.codegen.proofs.Codes.{left_none, right_none, only_named, item_there}
 use Rattle.codegen.proofs.ConditionLayers.{relation_is, relation_kept}
 use Rattle.codegen.proofs.EvaluateKept as rules
@@ -166,6 +166,14 @@ module _ (items : List Placed) where
   one_look value before is =
       sym (ap (λ (p : Piece). p before) (relation_is items value relation.Equal zero_side))
       ∙ sym (ap (λ (faultless : Bool). look_piece items (if faultless then None else Some (condition.Relation value relation.Equal zero_side)) before) is)
+
+  pub no_looks : (subjects : List Subject) (object : Option Object) (before : Code) → is_asked_first items subjects object ≡ true
+      → before ≡ joined before (subjects_piece items subjects object before)
+  no_looks subjects object before is = sym (joined_nothing before) ∙ sym (ap (λ (once : Bool). joined before (taken_from items once subjects before)) is)
+
+  pub all_looks : (subjects : List Subject) (object : Option Object) (before : Code) → is_asked_first items subjects object ≡ false
+      → each_subject_piece items subjects before ≡ subjects_piece items subjects object before
+  all_looks subjects object before is = sym (ap (λ (once : Bool). taken_from items once subjects before) is)
 
   -- ---- a look finds what the subject is taken with
 

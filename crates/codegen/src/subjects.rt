@@ -113,7 +113,7 @@ impl<'a> Emitter<'a> {
     /// The only subject is asked for at once.
     fn is_asked_first(&self, subjects: &[Subject], object: Option<&Object>) -> bool
         requires { IsDeclared self.now.declarations.now }
-        ensures { result ≡ spec.is_asked_first (items_in self.now.declarations.now) subjects.now (option_copied object) }
+        ensures { result ≡ spec.is_asked_first (items_in self.now.declarations.now) subjects.now (option_copied object.entry) }
     {
         match (subjects, object) {
             ([subject], Some(object)) => self.asks_at_once(subject, &object.choice),
