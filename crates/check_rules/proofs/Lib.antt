@@ -1,4 +1,5 @@
 pub mod Firsts
+pub mod Declared
 pub mod GivenNames
 pub mod Parts
 pub mod Operations

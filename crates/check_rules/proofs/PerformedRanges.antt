@@ -41,7 +41,7 @@ use Rattle.source_tree.specs.Rules.{phrase_rules, phrases_rules, file_phrases_ru
 use Rattle.source_tree.specs.Setting.{Scope, paragraphs}
 use Rattle.check_rules.specs.declared.declarations.Declarations.{Declarations}
 use Rattle.check_rules.specs.declared.performs.Performs.{Performs}
-use Rattle.check_rules.specs.Named.{procedures_in, scope_in}
+use Rattle.check_rules.specs.Named.{Declares, procedures_in, scope_in}
 use Rattle.check_rules.specs.Performs.{Adds, HasNext, in_paragraph}
 use Rattle.check_rules.proofs.RuleLayers.{mapped_rules}
 use Rattle.check_rules.proofs.PerformLayers.{mapped_performs}
@@ -298,12 +298,13 @@ pub record IsCollected (program : Program) (all : Performs) (paragraph_count : �
   pub places : all.places.items ≡ map (λ (one : Place × PerformedRange). one.0) (performs program)
   pub ranges : all.ranges.items ≡ performed program
 
-pub collected : (declared : Declarations) (sections : List Section) (old new : Performs) (count : ℕ)
-    → sections ≡ declared.program.now.sections → old.places.items ≡ [] → old.ranges.items ≡ []
-    → count ≡ length (paragraphs_in sections) → Adds old new (performs_from (procedures_in declared) 0 (paragraphs_in sections)) → IsCollected declared.program.now new count
-collected declared sections old new count same places ranges counted added =
-    let whole : performs_from (procedures_in declared) 0 (paragraphs_in sections) ≡ performs declared.program.now =
-    ap (λ (l : List Section). performs_from (procedures_in declared) 0 (paragraphs_in l)) same in
+pub collected : (program : Program) (declared : Declarations) (sections : List Section) (old new : Performs) (count : ℕ) → Declares program declared
+    → sections ≡ program.sections → old.places.items ≡ [] → old.ranges.items ≡ []
+    → count ≡ length (paragraphs_in sections) → Adds old new (performs_from (procedures_in declared) 0 (paragraphs_in sections)) → IsCollected program new count
+collected program declared sections old new count declares same places ranges counted added =
+    let whole : performs_from (procedures_in declared) 0 (paragraphs_in sections) ≡ performs program =
+    ap (λ (l : List Section). performs_from (procedures_in declared) 0 (paragraphs_in l)) same
+    ∙ ap (λ (l : List Procedure). performs_from l 0 (paragraphs_in program.sections)) declares.procedures in
     record {
       count = counted ∙ ap (λ (l : List Section). length (paragraphs_in l)) same;
       places = added.places ∙ ap (λ l. l ++ map (λ (one : Place × PerformedRange). one.0) (performs_from (procedures_in declared) 0 (paragraphs_in sections))) places
@@ -312,12 +313,13 @@ collected declared sections old new count same places ranges counted added =
           ∙ ap (map (λ (one : Place × PerformedRange). one.1)) whole;
     }
 
-pub collected_ranges : (declared : Declarations) (all : Performs) (count : ℕ)
-    → sections_rules (scope_in declared) all_permitted declared.program.now.sections ≡ [] → IsCollected declared.program.now all count → All (IsRange count) all.ranges.items
-collected_ranges declared all count kept h =
-    let sections = declared.program.now.sections in
+pub collected_ranges : (program : Program) (declared : Declarations) (all : Performs) (count : ℕ) → Declares program declared
+    → sections_rules (scope_in declared) all_permitted program.sections ≡ [] → IsCollected program all count → All (IsRange count) all.ranges.items
+collected_ranges program declared all count declares kept h =
+    let ranges : List Procedure → List PerformedRange = λ l. map (λ (one : Place × PerformedRange). one.1) (performs_from l 0 (paragraphs_in program.sections)) in
+    let same : ranges (procedures_in declared) ≡ all.ranges.items = ap ranges declares.procedures ∙ sym h.ranges in
     subst (λ (n : ℕ). All (IsRange n) all.ranges.items) (sym h.count)
-    (subst (All (IsRange (length (paragraphs declared.program.now)))) (sym h.ranges) (performed_ranges (scope_in declared) sections refl kept))
+    (subst (All (IsRange (length (paragraphs program)))) same (performed_ranges (scope_in declared) program.sections declares.procedures kept))
 
 -- a number behind each
 pub ranges_end : (count : ℕ) (ranges : List PerformedRange) → count < 2 ^ 64 → All (IsRange count) ranges → All HasNext ranges

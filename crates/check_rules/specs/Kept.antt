@@ -1,11 +1,13 @@
--- What a program declares that keeps the rules.
+-- A program that keeps the rules, and what it declares.
 use Rattle.std.specs.Prelude.{◌≡◌, []}
+use Rattle.source_tree.specs.declared.program.Program.{Program}
 use Rattle.source_tree.specs.Recursion.{HasOrder}
 use Rattle.source_tree.specs.Rules.{program_rules}
 use Rattle.check_rules.specs.declared.declarations.Declarations.{Declarations}
-use Rattle.check_rules.specs.Named.{IsDeclared}
+use Rattle.check_rules.specs.Named.{Declares, IsDeclared}
 
-pub record KeepsRules (declarations : Declarations) : Type 0 where
-  pub rules : program_rules declarations.program.now ≡ []
-  pub order : HasOrder declarations.program.now
+pub record KeepsRules (program : Program) (declarations : Declarations) : Type 0 where
+  pub rules : program_rules program ≡ []
+  pub order : HasOrder program
+  pub declares : Declares program declarations
   pub declared : IsDeclared declarations

@@ -1,3 +1,5 @@
+pub mod Data
+pub mod Listed
 pub mod Named
 pub mod Sending
 pub mod Asking

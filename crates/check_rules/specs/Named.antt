@@ -3,6 +3,7 @@ use Rattle.std.specs.Prelude.{◌≡◌, ◌==◌, not, List, [], ◌∷◌, ◌
 use Rattle.std.specs.Borrow.{Bor}
 use Rattle.lexical.specs.declared.place.Place.{Place}
 use Rattle.source_tree.specs.Broken.{Broken, where_so}
+use Rattle.source_tree.specs.declared.program.Program.{Program}
 use Rattle.source_tree.specs.declared.reference.QualifiedName.{QualifiedName}
 use Rattle.source_tree.specs.declared.reference.Reference.{Reference}
 use Rattle.source_tree.specs.LookUp.{first, items_named}
@@ -12,7 +13,7 @@ use Rattle.source_tree.specs.Places.{Placed}
 use Rattle.source_tree.specs.ProgramFiles.{ProgramFile, files_of}
 use Rattle.source_tree.specs.Records.{program_items}
 use Rattle.source_tree.specs.Procedures.{Procedure, procedures_of}
-use Rattle.source_tree.specs.Setting.{Scope, scope}
+use Rattle.source_tree.specs.Setting.{Scope}
 use Rattle.layout.specs.declared.placed.PlacedItem.{PlacedItem}
 use Rattle.layout.specs.Placing.{placed_item}
 use Rattle.names.specs.Items.{called_item}
@@ -23,29 +24,42 @@ use Rattle.program_files.specs.Files.{AreFiles}
 use Rattle.entry_rules.specs.declared.rule.BrokenRule.{BrokenRule}
 use Rattle.entry_rules.specs.Checks.{broken_of}
 use Rattle.check_rules.specs.declared.declarations.Declarations.{Declarations}
+use Rattle.check_rules.specs.Data.{with_data}
+use Rattle.check_rules.specs.Listed.{procedure_of}
+
+-- a program with the data that is declared
+abbrev pub data_in : Declarations → Program
+data_in all = with_data all.selects.now all.descriptions.now all.storage.now
 
 abbrev pub items_in : Declarations → List Placed
-items_in all = program_items all.program.now
+items_in all = program_items (data_in all)
 
 abbrev pub files_in : Declarations → List ProgramFile
-files_in all = files_of (items_in all) all.program.now
+files_in all = files_of (items_in all) (data_in all)
 
 abbrev pub procedures_in : Declarations → List Procedure
-procedures_in all = procedures_of all.program.now.sections
+procedures_in all = map procedure_of all.procedure_list.items
 
 -- what names name
 abbrev pub scope_in : Declarations → Scope
-scope_in all = scope all.program.now
+scope_in all = record { items = items_in all; files = files_in all; procedures = procedures_in all }
 
--- Names and places are those of the program's items, the files those of its SELECTs, which keep their rules, and the names of procedures
--- those of its sections.
+-- A program declares this: its data, and its procedures.
+pub record Declares (program : Program) (all : Declarations) : Type 0 where
+  pub selects : all.selects.now ≡ program.selects
+  pub descriptions : all.descriptions.now ≡ program.files
+  pub storage : all.storage.now ≡ program.storage
+  pub procedures : procedures_in all ≡ procedures_of program.sections
+
+-- Names and places are those of the items, the files those of the SELECTs, which keep their rules, and the names of procedures those of
+-- the procedures.
 pub record IsDeclared (all : Declarations) : Type 0 where
   pub table : IsTable all.names
   pub calls : calls_in all.names ≡ map called_item (items_in all)
   pub items : all.layout.items ≡ map placed_item (items_in all)
   pub conditions : AreConditions (items_in all) all.conditions
-  pub files : AreFiles (items_in all) all.program.now all.files
-  pub file_rules : program_file_rules (items_in all) all.program.now ≡ []
+  pub files : AreFiles (items_in all) (data_in all) all.files
+  pub file_rules : program_file_rules (items_in all) (data_in all) ≡ []
   pub procedures : AreProcedures (procedures_in all) all.procedures
 
 abbrev pub told : Result (Bor PlacedItem) BrokenRule → Result PlacedItem BrokenRule

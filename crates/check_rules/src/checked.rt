@@ -5,7 +5,7 @@ ghost use Rattle.source_tree.specs.Recursion.{HasOrder};
 ghost use Rattle.source_tree.specs.Rules.{program_rules};
 ghost use Rattle.entry_rules.specs.Checks.{fault_of};
 ghost use Rattle.check_rules.specs.Declaring.{declaration_rules};
-ghost use Rattle.check_rules.specs.Named.{IsDeclared};
+ghost use Rattle.check_rules.specs.Named.{Declares, IsDeclared};
 ghost use Rattle.check_rules.specs.Told.{IsTold};
 
 use crate::declarations::Declarations;
@@ -19,6 +19,7 @@ use std::marker::Model;
 /// A program that keeps the rules, with what it declares.
 #[derive(Drop)]
 pub struct Checked<'a> {
+    program: &'a Program,
     declarations: Declarations<'a>,
 }
 
@@ -33,9 +34,9 @@ impl<'a> Model for Checked<'a> {
 
     ghost use Rattle.check_rules.specs.Kept.{KeepsRules};
 
-    ghost view = { λ checked. checked.declarations.program.now };
+    ghost view = { λ checked. checked.program.now };
 
-    ghost invariant = { λ checked. KeepsRules checked.declarations };
+    ghost invariant = { λ checked. KeepsRules checked.program.now checked.declarations };
 }
 
 impl<'a> Checked<'a> {
@@ -45,13 +46,13 @@ impl<'a> Checked<'a> {
         ensures kept { program_rules self.now ≡ [] }
         ensures order { HasOrder self.now }
     {
-        self.declarations.program
+        self.program
     }
 
     /// What it declares.
     pub fn declarations(&self) -> &Declarations<'a>
         ensures declared { IsDeclared result.now }
-        ensures program { result.now.program.now ≡ self.now }
+        ensures program { Declares self.now result.now }
     {
         &self.declarations
     }
@@ -69,23 +70,27 @@ pub fn check(alloc: Global, program: &Program) -> Result<Checked<'_>, CheckError
     ensures exact { IfErr result (λ e. IsTold program.now (fault_of e)) }
 {
     let declarations = Declarations::of(alloc, program)?;
-    let ruled = declarations.procedure_division_rules(alloc);
+    let ruled = declarations.procedure_division_rules(alloc, program);
     let (declarations, ()) = beside(declarations, ruled)?;
-    Ok(Checked { declarations })
+    Ok(Checked {
+        program,
+        declarations,
+    })
 }
 
 impl<'a> Declarations<'a> {
-    /// The rules of the statements, 56, 69 of their number, and 54, of a program that breaks none before them.
-    fn procedure_division_rules(&self, alloc: Global) -> Result<(), CheckError>
+    /// The rules of the statements, 56, 69 of their number, and 54, of the program that declares this and breaks none before them.
+    fn procedure_division_rules(&self, alloc: Global, program: &Program) -> Result<(), CheckError>
         requires declared { IsDeclared self.now }
-        requires kept { declaration_rules self.now.program.now ≡ [] }
-        ensures kept { OnOk result (program_rules self.now.program.now ≡ []) }
-        ensures order { OnOk result (HasOrder self.now.program.now) }
-        ensures exact { IfErr result (λ e. IsTold self.now.program.now (fault_of e)) }
+        requires program { Declares program.now self.now }
+        requires kept { declaration_rules program.now ≡ [] }
+        ensures kept { OnOk result (program_rules program.now ≡ []) }
+        ensures order { OnOk result (HasOrder program.now) }
+        ensures exact { IfErr result (λ e. IsTold program.now (fault_of e)) }
     {
-        self.sections_rules(self.program.sections.as_slice())?;
-        procedure_rules(self.program)?;
-        self.recursion_rules(alloc)?;
+        self.sections_rules(program.sections.as_slice())?;
+        procedure_rules(program)?;
+        self.recursion_rules(alloc, program)?;
         Ok(())
     }
 }

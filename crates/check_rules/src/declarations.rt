@@ -9,26 +9,32 @@ ghost use Rattle.source_tree.specs.PerformRules.{procedure_name_rules};
 ghost use Rattle.check_rules.specs.Declaring.{declaration_rules, data_rules};
 ghost use Rattle.check_rules.specs.Found.{AreDeclared, items_of};
 ghost use Rattle.check_rules.specs.Named as spec;
-ghost use Rattle.check_rules.specs.Named.{IsDeclared, IsItemNamed, items_in};
+ghost use Rattle.check_rules.specs.Named.{Declares, IsDeclared, IsItemNamed, items_in};
 
 use crate::declared_items::{DeclaredItems, item_number};
+use crate::listed::{Procedure, listed_procedures};
 use crate::procedures::named_procedures;
 use entry_rules::{BrokenRule, CheckError};
 use layout::{Layout, PlacedItem};
 use names::{ConditionNames, NameTable, ProcedureNames, condition_names};
 use program_files::ProgramFiles;
-use source_tree::{Program, QualifiedName};
+use source_tree::{Entry, FileDescription, Program, QualifiedName, Select};
 use std::alloc::Global;
 
-/// A program whose entries and files keep their rules, with the names of its items and where those stand, and with its condition names,
-/// its files and the names of its procedures.
+/// What is declared in a program whose entries and files keep their rules: its SELECTs, FDs and entries of working storage, with the
+/// names of its items and where those stand, its condition names, its files, its procedures and their names. It has no statements, so
+/// what looks at it is handed none.
 #[derive(Drop)]
 pub struct Declarations<'a> {
-    pub program: &'a Program,
+    pub selects: &'a [Select],
+    pub descriptions: &'a [FileDescription],
+    pub storage: &'a [Entry],
     pub names: NameTable<'a>,
     pub layout: Layout,
     pub conditions: ConditionNames<'a>,
     pub files: ProgramFiles<'a>,
+    /// Each section before its paragraphs.
+    pub procedure_list: Vec<Procedure<'a>>,
     pub procedures: ProcedureNames<'a>,
 }
 
@@ -37,7 +43,7 @@ impl<'a> Declarations<'a> {
     /// the answer is the first that it breaks.
     pub fn of(alloc: Global, program: &'a Program) -> Result<Declarations<'a>, CheckError>
         ensures declared { IfOk result IsDeclared }
-        ensures program { IfOk result (λ all. all.program.now ≡ program.now) }
+        ensures program { IfOk result (Declares program.now) }
         ensures rules { Tells result (declaration_rules program.now) }
     {
         let items = DeclaredItems::checked(alloc, program)?;
@@ -50,7 +56,7 @@ impl<'a> Declarations<'a> {
         requires storage { entry_rules items.program.now.storage ≡ [] }
         requires files { program_file_rules (items_of items) items.program.now ≡ [] }
         ensures declared { IfOk result IsDeclared }
-        ensures program { IfOk result (λ all. all.program.now ≡ items.entry.program.now) }
+        ensures program { IfOk result (Declares items.entry.program.now) }
         ensures names { Tells result (procedure_name_rules items.entry.program.now.sections) }
     {
         let DeclaredItems {
@@ -60,13 +66,17 @@ impl<'a> Declarations<'a> {
         } = items;
         let conditions = condition_names(alloc, &names, program)?;
         let files = ProgramFiles::of(alloc, program, &names, &layout)?;
-        let procedures = named_procedures(alloc, program.sections.as_slice())?;
+        let sections = program.sections.as_slice();
+        let procedures = named_procedures(alloc, sections)?;
         Ok(Declarations {
-            program,
+            selects: program.selects.as_slice(),
+            descriptions: program.files.as_slice(),
+            storage: program.storage.as_slice(),
             names,
             layout,
             conditions,
             files,
+            procedure_list: listed_procedures(alloc, sections)?,
             procedures,
         })
     }

@@ -59,11 +59,11 @@ impl<'a> Declarations<'a> {
     pub(crate) fn is_record(&self, number: usize) -> bool
         ensures { (one : Placed) → slice_get (items_in self.now) number ≡ Some one → result ≡ (level_of one.entry == 1) }
     {
-        let behind = match item_among(self.program.storage.as_slice(), number) {
+        let behind = match item_among(self.storage, number) {
             Ok(one) => return is_outermost(one),
             Err(behind) => behind,
         };
-        match record_among(self.program.files.as_slice(), behind) {
+        match record_among(self.descriptions, behind) {
             Ok(one) => is_outermost(one),
             Err(_) => false,
         }

@@ -5,7 +5,7 @@ ghost use Rattle.perform_order.specs.Order.{marks};
 ghost use Rattle.source_tree.specs.Recursion.{HasOrder};
 ghost use Rattle.source_tree.specs.Rules.{sections_rules, all_permitted};
 ghost use Rattle.entry_rules.specs.Checks.{fault_of};
-ghost use Rattle.check_rules.specs.Named.{IsDeclared, scope_in};
+ghost use Rattle.check_rules.specs.Named.{Declares, IsDeclared, scope_in};
 ghost use Rattle.check_rules.specs.Told.{IsBack};
 ghost use Rattle.check_rules.specs.Performs.{Leads, HasNext, StandsFirst};
 
@@ -13,6 +13,7 @@ use crate::declarations::Declarations;
 use crate::performs::Performs;
 use entry_rules::{BrokenRule, CheckError, Rule};
 use perform_order::{Order, PerformedRange, order_of};
+use source_tree::Program;
 use std::alloc::Global;
 
 fn is_marked(marked: &[bool], paragraph: usize) -> bool
@@ -54,16 +55,17 @@ fn first_back(marked: &[bool], ranges: &[PerformedRange]) -> Option<usize>
 }
 
 impl<'a> Declarations<'a> {
-    /// No PERFORM of the program leads back. Where one does, the answer is at the first that stands in one of some paragraphs that
+    /// No PERFORM of the program that declares this leads back. Where one does, the answer is at the first that stands in one of some paragraphs that
     /// perform one another, and performs one of them.
-    pub(crate) fn recursion_rules(&self, alloc: Global) -> Result<(), CheckError>
+    pub(crate) fn recursion_rules(&self, alloc: Global, program: &Program) -> Result<(), CheckError>
         requires declared { IsDeclared self.now }
-        requires kept { sections_rules (scope_in self.now) all_permitted self.now.program.now.sections ≡ [] }
-        ensures order { OnOk result (HasOrder self.now.program.now) }
-        ensures back { IfErr result (λ e. IsBack self.now.program.now (fault_of e)) }
+        requires program { Declares program.now self.now }
+        requires kept { sections_rules (scope_in self.now) all_permitted program.now.sections ≡ [] }
+        ensures order { OnOk result (HasOrder program.now) }
+        ensures back { IfErr result (λ e. IsBack program.now (fault_of e)) }
     {
         let mut all = Performs::new(alloc);
-        let count = self.sections_performs(self.program.sections.as_slice(), &mut all)?;
+        let count = self.sections_performs(program.sections.as_slice(), &mut all)?;
         let marked = match order_of(alloc, count, &all.ranges)? {
             Order::Heights(_) => return Ok(()),
             Order::Recursive(marked) => marked,

@@ -29,6 +29,7 @@ pub mod Subscripts
 pub mod StorageItems
 pub mod ConditionItems
 pub mod ConditionValues
+pub mod Declared
 pub mod ConditionNames
 pub mod ConditionLayers
 pub mod EvaluateKept

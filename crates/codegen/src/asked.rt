@@ -49,7 +49,7 @@ impl<'a> Emitter<'a> {
         one: AskedCondition<'_>,
     ) -> Result<(), AllocError>
         requires declared { IsDeclared self.now.declarations.now }
-        requires entries { entry_rules self.now.declarations.now.program.now.storage ≡ [] }
+        requires entries { entry_rules self.now.declarations.now.storage.now ≡ [] }
         requires rules { condition_rules (items_in self.now.declarations.now) (condition_meant one) ≡ [] }
         ensures { OnOk result (code.new ≡ joined code.old (spec.condition_piece (items_in self.now.declarations.now) (condition_meant one.entry) code.old)) }
     {
@@ -123,7 +123,7 @@ impl<'a> Emitter<'a> {
         one: AskedCondition<'_>,
     ) -> Result<(), AllocError>
         requires declared { IsDeclared self.now.declarations.now }
-        requires entries { entry_rules self.now.declarations.now.program.now.storage ≡ [] }
+        requires entries { entry_rules self.now.declarations.now.storage.now ≡ [] }
         requires rules { condition_rules (items_in self.now.declarations.now) (condition_meant one) ≡ [] }
         ensures { OnOk result (code.new ≡ joined code.old (spec.condition_piece (items_in self.now.declarations.now) (meaning.told_as truth (condition_meant one.entry)) code.old)) }
     {
@@ -140,7 +140,7 @@ impl<'a> Emitter<'a> {
         other: AskedCondition<'_>,
     ) -> Result<(), AllocError>
         requires declared { IsDeclared self.now.declarations.now }
-        requires entries { entry_rules self.now.declarations.now.program.now.storage ≡ [] }
+        requires entries { entry_rules self.now.declarations.now.storage.now ≡ [] }
         requires one { condition_rules (items_in self.now.declarations.now) (condition_meant one) ≡ [] }
         requires other { condition_rules (items_in self.now.declarations.now) (condition_meant other) ≡ [] }
         ensures { OnOk result (code.new ≡ joined code.old (spec.condition_piece (items_in self.now.declarations.now) (All (meaning.told_as truth (condition_meant one.entry) ∷ meaning.told_as truth (condition_meant other.entry) ∷ [])) code.old)) }
@@ -160,7 +160,7 @@ impl<'a> Emitter<'a> {
         other: AskedCondition<'_>,
     ) -> Result<(), AllocError>
         requires declared { IsDeclared self.now.declarations.now }
-        requires entries { entry_rules self.now.declarations.now.program.now.storage ≡ [] }
+        requires entries { entry_rules self.now.declarations.now.storage.now ≡ [] }
         requires one { condition_rules (items_in self.now.declarations.now) (condition_meant one) ≡ [] }
         requires other { condition_rules (items_in self.now.declarations.now) (condition_meant other) ≡ [] }
         ensures { OnOk result (code.new ≡ joined code.old (spec.condition_piece (items_in self.now.declarations.now) (meaning.alike (condition_meant one.entry) (condition_meant other.entry)) code.old)) }
@@ -183,7 +183,7 @@ impl<'a> Emitter<'a> {
     /// What an object asks of its subject, once both are looked up.
     fn emit_question(&self, code: &mut Code, one: Question<'_>) -> Result<(), AllocError>
         requires declared { IsDeclared self.now.declarations.now }
-        requires entries { entry_rules self.now.declarations.now.program.now.storage ≡ [] }
+        requires entries { entry_rules self.now.declarations.now.storage.now ≡ [] }
         requires rules { condition_rules (items_in self.now.declarations.now) (question_meant one) ≡ [] }
         ensures { OnOk result (code.new ≡ joined code.old (spec.condition_piece (items_in self.now.declarations.now) (question_meant one.entry) code.old)) }
     {
@@ -205,7 +205,7 @@ impl<'a> Emitter<'a> {
         choice: &Choice,
     ) -> Result<(), AllocError>
         requires declared { IsDeclared self.now.declarations.now }
-        requires entries { entry_rules self.now.declarations.now.program.now.storage ≡ [] }
+        requires entries { entry_rules self.now.declarations.now.storage.now ≡ [] }
         requires rules { condition_rules (items_in self.now.declarations.now) (meaning.asked (items_in self.now.declarations.now) subject.now choice.now) ≡ [] }
         ensures { OnOk result (code.new ≡ joined code.old (spec.condition_piece (items_in self.now.declarations.now) (meaning.asked (items_in self.now.declarations.now) subject.now choice.now) code.old)) }
     {
@@ -221,7 +221,7 @@ impl<'a> Emitter<'a> {
         choice: &Choice,
     ) -> Result<(), AllocError>
         requires declared { IsDeclared self.now.declarations.now }
-        requires entries { entry_rules self.now.declarations.now.program.now.storage ≡ [] }
+        requires entries { entry_rules self.now.declarations.now.storage.now ≡ [] }
         requires rules { condition_rules (items_in self.now.declarations.now) (meaning.asked (items_in self.now.declarations.now) subject.now choice.now) ≡ [] }
         ensures { OnOk result (code.new ≡ joined code.old (spec.and_piece (spec.condition_piece (items_in self.now.declarations.now) (meaning.asked (items_in self.now.declarations.now) subject.now choice.now)) code.old)) }
     {
@@ -239,7 +239,7 @@ impl<'a> Emitter<'a> {
         objects: &[Object],
     ) -> Result<(), AllocError>
         requires declared { IsDeclared self.now.declarations.now }
-        requires entries { entry_rules self.now.declarations.now.program.now.storage ≡ [] }
+        requires entries { entry_rules self.now.declarations.now.storage.now ≡ [] }
         requires rules { each (condition_rules (items_in self.now.declarations.now)) (meaning.asked_each (items_in self.now.declarations.now) subjects.now objects.now) ≡ [] }
         ensures { OnOk result (code.new ≡ joined code.old (in_order (λ (one : Condition). spec.and_piece (spec.condition_piece (items_in self.now.declarations.now) one)) (meaning.asked_each (items_in self.now.declarations.now) subjects.now objects.now) code.old)) }
     {
@@ -264,7 +264,7 @@ impl<'a> Emitter<'a> {
         objects: &[Object],
     ) -> Result<(), AllocError>
         requires declared { IsDeclared self.now.declarations.now }
-        requires entries { entry_rules self.now.declarations.now.program.now.storage ≡ [] }
+        requires entries { entry_rules self.now.declarations.now.storage.now ≡ [] }
         requires rules { each (condition_rules (items_in self.now.declarations.now)) (meaning.asked_each (items_in self.now.declarations.now) subjects.now objects.now) ≡ [] }
         ensures { OnOk result (code.new ≡ joined code.old (spec.condition_piece (items_in self.now.declarations.now) (All (meaning.asked_each (items_in self.now.declarations.now) subjects.now objects.now)) code.old)) }
     {
@@ -286,7 +286,7 @@ impl<'a> Emitter<'a> {
         one: &When,
     ) -> Result<(), AllocError>
         requires declared { IsDeclared self.now.declarations.now }
-        requires entries { entry_rules self.now.declarations.now.program.now.storage ≡ [] }
+        requires entries { entry_rules self.now.declarations.now.storage.now ≡ [] }
         requires rules { each (condition_rules (items_in self.now.declarations.now)) (meaning.asked_each (items_in self.now.declarations.now) subjects.now one.now.objects) ≡ [] }
         ensures { OnOk result (code.new ≡ joined code.old (spec.or_piece (spec.condition_piece (items_in self.now.declarations.now) (meaning.when_asked (items_in self.now.declarations.now) subjects.now one.now)) code.old)) }
     {
@@ -304,7 +304,7 @@ impl<'a> Emitter<'a> {
         more: &[When],
     ) -> Result<(), AllocError>
         requires declared { IsDeclared self.now.declarations.now }
-        requires entries { entry_rules self.now.declarations.now.program.now.storage ≡ [] }
+        requires entries { entry_rules self.now.declarations.now.storage.now ≡ [] }
         requires rules { each (λ (one : When). each (condition_rules (items_in self.now.declarations.now)) (meaning.asked_each (items_in self.now.declarations.now) subjects.now one.objects)) more.now ≡ [] }
         ensures { OnOk result (code.new ≡ joined code.old (in_order (λ (one : When). spec.or_piece (spec.condition_piece (items_in self.now.declarations.now) (meaning.when_asked (items_in self.now.declarations.now) subjects.now one))) more.now code.old)) }
     {
@@ -322,7 +322,7 @@ impl<'a> Emitter<'a> {
         whens: &[When],
     ) -> Result<(), AllocError>
         requires declared { IsDeclared self.now.declarations.now }
-        requires entries { entry_rules self.now.declarations.now.program.now.storage ≡ [] }
+        requires entries { entry_rules self.now.declarations.now.storage.now ≡ [] }
         requires rules { each (λ (one : When). each (condition_rules (items_in self.now.declarations.now)) (meaning.asked_each (items_in self.now.declarations.now) subjects.now one.objects)) whens.now ≡ [] }
         ensures { OnOk result (code.new ≡ joined code.old (spec.condition_piece (items_in self.now.declarations.now) (Any (meaning.whens_asked (items_in self.now.declarations.now) subjects.now whens.now)) code.old)) }
     {

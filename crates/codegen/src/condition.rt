@@ -242,7 +242,7 @@ impl<'a> Emitter<'a> {
     #[cycle(condition)]
     pub(crate) fn emit_condition(&self, code: &mut Code, one: &Condition) -> Result<(), AllocError>
         requires declared { IsDeclared self.now.declarations.now }
-        requires entries { entry_rules self.now.declarations.now.program.now.storage ≡ [] }
+        requires entries { entry_rules self.now.declarations.now.storage.now ≡ [] }
         requires rules { condition_rules (items_in self.now.declarations.now) one.now ≡ [] }
         ensures { OnOk result (code.new ≡ joined code.old (spec.condition_piece (items_in self.now.declarations.now) one.now code.old)) }
     {
@@ -276,7 +276,7 @@ impl<'a> Emitter<'a> {
     #[cycle(condition)]
     fn emit_all(&self, code: &mut Code, parts: &[Condition]) -> Result<(), AllocError>
         requires declared { IsDeclared self.now.declarations.now }
-        requires entries { entry_rules self.now.declarations.now.program.now.storage ≡ [] }
+        requires entries { entry_rules self.now.declarations.now.storage.now ≡ [] }
         requires rules { each (condition_rules (items_in self.now.declarations.now)) parts.now ≡ [] }
         ensures { OnOk result (code.new ≡ joined code.old (spec.all_piece (map (spec.condition_piece (items_in self.now.declarations.now)) parts.now) code.old)) }
     {
@@ -297,7 +297,7 @@ impl<'a> Emitter<'a> {
     #[cycle(condition)]
     fn emit_any(&self, code: &mut Code, parts: &[Condition]) -> Result<(), AllocError>
         requires declared { IsDeclared self.now.declarations.now }
-        requires entries { entry_rules self.now.declarations.now.program.now.storage ≡ [] }
+        requires entries { entry_rules self.now.declarations.now.storage.now ≡ [] }
         requires rules { each (condition_rules (items_in self.now.declarations.now)) parts.now ≡ [] }
         ensures { OnOk result (code.new ≡ joined code.old (spec.any_piece (map (spec.condition_piece (items_in self.now.declarations.now)) parts.now) code.old)) }
     {
@@ -312,7 +312,7 @@ impl<'a> Emitter<'a> {
     #[cycle(condition)]
     fn emit_each_and(&self, code: &mut Code, more: &[Condition]) -> Result<(), AllocError>
         requires declared { IsDeclared self.now.declarations.now }
-        requires entries { entry_rules self.now.declarations.now.program.now.storage ≡ [] }
+        requires entries { entry_rules self.now.declarations.now.storage.now ≡ [] }
         requires rules { each (condition_rules (items_in self.now.declarations.now)) more.now ≡ [] }
         ensures { OnOk result (code.new ≡ joined code.old (in_order (λ (one : Condition). spec.and_piece (spec.condition_piece (items_in self.now.declarations.now) one)) more.now code.old)) }
     {
@@ -326,7 +326,7 @@ impl<'a> Emitter<'a> {
     #[cycle(condition)]
     fn emit_each_or(&self, code: &mut Code, more: &[Condition]) -> Result<(), AllocError>
         requires declared { IsDeclared self.now.declarations.now }
-        requires entries { entry_rules self.now.declarations.now.program.now.storage ≡ [] }
+        requires entries { entry_rules self.now.declarations.now.storage.now ≡ [] }
         requires rules { each (condition_rules (items_in self.now.declarations.now)) more.now ≡ [] }
         ensures { OnOk result (code.new ≡ joined code.old (in_order (λ (one : Condition). spec.or_piece (spec.condition_piece (items_in self.now.declarations.now) one)) more.now code.old)) }
     {
@@ -340,7 +340,7 @@ impl<'a> Emitter<'a> {
     #[cycle(condition)]
     fn emit_and(&self, code: &mut Code, one: &Condition) -> Result<(), AllocError>
         requires declared { IsDeclared self.now.declarations.now }
-        requires entries { entry_rules self.now.declarations.now.program.now.storage ≡ [] }
+        requires entries { entry_rules self.now.declarations.now.storage.now ≡ [] }
         requires rules { condition_rules (items_in self.now.declarations.now) one.now ≡ [] }
         ensures { OnOk result (code.new ≡ joined code.old (spec.and_piece (spec.condition_piece (items_in self.now.declarations.now) one.now) code.old)) }
     {
@@ -354,7 +354,7 @@ impl<'a> Emitter<'a> {
     #[cycle(condition)]
     fn emit_or(&self, code: &mut Code, one: &Condition) -> Result<(), AllocError>
         requires declared { IsDeclared self.now.declarations.now }
-        requires entries { entry_rules self.now.declarations.now.program.now.storage ≡ [] }
+        requires entries { entry_rules self.now.declarations.now.storage.now ≡ [] }
         requires rules { condition_rules (items_in self.now.declarations.now) one.now ≡ [] }
         ensures { OnOk result (code.new ≡ joined code.old (spec.or_piece (spec.condition_piece (items_in self.now.declarations.now) one.now) code.old)) }
     {

@@ -87,7 +87,7 @@ impl<'a> Emitter<'a> {
         one: &Reference,
     ) -> Result<(), AllocError>
         requires declared { IsDeclared self.now.declarations.now }
-        requires entries { entry_rules self.now.declarations.now.program.now.storage ≡ [] }
+        requires entries { entry_rules self.now.declarations.now.storage.now ≡ [] }
         requires rules { condition_name_rules (items_in self.now.declarations.now) one.now ≡ [] }
         ensures { OnOk result (code.new ≡ joined code.old (spec.condition_name_piece (items_in self.now.declarations.now) one.now code.old)) }
     {

@@ -85,7 +85,7 @@ impl<'a> Emitter<'a> {
     /// A statement that moves, with its `tick`.
     fn emit_moving(&self, code: &mut Code, line: u32, one: &Moving) -> Result<(), AllocError>
         requires declared { IsDeclared self.now.declarations.now }
-        requires entries { entry_rules self.now.declarations.now.program.now.storage ≡ [] }
+        requires entries { entry_rules self.now.declarations.now.storage.now ≡ [] }
         requires rules { rules.moving_rules (items_in self.now.declarations.now) one.now ≡ [] }
         ensures { OnOk result (code.new ≡ joined code.old (both (tick_piece line) (moving_piece (items_in self.now.declarations.now) one.now) code.old)) }
     {
@@ -122,7 +122,7 @@ impl<'a> Emitter<'a> {
     #[tactic(auto, using(crate::proofs::Layers::statement_is))]
     fn emit_statement(&self, code: &mut Code, one: &Statement) -> Result<(), AllocError>
         requires declared { IsDeclared self.now.declarations.now }
-        requires entries { entry_rules self.now.declarations.now.program.now.storage ≡ [] }
+        requires entries { entry_rules self.now.declarations.now.storage.now ≡ [] }
         requires rules { rules.statement_rules (scope_in self.now.declarations.now) all_permitted one.now ≡ [] }
         ensures { OnOk result (code.new ≡ joined code.old (statement_piece (scope_in self.now.declarations.now) one.now code.old)) }
     {
@@ -148,7 +148,7 @@ impl<'a> Emitter<'a> {
         one: &Arithmetic<Statement>,
     ) -> Result<(), AllocError>
         requires declared { IsDeclared self.now.declarations.now }
-        requires entries { entry_rules self.now.declarations.now.program.now.storage ≡ [] }
+        requires entries { entry_rules self.now.declarations.now.storage.now ≡ [] }
         requires operation { operation_rules (items_in self.now.declarations.now) one.now.operation ≡ [] }
         requires arose { rules.phrase_rules (rules.statement_rules (scope_in self.now.declarations.now) all_permitted) one.now.phrases.arose ≡ [] }
         requires did_not { rules.phrase_rules (rules.statement_rules (scope_in self.now.declarations.now) all_permitted) one.now.phrases.did_not ≡ [] }
@@ -167,7 +167,7 @@ impl<'a> Emitter<'a> {
         one: &Phrases<Statement>,
     ) -> Result<(), AllocError>
         requires declared { IsDeclared self.now.declarations.now }
-        requires entries { entry_rules self.now.declarations.now.program.now.storage ≡ [] }
+        requires entries { entry_rules self.now.declarations.now.storage.now ≡ [] }
         requires arose { rules.phrase_rules (rules.statement_rules (scope_in self.now.declarations.now) all_permitted) one.now.arose ≡ [] }
         requires did_not { rules.phrase_rules (rules.statement_rules (scope_in self.now.declarations.now) all_permitted) one.now.did_not ≡ [] }
         ensures { OnOk result (code.new ≡ joined code.old (phrases_piece (scope_in self.now.declarations.now) (statement_piece (scope_in self.now.declarations.now)) one.now code.old)) }
@@ -190,7 +190,7 @@ impl<'a> Emitter<'a> {
         one: &Option<Items<Statement>>,
     ) -> Result<(), AllocError>
         requires declared { IsDeclared self.now.declarations.now }
-        requires entries { entry_rules self.now.declarations.now.program.now.storage ≡ [] }
+        requires entries { entry_rules self.now.declarations.now.storage.now ≡ [] }
         requires rules { rules.phrase_rules (rules.statement_rules (scope_in self.now.declarations.now) all_permitted) one.now ≡ [] }
         ensures { OnOk result (code.new ≡ joined code.old (phrase_piece (scope_in self.now.declarations.now) (statement_piece (scope_in self.now.declarations.now)) one.now code.old)) }
     {
@@ -209,7 +209,7 @@ impl<'a> Emitter<'a> {
         one: &Branching<Statement>,
     ) -> Result<(), AllocError>
         requires declared { IsDeclared self.now.declarations.now }
-        requires entries { entry_rules self.now.declarations.now.program.now.storage ≡ [] }
+        requires entries { entry_rules self.now.declarations.now.storage.now ≡ [] }
         requires rules { rules.branching_rules (items_in self.now.declarations.now) (rules.statement_rules (scope_in self.now.declarations.now) all_permitted) one.now ≡ [] }
         ensures { OnOk result (code.new ≡ joined code.old (branching_piece (scope_in self.now.declarations.now) (statement_piece (scope_in self.now.declarations.now)) line one.now code.old)) }
     {
@@ -240,7 +240,7 @@ impl<'a> Emitter<'a> {
         one: &Performing<Statement>,
     ) -> Result<(), AllocError>
         requires declared { IsDeclared self.now.declarations.now }
-        requires entries { entry_rules self.now.declarations.now.program.now.storage ≡ [] }
+        requires entries { entry_rules self.now.declarations.now.storage.now ≡ [] }
         requires rules { rules.performing_rules (scope_in self.now.declarations.now) all_permitted (rules.statement_rules (scope_in self.now.declarations.now) all_permitted) one.now ≡ [] }
         ensures { OnOk result (code.new ≡ joined code.old (performing_piece (scope_in self.now.declarations.now) (statement_piece (scope_in self.now.declarations.now)) line one.now code.old)) }
     {
@@ -270,7 +270,7 @@ impl<'a> Emitter<'a> {
         one: &Performed<Statement>,
     ) -> Result<(), AllocError>
         requires declared { IsDeclared self.now.declarations.now }
-        requires entries { entry_rules self.now.declarations.now.program.now.storage ≡ [] }
+        requires entries { entry_rules self.now.declarations.now.storage.now ≡ [] }
         requires rules { rules.performed_rules (scope_in self.now.declarations.now).procedures all_permitted (rules.statement_rules (scope_in self.now.declarations.now) all_permitted) one.now ≡ [] }
         ensures { OnOk result (code.new ≡ joined code.old (turn_piece (scope_in self.now.declarations.now) (statement_piece (scope_in self.now.declarations.now)) line one.now code.old)) }
     {
@@ -315,7 +315,7 @@ impl<'a> Emitter<'a> {
         all: &[Statement],
     ) -> Result<(), AllocError>
         requires declared { IsDeclared self.now.declarations.now }
-        requires entries { entry_rules self.now.declarations.now.program.now.storage ≡ [] }
+        requires entries { entry_rules self.now.declarations.now.storage.now ≡ [] }
         requires rules { each (rules.statement_rules (scope_in self.now.declarations.now) all_permitted) all.now ≡ [] }
         ensures { OnOk result (code.new ≡ joined code.old (in_order (statement_piece (scope_in self.now.declarations.now)) all.now code.old)) }
     {
@@ -327,7 +327,7 @@ impl<'a> Emitter<'a> {
 
     fn emit_sentence(&self, code: &mut Code, one: &Sentence) -> Result<(), AllocError>
         requires declared { IsDeclared self.now.declarations.now }
-        requires entries { entry_rules self.now.declarations.now.program.now.storage ≡ [] }
+        requires entries { entry_rules self.now.declarations.now.storage.now ≡ [] }
         requires rules { rules.sentence_rules (scope_in self.now.declarations.now) all_permitted one.now ≡ [] }
         ensures { OnOk result (code.new ≡ joined code.old (sentence_piece (scope_in self.now.declarations.now) one.now code.old)) }
     {
@@ -336,7 +336,7 @@ impl<'a> Emitter<'a> {
 
     fn emit_sentences(&self, code: &mut Code, all: &[Sentence]) -> Result<(), AllocError>
         requires declared { IsDeclared self.now.declarations.now }
-        requires entries { entry_rules self.now.declarations.now.program.now.storage ≡ [] }
+        requires entries { entry_rules self.now.declarations.now.storage.now ≡ [] }
         requires rules { each (rules.sentence_rules (scope_in self.now.declarations.now) all_permitted) all.now ≡ [] }
         ensures { OnOk result (code.new ≡ joined code.old (in_order (sentence_piece (scope_in self.now.declarations.now)) all.now code.old)) }
     {
@@ -348,7 +348,7 @@ impl<'a> Emitter<'a> {
 
     fn emit_paragraph(&self, code: &mut Code, one: &Paragraph) -> Result<(), AllocError>
         requires declared { IsDeclared self.now.declarations.now }
-        requires entries { entry_rules self.now.declarations.now.program.now.storage ≡ [] }
+        requires entries { entry_rules self.now.declarations.now.storage.now ≡ [] }
         requires rules { rules.paragraph_rules (scope_in self.now.declarations.now) all_permitted one.now ≡ [] }
         ensures { OnOk result (code.new ≡ joined code.old (paragraph_piece (scope_in self.now.declarations.now) one.now code.old)) }
     {
@@ -360,7 +360,7 @@ impl<'a> Emitter<'a> {
 
     fn emit_paragraphs(&self, code: &mut Code, all: &[Paragraph]) -> Result<(), AllocError>
         requires declared { IsDeclared self.now.declarations.now }
-        requires entries { entry_rules self.now.declarations.now.program.now.storage ≡ [] }
+        requires entries { entry_rules self.now.declarations.now.storage.now ≡ [] }
         requires rules { each (rules.paragraph_rules (scope_in self.now.declarations.now) all_permitted) all.now ≡ [] }
         ensures { OnOk result (code.new ≡ joined code.old (in_order (paragraph_piece (scope_in self.now.declarations.now)) all.now code.old)) }
     {
@@ -372,7 +372,7 @@ impl<'a> Emitter<'a> {
 
     fn emit_section(&self, code: &mut Code, one: &Section) -> Result<(), AllocError>
         requires declared { IsDeclared self.now.declarations.now }
-        requires entries { entry_rules self.now.declarations.now.program.now.storage ≡ [] }
+        requires entries { entry_rules self.now.declarations.now.storage.now ≡ [] }
         requires rules { rules.section_rules (scope_in self.now.declarations.now) all_permitted one.now ≡ [] }
         ensures { OnOk result (code.new ≡ joined code.old (section_piece (scope_in self.now.declarations.now) one.now code.old)) }
     {
@@ -385,7 +385,7 @@ impl<'a> Emitter<'a> {
     /// Sections, in order.
     pub(crate) fn emit_sections(&self, code: &mut Code, all: &[Section]) -> Result<(), AllocError>
         requires declared { IsDeclared self.now.declarations.now }
-        requires entries { entry_rules self.now.declarations.now.program.now.storage ≡ [] }
+        requires entries { entry_rules self.now.declarations.now.storage.now ≡ [] }
         requires rules { rules.sections_rules (scope_in self.now.declarations.now) all_permitted all.now ≡ [] }
         ensures { OnOk result (code.new ≡ joined code.old (in_order (section_piece (scope_in self.now.declarations.now)) all.now code.old)) }
     {

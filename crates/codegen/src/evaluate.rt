@@ -30,7 +30,7 @@ impl<'a> Emitter<'a> {
         one: &Selected<Statement>,
     ) -> Result<Way, AllocError>
         requires declared { IsDeclared self.now.declarations.now }
-        requires entries { entry_rules self.now.declarations.now.program.now.storage ≡ [] }
+        requires entries { entry_rules self.now.declarations.now.storage.now ≡ [] }
         requires rules { selected_rules (items_in self.now.declarations.now) (rules.statement_rules (scope_in self.now.declarations.now) all_permitted) subjects.now one.now ≡ [] }
         ensures { IfOk result (λ way. Opens (condition_piece (items_in self.now.declarations.now) (selected_asked (items_in self.now.declarations.now) subjects.now one.now)) (in_order (statement_piece (scope_in self.now.declarations.now)) one.now.statements) code.old code.new way) }
     {
@@ -50,7 +50,7 @@ impl<'a> Emitter<'a> {
         selected: &[Selected<Statement>],
     ) -> Result<Vec<Way>, AllocError>
         requires declared { IsDeclared self.now.declarations.now }
-        requires entries { entry_rules self.now.declarations.now.program.now.storage ≡ [] }
+        requires entries { entry_rules self.now.declarations.now.storage.now ≡ [] }
         requires rules { each (selected_rules (items_in self.now.declarations.now) (rules.statement_rules (scope_in self.now.declarations.now) all_permitted) subjects.now) selected.now ≡ [] }
         ensures { IfOk result (λ ways. OpensAll (scope_in self.now.declarations.now) (statement_piece (scope_in self.now.declarations.now)) subjects.now selected.now code.old code.new ways.items) }
     {
@@ -70,7 +70,7 @@ impl<'a> Emitter<'a> {
         one: &Evaluate<Statement>,
     ) -> Result<(), AllocError>
         requires declared { IsDeclared self.now.declarations.now }
-        requires entries { entry_rules self.now.declarations.now.program.now.storage ≡ [] }
+        requires entries { entry_rules self.now.declarations.now.storage.now ≡ [] }
         requires rules { rules.evaluate_rules (items_in self.now.declarations.now) (rules.statement_rules (scope_in self.now.declarations.now) all_permitted) one.now ≡ [] }
         ensures { OnOk result (code.new ≡ joined code.old (evaluate_piece (scope_in self.now.declarations.now) (statement_piece (scope_in self.now.declarations.now)) one.now code.old)) }
     {

@@ -37,7 +37,7 @@ impl<'a> Emitter<'a> {
         one: &Filing<Statement>,
     ) -> Result<(), AllocError>
         requires declared { IsDeclared self.now.declarations.now }
-        requires entries { entry_rules self.now.declarations.now.program.now.storage ≡ [] }
+        requires entries { entry_rules self.now.declarations.now.storage.now ≡ [] }
         requires rules { filing_rules (items_in self.now.declarations.now) (files_in self.now.declarations.now) one.now ≡ [] }
         requires phrases { rules.file_phrases_rules (rules.statement_rules (scope_in self.now.declarations.now) all_permitted) (phrases_of one.now) ≡ [] }
         ensures { OnOk result (code.new ≡ joined code.old (both (tick_piece line) (filing_piece (scope_in self.now.declarations.now) (statement_piece (scope_in self.now.declarations.now)) one.now) code.old)) }
@@ -80,7 +80,7 @@ impl<'a> Emitter<'a> {
         phrases: &FilePhrases<Statement>,
     ) -> Result<(), AllocError>
         requires declared { IsDeclared self.now.declarations.now }
-        requires entries { entry_rules self.now.declarations.now.program.now.storage ≡ [] }
+        requires entries { entry_rules self.now.declarations.now.storage.now ≡ [] }
         requires rules { file_named_rules (items_in self.now.declarations.now) (files_in self.now.declarations.now) name.now (read_rules (items_in self.now.declarations.now) (files_in self.now.declarations.now) name.now.place next into.now key.now phrases.now) ≡ [] }
         requires phrases { rules.file_phrases_rules (rules.statement_rules (scope_in self.now.declarations.now) all_permitted) phrases.now ≡ [] }
         ensures { OnOk result (code.new ≡ joined code.old (on_name_piece (items_in self.now.declarations.now) (files_in self.now.declarations.now) name.now (statement_on_piece (scope_in self.now.declarations.now) (statement_piece (scope_in self.now.declarations.now)) phrases.now (into_piece (items_in self.now.declarations.now) into.now) (λ file. meaning.read_verb (items_in self.now.declarations.now) file next key.now)) code.old)) }
@@ -103,7 +103,7 @@ impl<'a> Emitter<'a> {
         phrases: &FilePhrases<Statement>,
     ) -> Result<(), AllocError>
         requires declared { IsDeclared self.now.declarations.now }
-        requires entries { entry_rules self.now.declarations.now.program.now.storage ≡ [] }
+        requires entries { entry_rules self.now.declarations.now.storage.now ≡ [] }
         requires rules { record_rules (items_in self.now.declarations.now) (files_in self.now.declarations.now) one.now from.now phrases.now ≡ [] }
         requires phrases { rules.file_phrases_rules (rules.statement_rules (scope_in self.now.declarations.now) all_permitted) phrases.now ≡ [] }
         ensures { OnOk result (code.new ≡ joined code.old (record_piece (scope_in self.now.declarations.now) (statement_piece (scope_in self.now.declarations.now)) verb one.now from.now phrases.now code.old)) }
@@ -124,7 +124,7 @@ impl<'a> Emitter<'a> {
         phrases: &FilePhrases<Statement>,
     ) -> Result<(), AllocError>
         requires declared { IsDeclared self.now.declarations.now }
-        requires entries { entry_rules self.now.declarations.now.program.now.storage ≡ [] }
+        requires entries { entry_rules self.now.declarations.now.storage.now ≡ [] }
         requires phrases { rules.file_phrases_rules (rules.statement_rules (scope_in self.now.declarations.now) all_permitted) phrases.now ≡ [] }
         ensures { OnOk result (code.new ≡ joined code.old (on_name_piece (items_in self.now.declarations.now) (files_in self.now.declarations.now) name.now (alone_piece (scope_in self.now.declarations.now) (statement_piece (scope_in self.now.declarations.now)) phrases.now (λ file. file_verb.Delete)) code.old)) }
     {
@@ -144,7 +144,7 @@ impl<'a> Emitter<'a> {
         phrases: &FilePhrases<Statement>,
     ) -> Result<(), AllocError>
         requires declared { IsDeclared self.now.declarations.now }
-        requires entries { entry_rules self.now.declarations.now.program.now.storage ≡ [] }
+        requires entries { entry_rules self.now.declarations.now.storage.now ≡ [] }
         requires rules { file_named_rules (items_in self.now.declarations.now) (files_in self.now.declarations.now) name.now (start_rules (items_in self.now.declarations.now) (files_in self.now.declarations.now) name.now.place key.now phrases.now) ≡ [] }
         requires phrases { rules.file_phrases_rules (rules.statement_rules (scope_in self.now.declarations.now) all_permitted) phrases.now ≡ [] }
         ensures { OnOk result (code.new ≡ joined code.old (on_name_piece (items_in self.now.declarations.now) (files_in self.now.declarations.now) name.now (alone_piece (scope_in self.now.declarations.now) (statement_piece (scope_in self.now.declarations.now)) phrases.now (λ file. meaning.start_verb (items_in self.now.declarations.now) file key.now)) code.old)) }
@@ -167,7 +167,7 @@ impl<'a> Emitter<'a> {
         phrases: &FilePhrases<Statement>,
     ) -> Result<(), AllocError>
         requires declared { IsDeclared self.now.declarations.now }
-        requires entries { entry_rules self.now.declarations.now.program.now.storage ≡ [] }
+        requires entries { entry_rules self.now.declarations.now.storage.now ≡ [] }
         requires into { into_rules (items_in self.now.declarations.now) (files_in self.now.declarations.now) (file_in (items_in self.now.declarations.now) file.now) into.now ≡ [] }
         requires phrases { rules.file_phrases_rules (rules.statement_rules (scope_in self.now.declarations.now) all_permitted) phrases.now ≡ [] }
         ensures { OnOk result (code.new ≡ joined code.old (both (file_piece verb (file_in (items_in self.now.declarations.now) file.now)) (status_piece (scope_in self.now.declarations.now) (statement_piece (scope_in self.now.declarations.now)) (file_in (items_in self.now.declarations.now) file.now).places.status phrases.now (into_piece (items_in self.now.declarations.now) into.now (file_in (items_in self.now.declarations.now) file.now))) code.old)) }
@@ -190,7 +190,7 @@ impl<'a> Emitter<'a> {
         phrases: &FilePhrases<Statement>,
     ) -> Result<(), AllocError>
         requires declared { IsDeclared self.now.declarations.now }
-        requires entries { entry_rules self.now.declarations.now.program.now.storage ≡ [] }
+        requires entries { entry_rules self.now.declarations.now.storage.now ≡ [] }
         requires phrases { rules.file_phrases_rules (rules.statement_rules (scope_in self.now.declarations.now) all_permitted) phrases.now ≡ [] }
         ensures { OnOk result (code.new ≡ joined code.old (success_piece (scope_in self.now.declarations.now) (statement_piece (scope_in self.now.declarations.now)) phrases.now code.old)) }
     {
@@ -210,7 +210,7 @@ impl<'a> Emitter<'a> {
         phrases: &FilePhrases<Statement>,
     ) -> Result<(), AllocError>
         requires declared { IsDeclared self.now.declarations.now }
-        requires entries { entry_rules self.now.declarations.now.program.now.storage ≡ [] }
+        requires entries { entry_rules self.now.declarations.now.storage.now ≡ [] }
         requires phrases { rules.file_phrases_rules (rules.statement_rules (scope_in self.now.declarations.now) all_permitted) phrases.now ≡ [] }
         ensures { OnOk result (code.new ≡ joined code.old (failure_piece (scope_in self.now.declarations.now) (statement_piece (scope_in self.now.declarations.now)) (file_in (items_in self.now.declarations.now) file.now).places.status phrases.now code.old)) }
     {
@@ -235,7 +235,7 @@ impl<'a> Emitter<'a> {
         arose: &Option<Items<Statement>>,
     ) -> Result<(), AllocError>
         requires declared { IsDeclared self.now.declarations.now }
-        requires entries { entry_rules self.now.declarations.now.program.now.storage ≡ [] }
+        requires entries { entry_rules self.now.declarations.now.storage.now ≡ [] }
         requires rules { rules.phrase_rules (rules.statement_rules (scope_in self.now.declarations.now) all_permitted) arose.now ≡ [] }
         ensures { OnOk result (code.new ≡ joined code.old (class_piece (scope_in self.now.declarations.now) (statement_piece (scope_in self.now.declarations.now)) (file_in (items_in self.now.declarations.now) file.now).places.status class arose.now code.old)) }
     {
@@ -256,7 +256,7 @@ impl<'a> Emitter<'a> {
         phrase: &Option<Items<Statement>>,
     ) -> Result<(), AllocError>
         requires declared { IsDeclared self.now.declarations.now }
-        requires entries { entry_rules self.now.declarations.now.program.now.storage ≡ [] }
+        requires entries { entry_rules self.now.declarations.now.storage.now ≡ [] }
         requires rules { rules.phrase_rules (rules.statement_rules (scope_in self.now.declarations.now) all_permitted) phrase.now ≡ [] }
         ensures { OnOk result (code.new ≡ joined code.old (taken_piece (scope_in self.now.declarations.now) (statement_piece (scope_in self.now.declarations.now)) (file_in (items_in self.now.declarations.now) file.now).places.status phrase.now code.old)) }
     {

@@ -36,7 +36,7 @@ impl<'a> Emitter<'a> {
     /// The item of a reference, as its kind wants it.
     fn emit_initialize(&self, code: &mut Code, one: &Reference) -> Result<(), AllocError>
         requires declared { IsDeclared self.now.declarations.now }
-        requires entries { entry_rules self.now.declarations.now.program.now.storage ≡ [] }
+        requires entries { entry_rules self.now.declarations.now.storage.now ≡ [] }
         requires rules { item_rules (items_in self.now.declarations.now) any_item one.now ≡ [] }
         ensures { OnOk result (code.new ≡ joined code.old (spec.initialize_piece (items_in self.now.declarations.now) one.now code.old)) }
     {
@@ -51,7 +51,7 @@ impl<'a> Emitter<'a> {
         all: &[Reference],
     ) -> Result<(), AllocError>
         requires declared { IsDeclared self.now.declarations.now }
-        requires entries { entry_rules self.now.declarations.now.program.now.storage ≡ [] }
+        requires entries { entry_rules self.now.declarations.now.storage.now ≡ [] }
         requires rules { initialize_rules (items_in self.now.declarations.now) all.now ≡ [] }
         ensures { OnOk result (code.new ≡ joined code.old (spec.initializes_piece (items_in self.now.declarations.now) all.now code.old)) }
     {
@@ -64,7 +64,7 @@ impl<'a> Emitter<'a> {
     /// The item of a condition name, in the occurrence referred to.
     fn emit_set(&self, code: &mut Code, one: &Reference) -> Result<(), AllocError>
         requires declared { IsDeclared self.now.declarations.now }
-        requires entries { entry_rules self.now.declarations.now.program.now.storage ≡ [] }
+        requires entries { entry_rules self.now.declarations.now.storage.now ≡ [] }
         requires rules { set_one (items_in self.now.declarations.now) one.now ≡ [] }
         ensures { OnOk result (code.new ≡ joined code.old (spec.set_piece (items_in self.now.declarations.now) one.now code.old)) }
     {
@@ -79,7 +79,7 @@ impl<'a> Emitter<'a> {
     /// SET, behind its `tick`.
     pub(crate) fn emit_sets(&self, code: &mut Code, all: &[Reference]) -> Result<(), AllocError>
         requires declared { IsDeclared self.now.declarations.now }
-        requires entries { entry_rules self.now.declarations.now.program.now.storage ≡ [] }
+        requires entries { entry_rules self.now.declarations.now.storage.now ≡ [] }
         requires rules { set_rules (items_in self.now.declarations.now) all.now ≡ [] }
         ensures { OnOk result (code.new ≡ joined code.old (spec.sets_piece (items_in self.now.declarations.now) all.now code.old)) }
     {

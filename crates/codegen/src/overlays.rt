@@ -67,7 +67,7 @@ impl<'a> Emitter<'a> {
     /// What INITIALIZE puts into the item of a reference.
     pub(crate) fn initial_overlay(&self, one: &Reference) -> Result<Overlay, AllocError>
         requires declared { IsDeclared self.now.declarations.now }
-        requires entries { entry_rules self.now.declarations.now.program.now.storage ≡ [] }
+        requires entries { entry_rules self.now.declarations.now.storage.now ≡ [] }
         requires rules { item_rules (items_in self.now.declarations.now) any_item one.now ≡ [] }
         ensures bytes { IfOk result (λ made. made.bytes ≡ map new_byte (spec.pattern_of (slice_get (items_in self.now.declarations.now) (item_number (items_in self.now.declarations.now) one.now.item)))) }
         ensures marks { IfOk result (λ made. made.marks ≡ map new_mark (spec.pattern_of (slice_get (items_in self.now.declarations.now) (item_number (items_in self.now.declarations.now) one.now.item)))) }
@@ -75,7 +75,8 @@ impl<'a> Emitter<'a> {
         let number = self.item_number(&one.item);
         let NewBytes { bytes, marks } = initialized_item(
             self.alloc,
-            self.declarations.program,
+            self.declarations.storage,
+            self.declarations.descriptions,
             number,
         )?;
         Ok(Overlay { bytes, marks })
@@ -84,7 +85,7 @@ impl<'a> Emitter<'a> {
     /// What SET puts into the item of a condition name.
     pub(crate) fn set_overlay(&self, one: &Reference) -> Result<Overlay, AllocError>
         requires declared { IsDeclared self.now.declarations.now }
-        requires entries { entry_rules self.now.declarations.now.program.now.storage ≡ [] }
+        requires entries { entry_rules self.now.declarations.now.storage.now ≡ [] }
         requires rules { set_one (items_in self.now.declarations.now) one.now ≡ [] }
         ensures bytes { IfOk result (λ made. made.bytes ≡ map new_byte (spec.set_of (slice_get (all_conditions (items_in self.now.declarations.now)) (condition_number (items_in self.now.declarations.now) one.now.item)))) }
         ensures marks { IfOk result (λ made. made.marks ≡ map new_mark (spec.set_of (slice_get (all_conditions (items_in self.now.declarations.now)) (condition_number (items_in self.now.declarations.now) one.now.item)))) }

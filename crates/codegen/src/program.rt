@@ -28,7 +28,7 @@ pub fn generate(alloc: Global, checked: &Checked<'_>) -> Result<Code, AllocError
 {
     let program = checked.program();
     let declarations = checked.declarations();
-    let mut code = storage_code(alloc, declarations)?;
+    let mut code = storage_code(alloc, program, declarations)?;
     let emitter = Emitter {
         alloc,
         declarations,

@@ -4,7 +4,7 @@ ghost use Rattle.std.specs.Prelude.{◌≡◌, [], map, IfOk};
 ghost use Rattle.source_tree.specs.EntryRules.{entry_rules};
 ghost use Rattle.data_instructions.specs.Codes.{data_item};
 ghost use Rattle.program_files.specs.Files.{file_in};
-ghost use Rattle.check_rules.specs.Named.{IsDeclared, items_in, files_in};
+ghost use Rattle.check_rules.specs.Named.{Declares, IsDeclared, items_in, files_in};
 ghost use Rattle.codegen.specs.FileCode as files;
 ghost use Rattle.codegen.specs.Layout as spec;
 ghost use Rattle.codegen.specs.Sent.{edits, first_editing};
@@ -18,6 +18,7 @@ use items::Kind;
 use layout::PlacedItem;
 use picture::Picture;
 use program_files::ProgramFile;
+use source_tree::Program;
 use sqlite_items::Items;
 use std::alloc::{AllocError, Global};
 
@@ -125,13 +126,18 @@ fn storage_items(
     Ok(items)
 }
 
-/// The tables before the first statement.
-fn storage_tables(alloc: Global, declarations: &Declarations<'_>) -> Result<DataTables, AllocError>
+/// The tables before the first statement of the program that declares this.
+fn storage_tables(
+    alloc: Global,
+    program: &Program,
+    declarations: &Declarations<'_>,
+) -> Result<DataTables, AllocError>
     requires declared { IsDeclared declarations.now }
-    requires rules { entry_rules declarations.now.program.now.storage ≡ [] }
-    ensures { IfOk result (λ tables. tables ≡ spec.storage_tables declarations.now.program.now) }
+    requires program { Declares program.now declarations.now }
+    requires rules { entry_rules program.now.storage ≡ [] }
+    ensures { IfOk result (λ tables. tables ≡ spec.storage_tables program.now) }
 {
-    let InitialStorage { areas } = InitialStorage::of(alloc, declarations.program)?;
+    let InitialStorage { areas } = InitialStorage::of(alloc, program)?;
     Ok(DataTables {
         areas,
         items: storage_items(alloc, declarations)?,
@@ -142,17 +148,19 @@ fn storage_tables(alloc: Global, declarations: &Declarations<'_>) -> Result<Data
     })
 }
 
-/// The code before the first statement.
+/// The code before the first statement of the program that declares this.
 pub(crate) fn storage_code(
     alloc: Global,
+    program: &Program,
     declarations: &Declarations<'_>,
 ) -> Result<Code, AllocError>
     requires declared { IsDeclared declarations.now }
-    requires rules { entry_rules declarations.now.program.now.storage ≡ [] }
-    ensures { IfOk result (λ code. code ≡ spec.storage_code declarations.now.program.now) }
+    requires program { Declares program.now declarations.now }
+    requires rules { entry_rules program.now.storage ≡ [] }
+    ensures { IfOk result (λ code. code ≡ spec.storage_code program.now) }
 {
     Ok(Code {
-        tables: storage_tables(alloc, declarations)?,
+        tables: storage_tables(alloc, program, declarations)?,
         files: code_files(alloc, declarations)?,
         starts: Items::new(alloc),
         instructions: Items::new(alloc),

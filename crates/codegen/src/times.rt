@@ -79,7 +79,7 @@ impl<'a> Emitter<'a> {
         one: &Performed<Statement>,
     ) -> Result<(), AllocError>
         requires declared { IsDeclared self.now.declarations.now }
-        requires entries { entry_rules self.now.declarations.now.program.now.storage ≡ [] }
+        requires entries { entry_rules self.now.declarations.now.storage.now ≡ [] }
         requires rules { rules.performed_rules (scope_in self.now.declarations.now).procedures all_permitted (rules.statement_rules (scope_in self.now.declarations.now) all_permitted) one.now ≡ [] }
         ensures { OnOk result (code.new ≡ joined code.old (times_piece count (turn_piece (scope_in self.now.declarations.now) (statement_piece (scope_in self.now.declarations.now)) line one.now) code.old)) }
     {
@@ -100,7 +100,7 @@ impl<'a> Emitter<'a> {
         one: &Performed<Statement>,
     ) -> Result<(), AllocError>
         requires declared { IsDeclared self.now.declarations.now }
-        requires entries { entry_rules self.now.declarations.now.program.now.storage ≡ [] }
+        requires entries { entry_rules self.now.declarations.now.storage.now ≡ [] }
         requires item { item_rules (items_in self.now.declarations.now) integer_item item.now ≡ [] }
         requires rules { rules.performed_rules (scope_in self.now.declarations.now).procedures all_permitted (rules.statement_rules (scope_in self.now.declarations.now) all_permitted) one.now ≡ [] }
         ensures { OnOk result (code.new ≡ joined code.old (both (taking_piece (items_in self.now.declarations.now) i.Push item.now) (counted_piece (turn_piece (scope_in self.now.declarations.now) (statement_piece (scope_in self.now.declarations.now)) line one.now)) code.old)) }
@@ -123,7 +123,7 @@ impl<'a> Emitter<'a> {
         one: &Performed<Statement>,
     ) -> Result<(), AllocError>
         requires declared { IsDeclared self.now.declarations.now }
-        requires entries { entry_rules self.now.declarations.now.program.now.storage ≡ [] }
+        requires entries { entry_rules self.now.declarations.now.storage.now ≡ [] }
         requires rules { rules.performed_rules (scope_in self.now.declarations.now).procedures all_permitted (rules.statement_rules (scope_in self.now.declarations.now) all_permitted) one.now ≡ [] }
         ensures { OnOk result (code.new ≡ joined code.old (counted_turn begin (turn_piece (scope_in self.now.declarations.now) (statement_piece (scope_in self.now.declarations.now)) line one.now) code.old)) }
     {

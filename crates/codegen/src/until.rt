@@ -75,7 +75,7 @@ impl<'a> Emitter<'a> {
         performed: &Performed<Statement>,
     ) -> Result<(), AllocError>
         requires declared { IsDeclared self.now.declarations.now }
-        requires entries { entry_rules self.now.declarations.now.program.now.storage ≡ [] }
+        requires entries { entry_rules self.now.declarations.now.storage.now ≡ [] }
         requires turns { until_rules (items_in self.now.declarations.now) one.now ≡ [] }
         requires rules { rules.performed_rules (scope_in self.now.declarations.now).procedures all_permitted (rules.statement_rules (scope_in self.now.declarations.now) all_permitted) performed.now ≡ [] }
         ensures { OnOk result (code.new ≡ joined code.old (spec.until_piece (items_in self.now.declarations.now) one.now (turn_piece (scope_in self.now.declarations.now) (statement_piece (scope_in self.now.declarations.now)) line performed.now) code.old)) }
@@ -97,7 +97,7 @@ impl<'a> Emitter<'a> {
         performed: &Performed<Statement>,
     ) -> Result<(), AllocError>
         requires declared { IsDeclared self.now.declarations.now }
-        requires entries { entry_rules self.now.declarations.now.program.now.storage ≡ [] }
+        requires entries { entry_rules self.now.declarations.now.storage.now ≡ [] }
         requires turns { until_rules (items_in self.now.declarations.now) one.now ≡ [] }
         requires rules { rules.performed_rules (scope_in self.now.declarations.now).procedures all_permitted (rules.statement_rules (scope_in self.now.declarations.now) all_permitted) performed.now ≡ [] }
         ensures { OnOk result (code.new ≡ joined code.old (spec.until_before_piece (condition_piece (items_in self.now.declarations.now) one.now.condition) (spec.vary_on_piece (items_in self.now.declarations.now) one.now.varying) (turn_piece (scope_in self.now.declarations.now) (statement_piece (scope_in self.now.declarations.now)) line performed.now) code.old)) }
@@ -119,7 +119,7 @@ impl<'a> Emitter<'a> {
         performed: &Performed<Statement>,
     ) -> Result<(), AllocError>
         requires declared { IsDeclared self.now.declarations.now }
-        requires entries { entry_rules self.now.declarations.now.program.now.storage ≡ [] }
+        requires entries { entry_rules self.now.declarations.now.storage.now ≡ [] }
         requires turns { until_rules (items_in self.now.declarations.now) one.now ≡ [] }
         requires rules { rules.performed_rules (scope_in self.now.declarations.now).procedures all_permitted (rules.statement_rules (scope_in self.now.declarations.now) all_permitted) performed.now ≡ [] }
         ensures { OnOk result (code.new ≡ joined code.old (spec.turning_piece (turn_piece (scope_in self.now.declarations.now) (statement_piece (scope_in self.now.declarations.now)) line performed.now) (both (spec.vary_on_piece (items_in self.now.declarations.now) one.now.varying) (condition_piece (items_in self.now.declarations.now) one.now.condition)) code.old)) }
@@ -141,7 +141,7 @@ impl<'a> Emitter<'a> {
         performed: &Performed<Statement>,
     ) -> Result<(), AllocError>
         requires declared { IsDeclared self.now.declarations.now }
-        requires entries { entry_rules self.now.declarations.now.program.now.storage ≡ [] }
+        requires entries { entry_rules self.now.declarations.now.storage.now ≡ [] }
         requires turns { until_rules (items_in self.now.declarations.now) one.now ≡ [] }
         requires rules { rules.performed_rules (scope_in self.now.declarations.now).procedures all_permitted (rules.statement_rules (scope_in self.now.declarations.now) all_permitted) performed.now ≡ [] }
         ensures { OnOk result (code.new ≡ joined code.old (spec.until_after_piece (condition_piece (items_in self.now.declarations.now) one.now.condition) (spec.vary_on_piece (items_in self.now.declarations.now) one.now.varying) (turn_piece (scope_in self.now.declarations.now) (statement_piece (scope_in self.now.declarations.now)) line performed.now) code.old)) }

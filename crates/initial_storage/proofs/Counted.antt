@@ -11,14 +11,13 @@ use Rattle.source_tree.specs.declared.entry.ConditionEntry.{ConditionEntry}
 use Rattle.source_tree.specs.declared.entry.Entry.{Entry}
 use Rattle.source_tree.specs.declared.entry.Entry.TheVariants.{Item, Condition}
 use Rattle.source_tree.specs.declared.select.FileDescription.{FileDescription}
-use Rattle.source_tree.specs.declared.program.Program.{Program}
 use Rattle.source_tree.specs.Levels.{Forest, End, Tree, level_of, deeper, beyond, nested}
 use Rattle.source_tree.specs.Clauses.{nothing_around, inside, occurrences}
 use Rattle.source_tree.specs.Rooms.{redefines, item_with}
 use Rattle.source_tree.specs.Places.{Placed, Surroundings, within, places, top, storage_places, items_of}
-use Rattle.source_tree.specs.Records.{storage_areas, record_places, file_places, program_items}
+use Rattle.source_tree.specs.Records.{storage_areas, record_places, file_places}
 use Rattle.source_tree.specs.Initializing.{Pattern}
-use Rattle.initial_storage.specs.Patterns.{Outline, outline, outline_of, outlines, file_outlines, program_outlines, outline_pattern, pattern_at, IsFoundAt}
+use Rattle.initial_storage.specs.Patterns.{Outline, outline, outline_of, outlines, file_outlines, outlines_with, items_with, outline_pattern, pattern_at, IsFoundAt}
 use Rattle.initial_storage.specs.declared.outlines.Found.{Found}
 
 abbrev pub entry_count : List Entry → ℕ
@@ -102,11 +101,11 @@ files_outlined area (one ∷ more) =
     ∙ ap (λ l. l ++ map outline_of (file_places (area + 1) more)) (record_outlined area one.name (nested one.entries))
     ∙ ap (λ l. outlines nothing_around (nested one.entries) ++ l) (files_outlined (area + 1) more)
 
-items_outlined : (program : Program) → map outline_of (program_items program) ≡ program_outlines program
-items_outlined program =
-    map-append outline_of (items_of program.storage) (file_places (storage_areas program.storage) program.files)
-    ∙ ap (λ l. l ++ map outline_of (file_places (storage_areas program.storage) program.files)) (storage_outlined 0 (nested program.storage))
-    ∙ ap (λ l. outlines nothing_around (nested program.storage) ++ l) (files_outlined (storage_areas program.storage) program.files)
+items_outlined : (storage : List Entry) (files : List FileDescription) → map outline_of (items_with storage files) ≡ outlines_with storage files
+items_outlined storage files =
+    map-append outline_of (items_of storage) (file_places (storage_areas storage) files)
+    ∙ ap (λ l. l ++ map outline_of (file_places (storage_areas storage) files)) (storage_outlined 0 (nested storage))
+    ∙ ap (λ l. outlines nothing_around (nested storage) ++ l) (files_outlined (storage_areas storage) files)
 
 -- ---- the item of a number, in one list or in the one behind it
 
@@ -139,10 +138,10 @@ same_pattern : (one : Option Placed) → pattern_at one ≡ pattern_in (option_m
 same_pattern None = refl
 same_pattern (Some one) = refl
 
-pub pattern_outlined : (program : Program) (n : ℕ) (found : Option Outline) → slice_get (program_outlines program) n ≡ found
-    → pattern_at (slice_get (program_items program) n) ≡ pattern_in found
-pattern_outlined program n found is =
-    same_pattern (slice_get (program_items program) n)
-    ∙ ap pattern_in (sym (slice_get-map outline_of (program_items program) n))
-    ∙ ap (λ (l : List Outline). pattern_in (slice_get l n)) (items_outlined program)
+pub pattern_outlined : (storage : List Entry) (files : List FileDescription) (n : ℕ) (found : Option Outline) → slice_get (outlines_with storage files) n ≡ found
+    → pattern_at (slice_get (items_with storage files) n) ≡ pattern_in found
+pattern_outlined storage files n found is =
+    same_pattern (slice_get (items_with storage files) n)
+    ∙ ap pattern_in (sym (slice_get-map outline_of (items_with storage files) n))
+    ∙ ap (λ (l : List Outline). pattern_in (slice_get l n)) (items_outlined storage files)
     ∙ ap pattern_in is

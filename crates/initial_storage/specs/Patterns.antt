@@ -3,13 +3,14 @@ use Rattle.std.specs.Prelude.{◌≡◌, ℕ, List, [], ◌∷◌, ◌++◌, map
 use Rattle.picture.specs.declared.picture.Picture.{Picture}
 use Rattle.items.specs.declared.item.Item.{Item}
 use Rattle.source_tree.specs.declared.entry.Around.{Around}
+use Rattle.source_tree.specs.declared.entry.Entry.{Entry}
 use Rattle.source_tree.specs.declared.entry.ItemEntry.{ItemEntry}
 use Rattle.source_tree.specs.declared.select.FileDescription.{FileDescription}
-use Rattle.source_tree.specs.declared.program.Program.{Program}
 use Rattle.source_tree.specs.Levels.{Forest, End, Tree, nested}
 use Rattle.source_tree.specs.Clauses.{nothing_around, inside, editing_of}
 use Rattle.source_tree.specs.Rooms.{item_with}
-use Rattle.source_tree.specs.Places.{Placed}
+use Rattle.source_tree.specs.Places.{Placed, items_of}
+use Rattle.source_tree.specs.Records.{storage_areas, file_places}
 use Rattle.source_tree.specs.Initializing.{Pattern, by_kind, entries_pattern, initialized, named_pattern}
 use Rattle.initial_storage.specs.Fits.{Fits, FitsEntry}
 use Rattle.initial_storage.specs.Formed.{HasForm, AreFormed}
@@ -60,8 +61,12 @@ abbrev pub file_outlines : List FileDescription → List Outline
 file_outlines [] = []
 file_outlines (one ∷ more) = outlines nothing_around (nested one.entries) ++ file_outlines more
 
-abbrev pub program_outlines : Program → List Outline
-program_outlines program = outlines nothing_around (nested program.storage) ++ file_outlines program.files
+-- All items of a program with this working storage and these files, where they stand, and without their places.
+abbrev pub items_with : List Entry → List FileDescription → List Placed
+items_with storage files = items_of storage ++ file_places (storage_areas storage) files
+
+abbrev pub outlines_with : List Entry → List FileDescription → List Outline
+outlines_with storage files = outlines nothing_around (nested storage) ++ file_outlines files
 
 -- what INITIALIZE puts into it
 abbrev pub outline_pattern : Outline → Pattern

@@ -4,14 +4,13 @@ ghost use Rattle.std.specs.Prelude.{◌≡◌, ◌++◌, [], slice_get, IfOk, On
 ghost use Rattle.source_tree.specs.EntryRules.{entry_rules};
 ghost use Rattle.source_tree.specs.FileRules.{descriptions_rules};
 ghost use Rattle.source_tree.specs.Levels.{nested};
-ghost use Rattle.source_tree.specs.Records.{program_items};
 ghost use Rattle.initial_storage.specs.Patterns as spec;
-ghost use Rattle.initial_storage.specs.Patterns.{StandsWell, bytes_of_pattern, marks_of_pattern};
+ghost use Rattle.initial_storage.specs.Patterns.{StandsWell, bytes_of_pattern, items_with, marks_of_pattern};
 
 use crate::outlines::{Found, program_item_at};
 use crate::patterns::{put_initialized, put_within};
 use entries::{editing, elementary, inside, levels_are_told, picture_of, record_levels_are_told};
-use source_tree::Program;
+use source_tree::{Entry, FileDescription};
 use sqlite_items::Items;
 use std::alloc::{AllocError, Global};
 
@@ -64,17 +63,18 @@ fn put_named(alloc: Global, found: Found<'_>, out: &mut Vec<Option<u8>>) -> Resu
 /// What comes in the place of each byte of the item of that number; of none where there is no such item.
 fn pattern_at(
     alloc: Global,
-    program: &Program,
+    storage: &[Entry],
+    files: &[FileDescription],
     number: usize,
 ) -> Result<Vec<Option<u8>>, AllocError>
-    requires storage { entry_rules program.now.storage ≡ [] }
-    requires files { descriptions_rules program.now.storage program.now.files ≡ [] }
-    ensures { IfOk result (λ pattern. pattern.items ≡ spec.pattern_at (slice_get (program_items program.now) number)) }
+    requires storage { entry_rules storage.now ≡ [] }
+    requires files { descriptions_rules storage.now files.now ≡ [] }
+    ensures { IfOk result (λ pattern. pattern.items ≡ spec.pattern_at (slice_get (items_with storage.now files.now) number)) }
 {
     levels_are_told();
     record_levels_are_told();
     let mut pattern = Vec::new(alloc);
-    match program_item_at(program, number) {
+    match program_item_at(storage, files, number) {
         None => Ok(pattern),
         Some(found) => {
             put_named(alloc, found, &mut pattern)?;
@@ -83,19 +83,20 @@ fn pattern_at(
     }
 }
 
-/// What INITIALIZE puts into the item of that number in a program whose entries and files' descriptions keep the rules. Numbers count
+/// What INITIALIZE puts into the item of that number, where the entries of working storage and the descriptions of files keep the rules. Numbers count
 /// from 0, those of records behind those of working storage; where there is no such item there are no bytes.
 pub fn initialized_item(
     alloc: Global,
-    program: &Program,
+    storage: &[Entry],
+    files: &[FileDescription],
     number: usize,
 ) -> Result<NewBytes, AllocError>
-    requires storage { entry_rules program.now.storage ≡ [] }
-    requires files { descriptions_rules program.now.storage program.now.files ≡ [] }
-    ensures bytes { IfOk result (λ new. new.bytes ≡ bytes_of_pattern (spec.pattern_at (slice_get (program_items program.now) number))) }
-    ensures marks { IfOk result (λ new. new.marks ≡ marks_of_pattern (spec.pattern_at (slice_get (program_items program.now) number))) }
+    requires storage { entry_rules storage.now ≡ [] }
+    requires files { descriptions_rules storage.now files.now ≡ [] }
+    ensures bytes { IfOk result (λ new. new.bytes ≡ bytes_of_pattern (spec.pattern_at (slice_get (items_with storage.now files.now) number))) }
+    ensures marks { IfOk result (λ new. new.marks ≡ marks_of_pattern (spec.pattern_at (slice_get (items_with storage.now files.now) number))) }
 {
-    let pattern = pattern_at(alloc, program, number)?;
+    let pattern = pattern_at(alloc, storage, files, number)?;
     let bytes = bytes_of(alloc, &pattern)?;
     let marks = marks_of(alloc, &pattern)?;
     Ok(NewBytes { bytes, marks })

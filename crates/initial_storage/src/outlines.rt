@@ -7,11 +7,11 @@ ghost use Rattle.source_tree.specs.Levels.{nested};
 ghost use Rattle.source_tree.specs.Clauses.{nothing_around};
 ghost use Rattle.initial_storage.specs.Fits.{Fits, FitsFile};
 ghost use Rattle.initial_storage.specs.Formed.{AreFormed, FormsFile};
-ghost use Rattle.initial_storage.specs.Patterns.{IsFoundAt, outlines, file_outlines, program_outlines};
+ghost use Rattle.initial_storage.specs.Patterns.{IsFoundAt, outlines, file_outlines, outlines_with};
 
 use crate::storage::NOTHING_AROUND;
 use entries::{Sibling, inside, next_item};
-use source_tree::{Around, Entry, FileDescription, Program};
+use source_tree::{Around, Entry, FileDescription};
 
 /// An item, and what the groups around it say of it.
 #[derive(Clone, Copy)]
@@ -77,18 +77,21 @@ fn record_item_at(files: &[FileDescription], number: usize) -> Option<Found<'_>>
     None
 }
 
-/// The item of that number in a program: those of working storage come first, and then those of the records of its files.
-pub fn program_item_at(program: &Program, number: usize) -> Option<Found<'_>>
-    requires fits { Fits nothing_around (nested program.now.storage) }
-    requires formed { AreFormed nothing_around (nested program.now.storage) }
-    requires files_fit { AllByRecursion FitsFile program.now.files }
-    requires files_formed { AllByRecursion FormsFile program.now.files }
-    ensures { IsFoundAt (program_outlines program.now) number result }
+/// The item of that number: those of working storage come first, and then those of the records of files.
+pub fn program_item_at<'a>(
+    storage: &'a [Entry],
+    files: &'a [FileDescription],
+    number: usize,
+) -> Option<Found<'a>>
+    requires fits { Fits nothing_around (nested storage.now) }
+    requires formed { AreFormed nothing_around (nested storage.now) }
+    requires files_fit { AllByRecursion FitsFile files.now }
+    requires files_formed { AllByRecursion FormsFile files.now }
+    ensures { IsFoundAt (outlines_with storage.now files.now) number result }
 {
-    let storage = program.storage.as_slice();
     let within = count_items(storage);
     if number < within {
         return item_at(storage, number);
     }
-    record_item_at(program.files.as_slice(), number - within)
+    record_item_at(files, number - within)
 }

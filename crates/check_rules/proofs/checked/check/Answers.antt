@@ -2,9 +2,7 @@ use Rattle.std.proofs.Common.{◌≡◌, [], ◌++◌, Ok, Err, subst, sym, ap, 
 use Rattle.std.specs.Prelude.{Result}
 use Rattle.std.proofs.lemmas.Result.{err_from_is_err_and}
 use Rattle.std.specs.Result.{OnOk, result_map_both}
-use Rattle.source_tree.specs.declared.program.Program.{Program}
-use Rattle.source_tree.specs.Recursion.{HasOrder}
-use Rattle.source_tree.specs.Rules.{sections_rules, procedure_rules, program_rules, all_permitted}
+use Rattle.source_tree.specs.Rules.{sections_rules, procedure_rules, all_permitted}
 use Rattle.source_tree.specs.Setting.{scope}
 use Rattle.entry_rules.specs.Checks.{fault_of}
 use Rattle.check_rules.specs.Declaring.{declaration_rules}
@@ -39,19 +37,17 @@ ruled : (c : In_ok-declarations-2) → (c.in_ok-declarations-2.declarations ≡ 
 ruled c = nothing_failed c.in_ok-declarations.declarations c.procedure_division_rules-ruled.result c.in_ok-declarations-2.declarations tt (sym c.beside.ensures ∙ c.in_ok-declarations-2.was)
 
 pub returns-clause-kept : goal.returns-clause-kept
-returns-clause-kept c =
-    subst (λ (p : Program). program_rules p ≡ []) c.in_ok-declarations.ensures.program
-    (at_ok c.procedure_division_rules-ruled.result tt c.procedure_division_rules-ruled.ensures.kept (ruled c).1)
+returns-clause-kept c = at_ok c.procedure_division_rules-ruled.result tt c.procedure_division_rules-ruled.ensures.kept (ruled c).1
 
 pub returns-clause-order : goal.returns-clause-order
-returns-clause-order c =
-    subst HasOrder c.in_ok-declarations.ensures.program (at_ok c.procedure_division_rules-ruled.result tt c.procedure_division_rules-ruled.ensures.order (ruled c).1)
+returns-clause-order c = at_ok c.procedure_division_rules-ruled.result tt c.procedure_division_rules-ruled.ensures.order (ruled c).1
 
 pub invariant_of-result : goal.invariant_of-result
 invariant_of-result c =
     let h = ruled c in
-    subst KeepsRules (sym h.0) (record {
+    subst (KeepsRules c.args.program.now) (sym h.0) (record {
       rules = at_ok c.procedure_division_rules-ruled.result tt c.procedure_division_rules-ruled.ensures.kept h.1;
       order = at_ok c.procedure_division_rules-ruled.result tt c.procedure_division_rules-ruled.ensures.order h.1;
+      declares = c.in_ok-declarations.ensures.program;
       declared = c.in_ok-declarations.ensures.declared;
     })

@@ -1,7 +1,6 @@
-use Rattle.check_rules.specs.Named.{items_in}
-use Rattle.codegen.proofs.ConditionValues.{descriptions_kept}
+use Rattle.std.proofs.Common.{ap, ◌∙◌}
+use Rattle.codegen.proofs.Declared.{descriptions_by, items_by}
 use Rattle.codegen.proofs.storage.storage_tables.Goals as goal
 
 pub of-requires-clause-files : goal.of-requires-clause-files
-of-requires-clause-files c =
-    let declarations = c.args.declarations.now in descriptions_kept (items_in declarations) declarations.program.now c.requires.declared.file_rules
+of-requires-clause-files c = descriptions_by c.args.program.now c.args.declarations.now c.requires.program c.requires.declared

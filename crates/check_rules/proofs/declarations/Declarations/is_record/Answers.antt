@@ -1,42 +1,39 @@
-use Rattle.std.proofs.Common.{◌≡◌, ◌+◌, List, ◌++◌, Some, length, sym, ap, ◌∙◌, arith, length-append}
+use Rattle.std.proofs.Common.{◌≡◌, ◌+◌, ◌++◌, Some, length, ap, ◌∙◌, arith, length-append}
 use Rattle.std.specs.Prelude.{slice_get}
 use Rattle.std.proofs.lemmas.Option.{slice_get_within}
-use Rattle.source_tree.specs.declared.entry.Entry.{Entry}
-use Rattle.source_tree.specs.declared.select.FileDescription.{FileDescription}
 use Rattle.check_rules.specs.Entries.{items_among, items_of_files}
+use Rattle.check_rules.specs.Named.{data_in}
 use Rattle.check_rules.proofs.EntryNumbers.{in_front, past_front, same_level}
 use Rattle.check_rules.proofs.ItemEntries.{entry_at}
 use Rattle.check_rules.proofs.declarations.Declarations.is_record.Goals as goal
 
 pub returns-in-Ok : goal.returns-in-Ok
 returns-in-Ok c = λ one there.
-    let program = c.args.self.now.program.now in
+    let program = data_in c.args.self.now in
     let storage = items_among program.storage in
     let all = storage ++ items_of_files program.files in
-    let here : slice_get storage c.args.number ≡ Some c.in-Ok.one.now = ap (λ (l : List Entry). slice_get (items_among l) c.args.number) (sym c.as_slice.ensures) ∙ c.in-Ok.ensures in
+    let here : slice_get storage c.args.number ≡ Some c.in-Ok.one.now = c.in-Ok.ensures in
     same_level c.in-Ok.one.now one.entry c.is_outermost.result all c.args.number (in_front storage (items_of_files program.files) c.args.number c.in-Ok.one.now here)
     (entry_at program c.args.number one there) c.is_outermost.ensures
 
 pub returns-in-Ok-record_among : goal.returns-in-Ok-record_among
 returns-in-Ok-record_among c = λ one there.
-    let program = c.args.self.now.program.now in
+    let program = data_in c.args.self.now in
     let storage = items_among program.storage in
     let records = items_of_files program.files in
-    let passed : c.args.number ≡ length storage + c.in-Err.behind = c.in-Err.ensures ∙ ap (λ (l : List Entry). length (items_among l) + c.in-Err.behind) c.as_slice.ensures in
-    let here : slice_get records c.in-Err.behind ≡ Some c.in-Ok-record_among.one.now =
-    ap (λ (l : List FileDescription). slice_get (items_of_files l) c.in-Err.behind) (sym c.as_slice-2.ensures) ∙ c.in-Ok-record_among.ensures in
+    let passed : c.args.number ≡ length storage + c.in-Err.behind = c.in-Err.ensures in
+    let here : slice_get records c.in-Err.behind ≡ Some c.in-Ok-record_among.one.now = c.in-Ok-record_among.ensures in
     same_level c.in-Ok-record_among.one.now one.entry c.is_outermost-in-Ok-record_among.result (storage ++ records) c.args.number
     (ap (slice_get (storage ++ records)) passed ∙ past_front storage records c.in-Err.behind ∙ here)
     (entry_at program c.args.number one there) c.is_outermost-in-Ok-record_among.ensures
 
 pub returns-in-Err-record_among : goal.returns-in-Err-record_among
 returns-in-Err-record_among c = λ one there.
-    let program = c.args.self.now.program.now in
+    let program = data_in c.args.self.now in
     let storage = items_among program.storage in
     let records = items_of_files program.files in
-    let passed : c.args.number ≡ length storage + c.in-Err.behind = c.in-Err.ensures ∙ ap (λ (l : List Entry). length (items_among l) + c.in-Err.behind) c.as_slice.ensures in
-    let beyond : c.in-Err.behind ≡ length records + c.in-Err-record_among.field-0 =
-    c.in-Err-record_among.ensures ∙ ap (λ (l : List FileDescription). length (items_of_files l) + c.in-Err-record_among.field-0) c.as_slice-2.ensures in
+    let passed : c.args.number ≡ length storage + c.in-Err.behind = c.in-Err.ensures in
+    let beyond : c.in-Err.behind ≡ length records + c.in-Err-record_among.field-0 = c.in-Err-record_among.ensures in
     let within = slice_get_within (storage ++ records) c.args.number one.entry (entry_at program c.args.number one there) in
     let both = length-append storage records in
     absurd (omega (arith, within, both, passed, beyond))

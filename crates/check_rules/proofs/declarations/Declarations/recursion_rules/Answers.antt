@@ -10,23 +10,23 @@ use Rattle.check_rules.proofs.declarations.Declarations.recursion_rules.Goals as
 
 pub order_of-requires : goal.order_of-requires
 order_of-requires c =
-    let program = c.args.self.now.program.now in
+    let program = c.args.program.now in
     let all = c.sections_performs.new.all in
     let count = c.in_ok-count.count in
-    let h = collected c.args.self.now c.as_slice.result.now c.new-all.result all count c.as_slice.ensures
+    let h = collected program c.args.self.now c.as_slice.result.now c.new-all.result all count c.requires.program c.as_slice.ensures
     c.new-all.ensures.places c.new-all.ensures.ranges c.in_ok-count.ensures.count c.in_ok-count.ensures.added in
-    subst (All (IsRange count)) (sym c.deref.ensures.value) (collected_ranges c.args.self.now all count c.requires.kept h)
+    subst (All (IsRange count)) (sym c.deref.ensures.value) (collected_ranges program c.args.self.now all count c.requires.program c.requires.kept h)
 
 pub first_back-requires : goal.first_back-requires
 first_back-requires c =
-    let program = c.args.self.now.program.now in
+    let program = c.args.program.now in
     let all = c.sections_performs.new.all in
     let count = c.in_ok-count.count in
-    let h = collected c.args.self.now c.as_slice.result.now c.new-all.result all count c.as_slice.ensures
+    let h = collected program c.args.self.now c.as_slice.result.now c.new-all.result all count c.requires.program c.as_slice.ensures
     c.new-all.ensures.places c.new-all.ensures.ranges c.in_ok-count.ensures.count c.in_ok-count.ensures.added in
     let fits : count < 2 ^ 64 = omega arith in
     subst (All HasNext) (sym c.deref-2.ensures.value)
-    (ranges_end count all.ranges.items fits (collected_ranges c.args.self.now all count c.requires.kept h))
+    (ranges_end count all.ranges.items fits (collected_ranges program c.args.self.now all count c.requires.program c.requires.kept h))
 
 pub unreachable-requires : goal.unreachable-requires
 unreachable-requires c =
@@ -37,10 +37,10 @@ unreachable-requires c =
 
 pub index-requires : goal.index-requires
 index-requires c =
-    let program = c.args.self.now.program.now in
+    let program = c.args.program.now in
     let all = c.sections_performs.new.all in
     let count = c.in_ok-count.count in
-    let h = collected c.args.self.now c.as_slice.result.now c.new-all.result all count c.as_slice.ensures
+    let h = collected program c.args.self.now c.as_slice.result.now c.new-all.result all count c.requires.program c.as_slice.ensures
     c.new-all.ensures.places c.new-all.ensures.ranges c.in_ok-count.ensures.count c.in_ok-count.ensures.added in
     let found = c.in-Some.ensures in
     let there = slice_get_within c.deref-2.result.now c.in-Some.number found.one found.stands in
@@ -51,10 +51,10 @@ index-requires c =
 
 pub returns-clause-back : goal.returns-clause-back
 returns-clause-back c =
-    let program = c.args.self.now.program.now in
+    let program = c.args.program.now in
     let all = c.sections_performs.new.all in
     let count = c.in_ok-count.count in
-    let h = collected c.args.self.now c.as_slice.result.now c.new-all.result all count c.as_slice.ensures
+    let h = collected program c.args.self.now c.as_slice.result.now c.new-all.result all count c.requires.program c.as_slice.ensures
     c.new-all.ensures.places c.new-all.ensures.ranges c.in_ok-count.ensures.count c.in_ok-count.ensures.added in
     let ring = ring_at count c.deref.result.now c.deref-2.result.now c.in_ok-order_of.field-0 c.in-Recursive.marked c.as_slice-2.result.now
     c.in_ok-order_of.ensures c.in-Recursive.is c.as_slice-2.ensures (c.deref.ensures.value ∙ sym c.deref-2.ensures.value) in (

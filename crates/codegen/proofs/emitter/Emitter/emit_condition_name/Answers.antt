@@ -7,7 +7,7 @@ use Rattle.source_tree.specs.Broken.{each}
 use Rattle.source_tree.specs.NameRules.{subscript_rules}
 use Rattle.data_instructions.specs.declared.index.ItemIndex.{ItemIndex}
 use Rattle.data_instructions.specs.declared.instruction.DataInstruction.TheVariants as i
-use Rattle.check_rules.specs.Named.{items_in}
+use Rattle.check_rules.specs.Named.{data_in, items_in}
 use Rattle.codegen.specs.Pieces.{joined, both}
 use Rattle.codegen.specs.DataCode.{dimensions_of, work_piece, works_piece, subscripts_piece}
 use Rattle.codegen.specs.ConditionCode.{condition_item, values_piece, condition_name_piece}
@@ -26,8 +26,8 @@ pub emit_values-requires : goal.emit_values-requires
 emit_values-requires c =
     let declarations = c.args.self.now.declarations.now in
     subst AreFormedValues (sym c.values_named.ensures)
-    (values_formed declarations.program.now c.args.one.now.item c.requires.entries
-    (descriptions_kept (items_in declarations) declarations.program.now c.requires.declared.file_rules))
+    (values_formed (data_in declarations) c.args.one.now.item c.requires.entries
+    (descriptions_kept (items_in declarations) (data_in declarations) c.requires.declared.file_rules))
 
 pub returns : goal.returns
 returns c =

@@ -4,7 +4,7 @@ use Rattle.source_tree.specs.Filing.{file_with_record}
 use Rattle.source_tree.specs.LookUp.{first}
 use Rattle.source_tree.specs.Places.{Placed}
 use Rattle.source_tree.specs.ProgramFiles.{files_with}
-use Rattle.check_rules.specs.Named.{items_in, files_in}
+use Rattle.check_rules.specs.Named.{data_in, items_in, files_in}
 use Rattle.codegen.proofs.OneNamed.{area_named, not_missing}
 use Rattle.codegen.proofs.emitter.Emitter.file_of_record.Goals as goal
 
@@ -24,4 +24,4 @@ returns c =
     ap (λ (one : Option Placed). file_with_record files one) (ap first named.named)
     ∙ ap (λ (area : ℕ). first (files_with files area))
     (sym (area_named items c.args.one.now named declarations.layout.items c.item_number-number.result c.requires.declared.items c.item_number-number.ensures found c.in_ok-found.ensures.value))
-    ∙ c.file_with.ensures items declarations.program.now c.requires.declared.files
+    ∙ c.file_with.ensures items (data_in declarations) c.requires.declared.files
