@@ -36,9 +36,9 @@ module _ (program : Program) (all : Declarations) (h : Declares program all) whe
 
   pub same_scope : scope_in all ≡ scope program
   same_scope =
-      let with_files : Program → Scope = λ data. record {
-        items = program_items data;
-        files = files_from (program_items data) (storage_areas data.storage) data.files 0 data.selects;
+      let with_files : Program → Scope = λ shown. record {
+        items = program_items shown;
+        files = files_from (program_items shown) (storage_areas shown.storage) shown.files 0 shown.selects;
         procedures = procedures_in all;
       } in
       let with_procedures : List Procedure → Scope = λ procedures. record {
@@ -53,8 +53,8 @@ module _ (program : Program) (all : Declarations) (h : Declares program all) whe
       → AreConditions (program_items program) all.conditions → AreFiles (program_items program) program all.files
       → program_file_rules (program_items program) program ≡ [] → AreProcedures (procedures_of program.sections) all.procedures → IsDeclared all
   declared_by table calls items conditions files rules procedures =
-      let data : Program = with_data program.selects program.files program.storage in
-      let own : AreFiles (program_items data) data all.files = record { files = files.files; numbers = files.numbers; names = files.names } in
+      let own_data : Program = with_data program.selects program.files program.storage in
+      let own : AreFiles (program_items own_data) own_data all.files = record { files = files.files; numbers = files.numbers; names = files.names } in
       record {
         table = table;
         calls = calls ∙ ap (map called_item) (sym same_items);

@@ -86,6 +86,10 @@ pub unnamed_two : (place : Place) (found : List tree.ProgramFile) (one other : t
     → (rules : tree.ProgramFile → List Broken) → first (named place rules found) ≡ Some (record { rule = 41; place = place })
 unnamed_two place found one other more e rules = ap (λ (l : List tree.ProgramFile). first (named place rules l)) e
 
+pub none_first : (found : List tree.ProgramFile) → first found ≡ None → found ≡ []
+none_first [] e = refl
+none_first (one ∷ more) e = absurd cc
+
 -- the files of a program, as they are sought
 pub of_program : (items : List Placed) (program : Program) (all files : List ProgramFile) (area : ℕ) (l : List tree.ProgramFile) → map (file_in items) all ≡ tree.files_of items program → files ≡ all
     → filter (λ (one : tree.ProgramFile). one.places.area == area) (map (file_in items) files) ≡ l → tree.files_with (tree.files_of items program) area ≡ l

@@ -1,5 +1,6 @@
 pub mod Firsts
 pub mod Declared
+pub mod Listing
 pub mod GivenNames
 pub mod Parts
 pub mod Operations

@@ -66,17 +66,21 @@ impl<'a> Declarations<'a> {
         } = items;
         let conditions = condition_names(alloc, &names, program)?;
         let files = ProgramFiles::of(alloc, program, &names, &layout)?;
+        let selects = program.selects.as_slice();
+        let descriptions = program.files.as_slice();
+        let storage = program.storage.as_slice();
         let sections = program.sections.as_slice();
         let procedures = named_procedures(alloc, sections)?;
+        let procedure_list = listed_procedures(alloc, sections)?;
         Ok(Declarations {
-            selects: program.selects.as_slice(),
-            descriptions: program.files.as_slice(),
-            storage: program.storage.as_slice(),
+            selects,
+            descriptions,
+            storage,
             names,
             layout,
             conditions,
             files,
-            procedure_list: listed_procedures(alloc, sections)?,
+            procedure_list,
             procedures,
         })
     }

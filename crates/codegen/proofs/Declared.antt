@@ -7,14 +7,14 @@ use Rattle.source_tree.specs.declared.select.FileDescription.{FileDescription}
 use Rattle.source_tree.specs.declared.select.Select.{Select}
 use Rattle.source_tree.specs.EntryRules.{entry_rules}
 use Rattle.source_tree.specs.FileRules.{descriptions_rules}
+use Rattle.source_tree.specs.Records.{program_areas}
 use Rattle.source_tree.specs.Rules.{all_permitted, sections_rules}
 use Rattle.source_tree.specs.Setting.{Scope, scope}
 use Rattle.code_image.specs.declared.code.Code.{Code}
 use Rattle.check_rules.specs.declared.declarations.Declarations.{Declarations}
 use Rattle.check_rules.specs.Named.{Declares, IsDeclared, data_in, files_in, items_in, scope_in}
 use Rattle.check_rules.proofs.Declared.{same_scope}
-use Rattle.codegen.specs.FileCode.{code_files}
-use Rattle.codegen.specs.Layout.{code_of, end_piece, section_piece, storage_code, storage_items}
+use Rattle.codegen.specs.Layout.{code_of, end_piece, section_piece, storage_code, storage_with}
 use Rattle.codegen.specs.Pieces.{in_order, joined}
 use Rattle.codegen.proofs.ConditionValues.{descriptions_kept}
 
@@ -34,22 +34,22 @@ module _ (program : Program) (all : Declarations) (h : Declares program all) whe
       ap (sections_rules (scope_in all) all_permitted) same
       ∙ ap (λ (found : Scope). sections_rules found all_permitted program.sections) (same_scope program all h) ∙ kept
 
-  -- items and files in the tables of code
-  pub items_by : storage_items (items_in all) (files_in all) ≡ storage_items (scope program).items (scope program).files
-  items_by = ap (λ (found : Scope). storage_items found.items found.files) (same_scope program all h)
+  -- the code before the first statement
+  pub stored_by : storage_with (program_areas program) (items_in all) all.selects.now (files_in all) ≡ storage_code program
+  stored_by =
+      ap (λ (l : List Select). storage_with (program_areas program) (items_in all) l (files_in all)) h.selects
+      ∙ ap (λ (found : Scope). storage_with (program_areas program) found.items program.selects found.files) (same_scope program all h)
 
-  pub files_by : code_files (items_in all) all.selects.now (files_in all) ≡ code_files (scope program).items program.selects (scope program).files
-  files_by =
-      ap (λ (l : List Select). code_files (items_in all) l (files_in all)) h.selects
-      ∙ ap (λ (found : Scope). code_files found.items program.selects found.files) (same_scope program all h)
-
-  -- the code of the sections behind that of storage, and the end
-  pub code_by : (sections : List Section) (storage behind whole : Code) → sections ≡ program.sections → storage ≡ storage_code program
+  -- the code of the sections behind that, and the end
+  pub code_by : (given : Program) (sections : List Section) (storage behind whole : Code) → given ≡ program → sections ≡ given.sections
+      → storage ≡ storage_with (program_areas given) (items_in all) all.selects.now (files_in all)
       → behind ≡ joined storage (in_order (section_piece (scope_in all)) sections storage) → whole ≡ joined behind end_piece → whole ≡ code_of program
-  code_by sections storage behind whole same is next last =
+  code_by given sections storage behind whole same within is next last =
+      let stored : storage ≡ storage_code program =
+      is ∙ ap (λ (p : Program). storage_with (program_areas p) (items_in all) all.selects.now (files_in all)) same ∙ stored_by in
       last
       ∙ ap (λ (code : Code). joined code end_piece)
         (next
-        ∙ ap (λ (l : List Section). joined storage (in_order (section_piece (scope_in all)) l storage)) same
+        ∙ ap (λ (l : List Section). joined storage (in_order (section_piece (scope_in all)) l storage)) (within ∙ ap (λ (p : Program). p.sections) same)
         ∙ ap (λ (found : Scope). joined storage (in_order (section_piece found) program.sections storage)) (same_scope program all h)
-        ∙ ap (λ (code : Code). joined code (in_order (section_piece (scope program)) program.sections code)) is)
+        ∙ ap (λ (code : Code). joined code (in_order (section_piece (scope program)) program.sections code)) stored)

@@ -37,6 +37,7 @@ use Rattle.source_tree.specs.declared.program.Sentence.{Sentence}
 use Rattle.source_tree.specs.declared.program.Paragraph.{Paragraph}
 use Rattle.source_tree.specs.declared.program.Section.{Section}
 use Rattle.source_tree.specs.declared.program.Program.{Program}
+use Rattle.source_tree.specs.declared.select.Select.{Select}
 use Rattle.source_tree.specs.Evaluate.{selected_asked}
 use Rattle.source_tree.specs.Performing.{turns_of}
 use Rattle.source_tree.specs.Places.{Placed}
@@ -277,14 +278,18 @@ end_piece = plain (Stop ∷ [])
 abbrev pub storage_items : List Placed → List ProgramFile → List DataItem
 storage_items items files = map data_item items ++ map (sent_entry items) files
 
-abbrev pub storage_tables : Program → DataTables
-storage_tables program =
-    record no_tables { areas = program_areas program; items = storage_items (scope program).items (scope program).files }
+-- the tables before the first statement, by these
+abbrev pub tables_with : List (List ℕ) → List Placed → List ProgramFile → DataTables
+tables_with areas items files = record no_tables { areas = areas; items = storage_items items files }
 
--- the tables before the first statement
+abbrev pub storage_with : List (List ℕ) → List Placed → List Select → List ProgramFile → Code
+storage_with areas items selects files = record nothing { tables = tables_with areas items files; files = code_files items selects files }
+
+abbrev pub storage_tables : Program → DataTables
+storage_tables program = tables_with (program_areas program) (scope program).items (scope program).files
+
 abbrev pub storage_code : Program → Code
-storage_code program =
-    record nothing { tables = storage_tables program; files = code_files (scope program).items program.selects (scope program).files }
+storage_code program = storage_with (program_areas program) (scope program).items program.selects (scope program).files
 
 abbrev pub code_of : Program → Code
 code_of program =

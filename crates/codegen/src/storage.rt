@@ -2,6 +2,7 @@
 
 ghost use Rattle.std.specs.Prelude.{◌≡◌, [], map, IfOk};
 ghost use Rattle.source_tree.specs.EntryRules.{entry_rules};
+ghost use Rattle.source_tree.specs.Records.{program_areas};
 ghost use Rattle.data_instructions.specs.Codes.{data_item};
 ghost use Rattle.program_files.specs.Files.{file_in};
 ghost use Rattle.check_rules.specs.Named.{Declares, IsDeclared, items_in, files_in};
@@ -135,7 +136,7 @@ fn storage_tables(
     requires declared { IsDeclared declarations.now }
     requires program { Declares program.now declarations.now }
     requires rules { entry_rules program.now.storage ≡ [] }
-    ensures { IfOk result (λ tables. tables ≡ spec.storage_tables program.now) }
+    ensures { IfOk result (λ tables. tables ≡ spec.tables_with (program_areas program.now) (items_in declarations.now) (files_in declarations.now)) }
 {
     let InitialStorage { areas } = InitialStorage::of(alloc, program)?;
     Ok(DataTables {
@@ -157,7 +158,7 @@ pub(crate) fn storage_code(
     requires declared { IsDeclared declarations.now }
     requires program { Declares program.now declarations.now }
     requires rules { entry_rules program.now.storage ≡ [] }
-    ensures { IfOk result (λ code. code ≡ spec.storage_code program.now) }
+    ensures { IfOk result (λ code. code ≡ spec.storage_with (program_areas program.now) (items_in declarations.now) declarations.now.selects.now (files_in declarations.now)) }
 {
     Ok(Code {
         tables: storage_tables(alloc, program, declarations)?,

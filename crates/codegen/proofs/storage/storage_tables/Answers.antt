@@ -1,5 +1,4 @@
-use Rattle.std.proofs.Common.{ap, ◌∙◌}
-use Rattle.codegen.proofs.Declared.{descriptions_by, items_by}
+use Rattle.codegen.proofs.Declared.{descriptions_by}
 use Rattle.codegen.proofs.storage.storage_tables.Goals as goal
 
 pub of-requires-clause-files : goal.of-requires-clause-files
