@@ -137,7 +137,7 @@ impl<'a> Emitter<'a> {
     /// A subject is taken.
     fn emit_subject(&self, code: &mut Code, one: &Subject) -> Result<(), AllocError>
         requires declared { IsDeclared self.now.declarations.now }
-        requires entries { entry_rules self.now.declarations.now.program.now.storage ≡ [] }
+        requires entries { entry_rules self.now.declarations.now.storage.now ≡ [] }
         requires rules { subject_rules (items_in self.now.declarations.now) one.now ≡ [] }
         ensures { OnOk result (code.new ≡ joined code.old (spec.subject_piece (items_in self.now.declarations.now) one.now code.old)) }
     {
@@ -151,7 +151,7 @@ impl<'a> Emitter<'a> {
     /// Subjects are taken, in order.
     fn emit_each_subject(&self, code: &mut Code, all: &[Subject]) -> Result<(), AllocError>
         requires declared { IsDeclared self.now.declarations.now }
-        requires entries { entry_rules self.now.declarations.now.program.now.storage ≡ [] }
+        requires entries { entry_rules self.now.declarations.now.storage.now ≡ [] }
         requires rules { each (subject_rules (items_in self.now.declarations.now)) all.now ≡ [] }
         ensures { OnOk result (code.new ≡ joined code.old (spec.each_subject_piece (items_in self.now.declarations.now) all.now code.old)) }
     {
@@ -168,7 +168,7 @@ impl<'a> Emitter<'a> {
         one: &Evaluate<Statement>,
     ) -> Result<(), AllocError>
         requires declared { IsDeclared self.now.declarations.now }
-        requires entries { entry_rules self.now.declarations.now.program.now.storage ≡ [] }
+        requires entries { entry_rules self.now.declarations.now.storage.now ≡ [] }
         requires rules { each (subject_rules (items_in self.now.declarations.now)) one.now.subjects ≡ [] }
         ensures { OnOk result (code.new ≡ joined code.old (spec.subjects_piece (items_in self.now.declarations.now) one.now.subjects (spec.first_object one.now.selected) code.old)) }
     {
