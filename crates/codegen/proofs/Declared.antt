@@ -49,7 +49,7 @@ module _ (program : Program) (all : Declarations) (h : Declares program all) whe
       is ∙ ap (λ (p : Program). storage_with (program_areas p) (items_in all) all.selects.now (files_in all)) same ∙ stored_by in
       last
       ∙ ap (λ (code : Code). joined code end_piece)
-        (next
-        ∙ ap (λ (l : List Section). joined storage (in_order (section_piece (scope_in all)) l storage)) (within ∙ ap (λ (p : Program). p.sections) same)
-        ∙ ap (λ (found : Scope). joined storage (in_order (section_piece found) program.sections storage)) (same_scope program all h)
-        ∙ ap (λ (code : Code). joined code (in_order (section_piece (scope program)) program.sections code)) stored)
+      (next
+      ∙ ap (λ (l : List Section). joined storage (in_order (section_piece (scope_in all)) l storage)) (within ∙ ap (λ (p : Program). p.sections) same)
+      ∙ ap (λ (found : Scope). joined storage (in_order (section_piece found) program.sections storage)) (same_scope program all h)
+      ∙ ap (λ (code : Code). joined code (in_order (section_piece (scope program)) program.sections code)) stored)

@@ -116,7 +116,7 @@ module _ (items : List Placed) where
         only.0,
         there,
         ap (λ (l : List Placed). needed (first l) >>= (λ found. occurrence items one.subscripts found storage)) only.1
-        ∙ ap (λ (e : Evaluated ℕ). e >>= (λ behind. Ok (place_behind only.0 behind))) (no_dimensions items only.0.dimensions one.subscripts storage none),
+            ∙ ap (λ (e : Evaluated ℕ). e >>= (λ behind. Ok (place_behind only.0 behind))) (no_dimensions items only.0.dimensions one.subscripts storage none),
       )
 
   -- ---- a look keeps the rules
