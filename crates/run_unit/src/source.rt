@@ -3,8 +3,7 @@
 ghost use Rattle.std.specs.Prelude.{◌≡◌, ◌↔◌, [], All, Ok, OnErr, IfOk, IfErr};
 ghost use Rattle.source_tree.specs.declared.program.Program.{Program};
 ghost use Rattle.machine.specs.Ends.{IsDigit};
-ghost use Rattle.run_unit.specs.Faults.{fault_of};
-ghost use Rattle.run_unit.specs.Trees.{IsTreeOf, IsFaultOf};
+ghost use Rattle.run_unit.specs.Trees.{IsTreeOf};
 ghost use Rattle.run_unit.specs.Ends.{IsEndOfImage, ForSource};
 ghost use Rattle.run_unit.specs.Runs.{TextRuns, call_on};
 ghost use Rattle.run_unit.specs.Volume.{IsDamageFound};
@@ -30,10 +29,8 @@ pub fn run_source<S: Station>(
     ensures sectors { S.sectors station.new ≡ S.sectors station.old }
     ensures honest { S.is_honest station.old ↔ S.is_honest station.new }
     ensures cause { ForSource result (S.failures station.old) (S.failures station.new) }
-    // A refused source text leaves the station as it was. The answer is the first fault of its stages, or a PERFORM that leads back
-    // if there is none.
+    // A refused source text leaves the station as it was. Which fault is answered is said by `compile`.
     ensures untouched { OnErr result (station.new ≡ station.old) }
-    ensures fault { IfErr result (λ e. IsFaultOf source.now (fault_of e)) }
     // Its image is never refused, and if memory runs out and the program has no files, nothing was done.
     ensures own { IfOk result IsEndOfImage }
     ensures memory { (tree : Program) → IsTreeOf source.now tree → tree.selects ≡ [] →
