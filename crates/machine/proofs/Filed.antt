@@ -143,7 +143,7 @@ module _ (code : Code) (day : List ℕ) (run : Run) (before : State) (files : Fi
   no_room : (lacks_room : List Sector → Bool → List ℕ → Files → Files → Type 0) (s : State) → s.events ≡ now.events → s.lines ≡ now.lines → is_barring did.status ≡ false
       → NoRoom lacks_room s → LacksRoom lacks_room (entries_of code.tables code.files) run before s
   unfolding step_by
-  no_room lacks_room s events lines asks no = record {
+  no_room lacks_room s events lines asks lacking = record {
     given_up = given_up s events lines asks;
     verb = verb;
     connectors = connectors;
@@ -154,9 +154,9 @@ module _ (code : Code) (day : List ℕ) (run : Run) (before : State) (files : Fi
     step_is = is;
     after_is = sym files_then;
     status_is = refl;
-    changes = no.changes;
+    changes = lacking.changes;
     room = subst (λ (name : List ℕ). lacks_room s.disk.present (makes_file verb) name files did.files)
-        (sym (ap (λ (e : Entry). e.name) (entry_here code.tables code.files file_index.number one there))) no.room;
+        (sym (ap (λ (e : Entry). e.name) (entry_here code.tables code.files file_index.number one there))) lacking.room;
   }
 
   pub refused_by : (holds : List Sector → Files → Type 0) (lacks_room : List Sector → Bool → List ℕ → Files → Files → Type 0) (s : State) (refusal : Refusal) (why : StoreFault) → why ≡ store_fault refusal → why ≢ fault.Damaged

@@ -16,7 +16,7 @@ returns c =
     let value = c.args.value.now in
     let old = c.args.code.now in
     let so : c.is_faultless.result ≡ false = first_of (search rules, grind (arith, common_steps)) in
-    is_so c.emit_relation.result c.emit_relation.new.code (joined old (relation_piece items value Equal c.zero_side.result old))
+    is_so c.emit_relation.result c.emit_relation.new.code (joined old (relation_piece items value Equal c.zero_side-zero.result old))
     (joined old (look_piece items (value_look items value) old)) c.emit_relation.ensures
-    (ap (λ (zero : Side). joined old (relation_piece items value Equal zero old)) c.zero_side.ensures
+    (ap (λ (zero : Side). joined old (relation_piece items value Equal zero old)) c.zero_side-zero.ensures
     ∙ ap (joined old) (one_look items value old (sym c.is_faultless.ensures ∙ so)))
