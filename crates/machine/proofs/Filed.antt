@@ -142,7 +142,7 @@ module _ (code : Code) (day : List ℕ) (run : Run) (before : State) (files : Fi
 
   no_room : (lacks_room : List Sector → Bool → List ℕ → Files → Files → Type 0) (s : State) → s.events ≡ now.events → s.lines ≡ now.lines → is_barring did.status ≡ false
       → NoRoom lacks_room s → LacksRoom lacks_room (entries_of code.tables code.files) run before s
-  unfolding step_by
+  unfolding step_by given_up
   no_room lacks_room s events lines asks lacking = record {
     given_up = given_up s events lines asks;
     verb = verb;
