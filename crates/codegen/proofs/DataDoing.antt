@@ -16,7 +16,7 @@ use Rattle.data_instructions.specs.declared.tables.DataTables.{DataTables}
 use Rattle.data_instructions.specs.declared.instruction.DataInstruction.{DataInstruction}
 use Rattle.data_instructions.specs.Scratch as step
 use Rattle.data_instructions.specs.Scratch.{Scratch}
-use Rattle.data_instructions.specs.Tables.{item_place}
+use Rattle.data_instructions.specs.Tables.{shortened, item_place}
 use Rattle.data_instructions.specs.Table.{at_newest, accepted}
 use Rattle.data_instructions.specs.Codes.{go_on}
 use Rattle.code_image.specs.declared.code.Code.{Code}
@@ -124,7 +124,7 @@ no_fault_at : (tables : DataTables) (line : List ℕ) (s : Scratch) (fault : Fau
 no_fault_at tables line s fault [] e = cc
 no_fault_at tables line s fault (p ∷ ps) e =
     no_fault (slice_get tables.items p.item.number)
-    (λ one. record s { places = ps; storage = storing (item_place one p.offset) (padded (item_place one p.offset).item.length line) s.storage }) fault e
+    (λ one. record s { places = ps; storage = storing (item_place (shortened one p.length) p.offset) (padded p.length line) s.storage }) fault e
 
 pub accepted_faultless : (tables : DataTables) (line : List ℕ) (s : Scratch) (fault : Fault) → accepted tables line s ≡ step.Faulted fault → ⊥
 accepted_faultless tables line s fault is = no_fault_at tables line s fault s.places is

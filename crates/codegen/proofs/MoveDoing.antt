@@ -19,7 +19,7 @@ use Rattle.data_instructions.specs.declared.tables.DataItem.{DataItem}
 use Rattle.data_instructions.specs.Codes.{data_item, go_on, works, AreReceiversCode}
 use Rattle.data_instructions.specs.Scratch.{Scratch, Step, step_at}
 use Rattle.data_instructions.specs.Table.{placed, taken as take_at}
-use Rattle.data_instructions.specs.Tables.{IsTables, item_place}
+use Rattle.data_instructions.specs.Tables.{shortened, IsTables, item_place}
 use Rattle.data_instructions.proofs.Codes.{move_works, receivers_works}
 use Rattle.code_image.specs.declared.code.Code.{Code}
 use Rattle.code_image.specs.declared.instruction.Instruction.TheVariants.{Data}
@@ -66,7 +66,7 @@ module _ (whole : Code) (kept : ℕ → Type 0) (items : List Placed)
         let index = sent_index items file in
         let rest = works whole.tables more in
         ap (λ (entry : Option DataItem). go_on (step_at entry (λ one. placed index one s)) (works whole.tables (i.Take ∷ more))) filed.sent
-        ∙ ap (λ (entry : Option DataItem). go_on (step_at entry (λ one. take_at (item_place one 0) s)) rest) filed.sent
+        ∙ ap (λ (entry : Option DataItem). go_on (step_at entry (λ one. take_at (item_place (shortened one (sent_entry items file).item.length) 0) s)) rest) filed.sent
 
     pub record IntoCoded (into : Reference) (before : Code) : Type 0 where
       pub more : List DataInstruction
