@@ -16,6 +16,7 @@ use std::process::Abort;
 const BUDGET: u64 = 100_000;
 
 /// What can be seen of a run, and the files that it leaves.
+#[derive(Drop)]
 struct Seen {
     ended: Ended,
     shown: Vec<u8>,
