@@ -17,7 +17,7 @@ const BUDGET: u64 = 100_000;
 
 /// What can be seen of a run, and the files that it leaves.
 #[derive(Drop)]
-struct Seen {
+struct RunResult {
     ended: Ended,
     shown: Vec<u8>,
     notes: Vec<Note>,
@@ -35,14 +35,19 @@ fn code_of(rt: &impl Abort, alloc: Global, image: &[u8]) -> Verified {
 }
 
 /// What a run has left on a station.
-fn seen(rt: &impl Abort, alloc: Global, ended: Ended, mut station: MemoryStation) -> Seen {
+fn read_result(
+    rt: &impl Abort,
+    alloc: Global,
+    ended: Ended,
+    mut station: MemoryStation,
+) -> RunResult {
     let shown = shown(rt, &station);
     let notes = notes(rt, &station);
     station.crash(&[]);
     let Ok(files) = files_left(rt, alloc, &mut station) else {
         panic!(rt; "no files");
     };
-    Seen {
+    RunResult {
         ended,
         shown,
         notes,
@@ -51,7 +56,7 @@ fn seen(rt: &impl Abort, alloc: Global, ended: Ended, mut station: MemoryStation
 }
 
 /// A run that keeps so many pages in memory.
-fn run_with_pages(rt: &impl Abort, alloc: Global, pages: usize) -> Seen {
+fn run_with_pages(rt: &impl Abort, alloc: Global, pages: usize) -> RunResult {
     assert!(rt; 1 <= pages);
     assert!(rt; pages <= 4096);
     let image = image_of(rt, alloc, SCATTERED_ROWS);
@@ -61,11 +66,11 @@ fn run_with_pages(rt: &impl Abort, alloc: Global, pages: usize) -> Seen {
         panic!(rt; "not opened");
     };
     let ended = run_over(alloc, code, &mut station, store, DAY, BUDGET);
-    seen(rt, alloc, ended, station)
+    read_result(rt, alloc, ended, station)
 }
 
 /// A run over halves.
-fn run_on_halves(rt: &impl Abort, alloc: Global) -> Seen {
+fn run_on_halves(rt: &impl Abort, alloc: Global) -> RunResult {
     let image = image_of(rt, alloc, SCATTERED_ROWS);
     let code = code_of(rt, alloc, image.as_slice());
     let mut station = new_volume_of(rt, alloc, Layout::Halves, &[]);
@@ -73,10 +78,10 @@ fn run_on_halves(rt: &impl Abort, alloc: Global) -> Seen {
         panic!(rt; "not opened");
     };
     let ended = run_over(alloc, code, &mut station, store, DAY, BUDGET);
-    seen(rt, alloc, ended, station)
+    read_result(rt, alloc, ended, station)
 }
 
-fn same_seen(rt: &impl Abort, one: &Seen, other: &Seen) {
+fn same_result(rt: &impl Abort, one: &RunResult, other: &RunResult) {
     same(rt, one.ended, other.ended);
     holds(rt, one.shown == other.shown);
     holds(rt, one.notes == other.notes);
@@ -93,6 +98,6 @@ fn one_page_64_and_4096_beside_halves(rt: HostRuntime) {
     holds(&rt, halves.shown.as_slice() == b"0584\n".as_slice());
     for pages in [1, 64, 4096] {
         let trees = run_with_pages(&rt, alloc, pages);
-        same_seen(&rt, &halves, &trees);
+        same_result(&rt, &halves, &trees);
     }
 }
