@@ -18,7 +18,7 @@ use Rattle.source_tree.specs.Procedures.{Procedure, paragraphs_or_one, paragraph
 use Rattle.source_tree.specs.Recursion.{Performance, by_paragraph, each_performs, phrase_performs, verb_performs, statement_performs, paragraph_performs, performs_from}
 use Rattle.check_rules.specs.declared.performs.Performs.{Performs}
 use Rattle.check_rules.specs.Performs.{Adds, AddsPhrase, in_paragraph}
-use Rattle.check_rules.proofs.PerformLayers.{statement_is}
+use Rattle.declarations.proofs.PerformLayers.{statement_is}
 
 pub adds_nothing : (all : Performs) → Adds all all []
 adds_nothing all = record { places = sym (append-nil all.places.items); ranges = sym (append-nil all.ranges.items) }

@@ -16,7 +16,7 @@ use Rattle.source_tree.specs.Broken.{Broken, each}
 use Rattle.source_tree.specs.NameRules.{item_rules, any_item}
 use Rattle.source_tree.specs.ArithmeticRules.{expression_rules}
 use Rattle.source_tree.specs.ConditionRules.{condition_name_rules, relation_rules, broken_already, condition_layer_rules, condition_rules}
-use Rattle.check_rules.proofs.RuleLayers.{each_map}
+use Rattle.declarations.proofs.RuleLayers.{each_map}
 
 module _ (items : List Placed) where
   pub rolled_is : (one : Condition-F Condition)

@@ -28,7 +28,7 @@ use Rattle.source_tree.specs.Filing.{phrases_of}
 use Rattle.source_tree.specs.StatementCount.{in_phrase, in_file_phrases, in_selected, inside, each_place, places_layer, statement_places}
 use Rattle.check_rules.specs.declared.statement_count.Room.{Room}
 use Rattle.check_rules.specs.Counting.{room_for, after_one, after}
-use Rattle.check_rules.proofs.FilingLayers.{mapped_phrases, filing_mapped, phrases_mapped}
+use Rattle.declarations.proofs.FilingLayers.{mapped_phrases, filing_mapped, phrases_mapped}
 
 -- ---- the statements in a statement, where they are mapped
 

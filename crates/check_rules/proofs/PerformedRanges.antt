@@ -39,12 +39,12 @@ use Rattle.source_tree.specs.Procedures.{Range, Procedure, paragraphs_or_one, pa
 use Rattle.source_tree.specs.Recursion.{Performance, each_performs, phrase_performs, file_phrases_performs, selected_performs, range_performs, performed_performs, branching_performs, verb_performs, statement_performs, paragraph_performs, performs_from, performs, performed}
 use Rattle.source_tree.specs.Rules.{phrase_rules, phrases_rules, file_phrases_rules, performed_rules, turns_rules, branching_rules, verb_rules, all_permitted, statement_rules, sentence_rules, paragraph_rules, sections_rules}
 use Rattle.source_tree.specs.Setting.{Scope, paragraphs}
-use Rattle.check_rules.specs.declared.declarations.Declarations.{Declarations}
+use Rattle.declarations.specs.declared.declarations.Declarations.{Declarations}
 use Rattle.check_rules.specs.declared.performs.Performs.{Performs}
-use Rattle.check_rules.specs.Named.{Declares, procedures_in, scope_in}
+use Rattle.declarations.specs.Named.{Declares, procedures_in, scope_in}
 use Rattle.check_rules.specs.Performs.{Adds, HasNext, in_paragraph}
-use Rattle.check_rules.proofs.RuleLayers.{mapped_rules}
-use Rattle.check_rules.proofs.PerformLayers.{mapped_performs}
+use Rattle.declarations.proofs.RuleLayers.{mapped_rules}
+use Rattle.declarations.proofs.PerformLayers.{mapped_performs}
 
 left_none : {A : Type 0} (xs ys : List A) → xs ++ ys ≡ [] → xs ≡ []
 left_none [] ys e = refl

@@ -18,7 +18,7 @@ use Rattle.source_tree.specs.Evaluate.{constant, told_as, alike, value_within}
 use Rattle.source_tree.specs.EvaluateRules.{at_object, objects_rules}
 use Rattle.entry_rules.specs.declared.rule.BrokenRule.{BrokenRule}
 use Rattle.entry_rules.specs.Checks.{Finds}
-use Rattle.check_rules.specs.Looking.{broken_in}
+use Rattle.declarations.specs.Looking.{broken_in}
 use Rattle.check_rules.proofs.ConditionLayers.{name_is, relation_is, not_is, all_is, any_is}
 
 module _ (items : List Placed) where

@@ -1,18 +1,13 @@
 -- Parts of the rules of conditions.
-use Rattle.std.specs.Prelude.{◌≡◌, ◌==◌, Bool, true, false, ◌&&◌, List, [], ◌∷◌, Result, Ok, Err, Some}
+use Rattle.std.specs.Prelude.{◌==◌, Bool, true, false, ◌&&◌, List}
 use Rattle.items.specs.declared.numeric.Numeric.{Numeric}
-use Rattle.lexical.specs.declared.place.Place.{Place}
 use Rattle.source_tree.specs.declared.reference.Reference.{Reference}
 use Rattle.source_tree.specs.Places.{Placed}
-use Rattle.source_tree.specs.LookUp.{NamedCondition, first, conditions_named}
+use Rattle.source_tree.specs.LookUp.{conditions_named}
 use Rattle.source_tree.specs.Broken.{Broken}
 use Rattle.source_tree.specs.NameRules.{named}
 use Rattle.source_tree.specs.ConditionRules as tree
 use Rattle.source_tree.specs.ConditionRules.{is_display, condition_subscripts}
-use Rattle.layout.specs.declared.placed.PlacedItem.{PlacedItem}
-use Rattle.layout.specs.Placing.{placed_item}
-use Rattle.entry_rules.specs.declared.rule.BrokenRule.{BrokenRule}
-use Rattle.entry_rules.specs.Checks.{broken_of}
 use Rattle.check_rules.specs.declared.compared.Compared.{Compared}
 use Rattle.check_rules.specs.declared.compared.Compared.TheVariants as compared
 
@@ -24,11 +19,6 @@ meant compared.Digits = tree.Number true
 meant compared.Number = tree.Number false
 meant compared.Characters = tree.Characters
 meant compared.Either = tree.Either
-
--- The item of the only condition name, as it is placed; or what a name breaks that names nothing, or several things.
-abbrev pub IsConditionNamed : Place → Result PlacedItem BrokenRule → List NamedCondition → Type 0
-IsConditionNamed place (Ok item) found = (one : NamedCondition) × (found ≡ one ∷ []) × (item ≡ placed_item one.item)
-IsConditionNamed place (Err broken) found = (rules : NamedCondition → List Broken) → first (named place rules found) ≡ Some (broken_of broken)
 
 -- the name of a condition, with its number of subscripts
 abbrev pub condition_named_rules : List Placed → Reference → List Broken

@@ -16,7 +16,7 @@ use Rattle.layout.specs.declared.placed.PlacedItem.{PlacedItem}
 use Rattle.program_files.specs.declared.file.ProgramFile as compiled
 use Rattle.names.specs.Positions.{Called}
 use Rattle.check_rules.specs.FiledKeys.{place_of, clause_names, names_key}
-use Rattle.check_rules.specs.Selecting.{is_plain}
+use Rattle.declarations.specs.Selecting.{is_plain}
 
 abbrev pub phrase_kind_rules : {S : Type 0} → Place → Organization → FilePhrases S → List Broken
 phrase_kind_rules place organization phrases = where_so (has_at_end phrases || (has_invalid_key phrases && is_sequential_file organization)) 62 place

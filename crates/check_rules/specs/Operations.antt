@@ -1,20 +1,14 @@
--- Parts of the rules of arithmetic statements and expressions.
+-- Parts of the rules of arithmetic statements.
 use Rattle.std.specs.Prelude.{List, [], ◌++◌}
 use Rattle.source_tree.specs.declared.arithmetic.Receiver.{Receiver}
 use Rattle.source_tree.specs.declared.arithmetic.Operation.{Operation}
 use Rattle.source_tree.specs.declared.arithmetic.Operation.TheVariants.{Add, AddGiving, Subtract, SubtractGiving, Multiply, MultiplyGiving, Divide, DivideGiving, DivideRemainder, Compute}
-use Rattle.source_tree.specs.declared.expression.Operator.{Operator}
-use Rattle.source_tree.specs.declared.expression.Expression.{Expression}
 use Rattle.source_tree.specs.Places.{Placed}
 use Rattle.source_tree.specs.Broken.{Broken, each}
 use Rattle.source_tree.specs.NameRules.{item_rules}
 use Rattle.source_tree.specs.ArithmeticRules.{number_rules, number_receiver, updated_rules, given_rules, expression_rules}
 use Rattle.check_rules.specs.declared.asked.Asked.{Asked}
 use Rattle.check_rules.specs.Asking.{asks}
-
--- an operand behind an operator
-abbrev pub further_rules : List Placed → Operator × Expression → List Broken
-further_rules items one = expression_rules items one.1
 
 -- a receiver of which that is asked
 abbrev pub receiver_rules : List Placed → Asked → Receiver → List Broken

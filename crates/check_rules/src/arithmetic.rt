@@ -4,19 +4,19 @@ ghost use Rattle.std.specs.Prelude.{◌≡◌, ◌++◌};
 ghost use Rattle.entry_rules.specs.Checks.{Finds};
 ghost use Rattle.source_tree.specs.Broken.{each};
 ghost use Rattle.source_tree.specs.ArithmeticRules as spec;
-ghost use Rattle.check_rules.specs.Named.{IsDeclared, items_in};
+ghost use Rattle.declarations.specs.Named.{IsDeclared, items_in};
 ghost use Rattle.check_rules.specs.Operations.{receiver_rules, operands_rules, receivers_rules};
 
 use crate::asked::Asked;
-use crate::declarations::Declarations;
+use crate::checker::Checker;
 use entry_rules::BrokenRule;
 use source_tree::{Operand, Operation, Receiver};
 
-impl<'a> Declarations<'a> {
+impl<'a> Checker<'a> {
     /// Receivers, of which the same is asked, in order.
     fn results_rules(&self, asked: Asked, all: &[Receiver]) -> Result<(), BrokenRule>
-        requires { IsDeclared self.now }
-        ensures { Finds result (each (receiver_rules (items_in self.now) asked) all.now) }
+        requires { IsDeclared self.now.declarations.now }
+        ensures { Finds result (each (receiver_rules (items_in self.now.declarations.now) asked) all.now) }
     {
         for one in all {
             self.item_rules(asked, &one.item)?;
@@ -26,24 +26,24 @@ impl<'a> Declarations<'a> {
 
     /// Receivers whose own number has a part in the result.
     fn updated_rules(&self, receivers: &[Receiver]) -> Result<(), BrokenRule>
-        requires { IsDeclared self.now }
-        ensures { Finds result (spec.updated_rules (items_in self.now) receivers.now) }
+        requires { IsDeclared self.now.declarations.now }
+        ensures { Finds result (spec.updated_rules (items_in self.now.declarations.now) receivers.now) }
     {
         self.results_rules(Asked::Numeric, receivers)
     }
 
     /// Receivers behind GIVING and COMPUTE.
     fn given_rules(&self, receivers: &[Receiver]) -> Result<(), BrokenRule>
-        requires { IsDeclared self.now }
-        ensures { Finds result (spec.given_rules (items_in self.now) receivers.now) }
+        requires { IsDeclared self.now.declarations.now }
+        ensures { Finds result (spec.given_rules (items_in self.now.declarations.now) receivers.now) }
     {
         self.results_rules(Asked::StoresNumber, receivers)
     }
 
     /// Two operands that are numbers.
     fn pair_rules(&self, first: &Operand, second: &Operand) -> Result<(), BrokenRule>
-        requires { IsDeclared self.now }
-        ensures { Finds result (spec.number_rules (items_in self.now) first.now ++ spec.number_rules (items_in self.now) second.now) }
+        requires { IsDeclared self.now.declarations.now }
+        ensures { Finds result (spec.number_rules (items_in self.now.declarations.now) first.now ++ spec.number_rules (items_in self.now.declarations.now) second.now) }
     {
         self.number_rules(first)?;
         self.number_rules(second)
@@ -51,8 +51,8 @@ impl<'a> Declarations<'a> {
 
     /// The operands in front of the receivers; those of COMPUTE stand behind them.
     fn operands_rules(&self, one: &Operation) -> Result<(), BrokenRule>
-        requires { IsDeclared self.now }
-        ensures { Finds result (operands_rules (items_in self.now) one.now) }
+        requires { IsDeclared self.now.declarations.now }
+        ensures { Finds result (operands_rules (items_in self.now.declarations.now) one.now) }
     {
         match one {
             Operation::Add { operands, .. } => self.numbers_rules(operands.as_slice()),
@@ -77,8 +77,8 @@ impl<'a> Declarations<'a> {
 
     /// The receivers, and of COMPUTE the expression behind them.
     fn receivers_of_rules(&self, one: &Operation) -> Result<(), BrokenRule>
-        requires { IsDeclared self.now }
-        ensures { Finds result (receivers_rules (items_in self.now) one.now) }
+        requires { IsDeclared self.now.declarations.now }
+        ensures { Finds result (receivers_rules (items_in self.now.declarations.now) one.now) }
     {
         match one {
             Operation::Add { receivers, .. } => self.updated_rules(receivers.as_slice()),
@@ -107,8 +107,8 @@ impl<'a> Declarations<'a> {
     /// What an arithmetic statement computes, in the order of writing.
     #[tactic(auto, using(crate::proofs::Operations::operation_parts))]
     pub fn operation_rules(&self, one: &Operation) -> Result<(), BrokenRule>
-        requires { IsDeclared self.now }
-        ensures { Finds result (spec.operation_rules (items_in self.now) one.now) }
+        requires { IsDeclared self.now.declarations.now }
+        ensures { Finds result (spec.operation_rules (items_in self.now.declarations.now) one.now) }
     {
         self.operands_rules(one)?;
         self.receivers_of_rules(one)

@@ -1,68 +1,34 @@
 //! The rules of conditions: 40, 41 and 50 of condition names, besides those of what is compared, of numbers and of references
 //! (COBOL-85, Nucleus, "Conditional expressions").
 
-ghost use Rattle.std.specs.Prelude.{◌≡◌, ◌<◌, length, Some, slice_get};
+ghost use Rattle.std.specs.Prelude.{◌≡◌};
 ghost use Rattle.entry_rules.specs.Checks.{Finds};
 ghost use Rattle.source_tree.specs.Broken.{each};
-ghost use Rattle.source_tree.specs.LookUp.{conditions_named};
 ghost use Rattle.source_tree.specs.ConditionRules as spec;
-ghost use Rattle.check_rules.specs.Named.{IsDeclared, items_in, told};
-ghost use Rattle.check_rules.specs.Comparing.{IsConditionNamed, condition_named_rules};
+ghost use Rattle.declarations.specs.Named.{IsDeclared, items_in};
+ghost use Rattle.check_rules.specs.Comparing.{condition_named_rules};
 
 use crate::asked::Asked;
-use crate::declarations::Declarations;
+use crate::checker::Checker;
 use entry_rules::{BrokenRule, Rule};
-use layout::PlacedItem;
-use names::LookUp;
-use source_tree::{Condition, QualifiedName, Reference};
+use source_tree::{Condition, Reference};
 
-impl<'a> Declarations<'a> {
-    /// The item of that number.
-    fn item_at(&self, number: usize) -> &PlacedItem
-        requires { number < length self.now.layout.items }
-        ensures { slice_get self.now.layout.items number ≡ Some result.now }
-    {
-        &self.layout.items.as_slice()[number]
-    }
-
-    /// The item of the condition name that a name names: rule 40 where there is none, 41 where there are several.
-    pub fn condition_named(&self, name: &QualifiedName) -> Result<&PlacedItem, BrokenRule>
-        requires { IsDeclared self.now }
-        ensures { IsConditionNamed name.now.name.place (told result) (conditions_named (items_in self.now) name.now) }
-    {
-        names::conditions_named();
-        let place = name.name.place;
-        match self.conditions.names.look_up(name) {
-            LookUp::One(number) => {
-                let item = self.conditions.conditions[number].item;
-                Ok(self.item_at(item))
-            }
-            LookUp::Unknown => Err(BrokenRule {
-                rule: Rule::UnknownName,
-                place,
-            }),
-            LookUp::Several => Err(BrokenRule {
-                rule: Rule::AmbiguousName,
-                place,
-            }),
-        }
-    }
-
+impl<'a> Checker<'a> {
     /// The name of a condition, which has as many subscripts as its item has dimensions.
     pub(crate) fn condition_named_rules(&self, one: &Reference) -> Result<(), BrokenRule>
-        requires { IsDeclared self.now }
-        ensures { Finds result (condition_named_rules (items_in self.now) one.now) }
+        requires { IsDeclared self.now.declarations.now }
+        ensures { Finds result (condition_named_rules (items_in self.now.declarations.now) one.now) }
     {
         let place = one.item.name.place;
-        let found = self.condition_named(&one.item)?;
+        let found = self.declarations.condition_named(&one.item)?;
         let wanted = found.dimensions.as_slice().len();
         Rule::Subscripts.broken_if(one.subscripts.as_slice().len() != wanted, place)
     }
 
     /// A condition name, with its subscripts.
     pub(crate) fn condition_name_rules(&self, one: &Reference) -> Result<(), BrokenRule>
-        requires { IsDeclared self.now }
-        ensures { Finds result (spec.condition_name_rules (items_in self.now) one.now) }
+        requires { IsDeclared self.now.declarations.now }
+        ensures { Finds result (spec.condition_name_rules (items_in self.now.declarations.now) one.now) }
     {
         self.condition_named_rules(one)?;
         self.subscripts_rules(one.subscripts.as_slice())
@@ -72,8 +38,8 @@ impl<'a> Declarations<'a> {
     #[cycle(condition)]
     #[tactic(auto, using(crate::proofs::ConditionLayers::forms))]
     pub fn condition_rules(&self, one: &Condition) -> Result<(), BrokenRule>
-        requires { IsDeclared self.now }
-        ensures { Finds result (spec.condition_rules (items_in self.now) one.now) }
+        requires { IsDeclared self.now.declarations.now }
+        ensures { Finds result (spec.condition_rules (items_in self.now.declarations.now) one.now) }
     {
         match one {
             Condition::Name(reference) => self.condition_name_rules(reference),
@@ -89,8 +55,8 @@ impl<'a> Declarations<'a> {
     /// Conditions, in order.
     #[cycle(condition)]
     fn conditions_rules(&self, all: &[Condition]) -> Result<(), BrokenRule>
-        requires { IsDeclared self.now }
-        ensures { Finds result (each (spec.condition_rules (items_in self.now)) all.now) }
+        requires { IsDeclared self.now.declarations.now }
+        ensures { Finds result (each (spec.condition_rules (items_in self.now.declarations.now)) all.now) }
     {
         for one in all {
             self.condition_rules(one)?;

@@ -8,11 +8,11 @@ ghost use Rattle.source_tree.specs.Broken.{each};
 ghost use Rattle.source_tree.specs.ConditionRules.{condition_rules};
 ghost use Rattle.source_tree.specs.Evaluate.{value_within};
 ghost use Rattle.source_tree.specs.EvaluateRules as spec;
-ghost use Rattle.check_rules.specs.Named.{IsDeclared, items_in};
-ghost use Rattle.check_rules.specs.Looking.{condition_meant, question_meant, is_fit, broken_in};
+ghost use Rattle.declarations.specs.Named.{IsDeclared, items_in};
+ghost use Rattle.declarations.specs.Looking.{condition_meant, question_meant, is_fit, broken_in};
 
-use crate::declarations::Declarations;
-use crate::looked::{AskedCondition, LookedSubject, Question};
+use crate::checker::Checker;
+use declarations::{AskedCondition, LookedSubject, Question};
 use entry_rules::{BrokenRule, Rule};
 use source_tree::{Object, Place, Side, Subject, When};
 
@@ -41,12 +41,12 @@ fn is_unfit(one: Question<'_>) -> bool
     matches!(one, Question::Unfit)
 }
 
-impl<'a> Declarations<'a> {
+impl<'a> Checker<'a> {
     /// A condition that is asked.
     #[tactic(auto, using(crate::proofs::QuestionLayers::name_told_is))]
     fn asked_condition_rules(&self, one: AskedCondition<'_>) -> Result<(), BrokenRule>
-        requires { IsDeclared self.now }
-        ensures { Finds result (condition_rules (items_in self.now) (condition_meant one.entry)) }
+        requires { IsDeclared self.now.declarations.now }
+        ensures { Finds result (condition_rules (items_in self.now.declarations.now) (condition_meant one.entry)) }
     {
         match one {
             AskedCondition::Name { reference, .. } => self.condition_name_rules(reference),
@@ -62,8 +62,8 @@ impl<'a> Declarations<'a> {
         first: &Side,
         last: &Option<Side>,
     ) -> Result<(), BrokenRule>
-        requires { IsDeclared self.now }
-        ensures { Finds result (condition_rules (items_in self.now) (value_within value.now first.now last.now)) }
+        requires { IsDeclared self.now.declarations.now }
+        ensures { Finds result (condition_rules (items_in self.now.declarations.now) (value_within value.now first.now last.now)) }
     {
         self.relation_rules(value, first)?;
         match last {
@@ -75,8 +75,8 @@ impl<'a> Declarations<'a> {
     /// What an object asks of its subject.
     #[tactic(auto, using(crate::proofs::QuestionLayers::forms))]
     fn question_rules(&self, one: Question<'_>) -> Result<(), BrokenRule>
-        requires { IsDeclared self.now }
-        ensures { Finds result (condition_rules (items_in self.now) (question_meant one.entry)) }
+        requires { IsDeclared self.now.declarations.now }
+        ensures { Finds result (condition_rules (items_in self.now.declarations.now) (question_meant one.entry)) }
     {
         match one {
             Question::Within { value, wanted } => {
@@ -95,10 +95,10 @@ impl<'a> Declarations<'a> {
 
     /// An object and its subject.
     fn object_rules(&self, subject: &Subject, object: &Object) -> Result<(), BrokenRule>
-        requires { IsDeclared self.now }
-        ensures { Finds result (spec.object_rules (items_in self.now) subject.now object.now) }
+        requires { IsDeclared self.now.declarations.now }
+        ensures { Finds result (spec.object_rules (items_in self.now.declarations.now) subject.now object.now) }
     {
-        let question = self.question(subject, &object.choice);
+        let question = self.declarations.question(subject, &object.choice);
         Rule::Object.broken_if(is_unfit(question), object.place)?;
         told_at(object.place, self.question_rules(question))
     }
@@ -106,8 +106,8 @@ impl<'a> Declarations<'a> {
     /// Objects, subject by subject.
     #[tactic(auto, using(crate::proofs::QuestionLayers::none_left))]
     fn objects_rules(&self, subjects: &[Subject], objects: &[Object]) -> Result<(), BrokenRule>
-        requires { IsDeclared self.now }
-        ensures { Finds result (spec.objects_rules (items_in self.now) subjects.now objects.now) }
+        requires { IsDeclared self.now.declarations.now }
+        ensures { Finds result (spec.objects_rules (items_in self.now.declarations.now) subjects.now objects.now) }
     {
         let mut asking = subjects;
         let mut rest = objects;
@@ -124,8 +124,8 @@ impl<'a> Declarations<'a> {
 
     /// A WHEN: it has as many objects as there are subjects.
     fn when_rules(&self, subjects: &[Subject], one: &When) -> Result<(), BrokenRule>
-        requires { IsDeclared self.now }
-        ensures { Finds result (spec.when_rules (items_in self.now) subjects.now one.now) }
+        requires { IsDeclared self.now.declarations.now }
+        ensures { Finds result (spec.when_rules (items_in self.now.declarations.now) subjects.now one.now) }
     {
         let objects = one.objects.as_slice();
         Rule::Object.broken_if(objects.len() != subjects.len(), one.place)?;
@@ -134,8 +134,8 @@ impl<'a> Declarations<'a> {
 
     /// WHENs, in order.
     pub(crate) fn whens_rules(&self, subjects: &[Subject], all: &[When]) -> Result<(), BrokenRule>
-        requires { IsDeclared self.now }
-        ensures { Finds result (each (spec.when_rules (items_in self.now) subjects.now) all.now) }
+        requires { IsDeclared self.now.declarations.now }
+        ensures { Finds result (each (spec.when_rules (items_in self.now.declarations.now) subjects.now) all.now) }
     {
         for one in all {
             self.when_rules(subjects, one)?;
@@ -145,10 +145,10 @@ impl<'a> Declarations<'a> {
 
     /// A subject: a value by itself, or a condition.
     fn subject_rules(&self, one: &Subject) -> Result<(), BrokenRule>
-        requires { IsDeclared self.now }
-        ensures { Finds result (spec.subject_rules (items_in self.now) one.now) }
+        requires { IsDeclared self.now.declarations.now }
+        ensures { Finds result (spec.subject_rules (items_in self.now.declarations.now) one.now) }
     {
-        match self.looked_subject(one) {
+        match self.declarations.looked_subject(one) {
             LookedSubject::Value(side) => self.side_rules(side),
             LookedSubject::Truth(_) => Ok(()),
             LookedSubject::Condition(condition) => self.asked_condition_rules(condition),
@@ -157,8 +157,8 @@ impl<'a> Declarations<'a> {
 
     /// Subjects, in order.
     pub(crate) fn subjects_rules(&self, all: &[Subject]) -> Result<(), BrokenRule>
-        requires { IsDeclared self.now }
-        ensures { Finds result (each (spec.subject_rules (items_in self.now)) all.now) }
+        requires { IsDeclared self.now.declarations.now }
+        ensures { Finds result (each (spec.subject_rules (items_in self.now.declarations.now)) all.now) }
     {
         for one in all {
             self.subject_rules(one)?;

@@ -5,11 +5,11 @@ ghost use Rattle.std.specs.Prelude.{◌≡◌};
 ghost use Rattle.entry_rules.specs.Checks.{Finds};
 ghost use Rattle.source_tree.specs.Broken.{each};
 ghost use Rattle.source_tree.specs.ArithmeticRules as spec;
-ghost use Rattle.check_rules.specs.Named.{IsDeclared, items_in};
-ghost use Rattle.check_rules.specs.Operations.{further_rules};
+ghost use Rattle.declarations.specs.Named.{IsDeclared, items_in};
+ghost use Rattle.declarations.specs.Chains.{further_rules};
 
 use crate::asked::Asked;
-use crate::declarations::Declarations;
+use crate::checker::Checker;
 use crate::forms::literal_rules;
 use entry_rules::{BrokenRule, Rule};
 use source_tree::{Expression, Figurative, LiteralValue, Operand, Operator};
@@ -24,11 +24,11 @@ fn is_number(value: &LiteralValue) -> bool
     )
 }
 
-impl<'a> Declarations<'a> {
+impl<'a> Checker<'a> {
     /// An operand that is a number: a numeric item, a numeric literal or ZERO.
     pub fn number_rules(&self, one: &Operand) -> Result<(), BrokenRule>
-        requires { IsDeclared self.now }
-        ensures { Finds result (spec.number_rules (items_in self.now) one.now) }
+        requires { IsDeclared self.now.declarations.now }
+        ensures { Finds result (spec.number_rules (items_in self.now.declarations.now) one.now) }
     {
         match one {
             Operand::Item(reference) => self.item_rules(Asked::Numeric, reference),
@@ -41,8 +41,8 @@ impl<'a> Declarations<'a> {
 
     /// Operands that are numbers, in order.
     pub(crate) fn numbers_rules(&self, all: &[Operand]) -> Result<(), BrokenRule>
-        requires { IsDeclared self.now }
-        ensures { Finds result (each (spec.number_rules (items_in self.now)) all.now) }
+        requires { IsDeclared self.now.declarations.now }
+        ensures { Finds result (each (spec.number_rules (items_in self.now.declarations.now)) all.now) }
     {
         for one in all {
             self.number_rules(one)?;
@@ -52,10 +52,10 @@ impl<'a> Declarations<'a> {
 
     /// An expression, with those in it.
     #[cycle(expression)]
-    #[tactic(auto, using(crate::proofs::Layers::operand_is, crate::proofs::Layers::negated_is, crate::proofs::Layers::chain_is))]
+    #[tactic(auto, using(declarations::proofs::Layers::operand_is, declarations::proofs::Layers::negated_is, declarations::proofs::Layers::chain_is))]
     pub fn expression_rules(&self, one: &Expression) -> Result<(), BrokenRule>
-        requires { IsDeclared self.now }
-        ensures { Finds result (spec.expression_rules (items_in self.now) one.now) }
+        requires { IsDeclared self.now.declarations.now }
+        ensures { Finds result (spec.expression_rules (items_in self.now.declarations.now) one.now) }
     {
         match one {
             Expression::Operand(operand) => self.number_rules(operand),
@@ -70,8 +70,8 @@ impl<'a> Declarations<'a> {
     /// Operands behind operators, in order.
     #[cycle(expression)]
     fn further_rules(&self, all: &[(Operator, Expression)]) -> Result<(), BrokenRule>
-        requires { IsDeclared self.now }
-        ensures { Finds result (each (further_rules (items_in self.now)) all.now) }
+        requires { IsDeclared self.now.declarations.now }
+        ensures { Finds result (each (further_rules (items_in self.now.declarations.now)) all.now) }
     {
         for (_, one) in all {
             self.expression_rules(one)?;

@@ -8,7 +8,7 @@ ghost use Rattle.check_rules.specs.Filed as filed;
 ghost use Rattle.check_rules.specs.FiledKeys as keys;
 
 use crate::file_phrases::is_relative;
-use crate::keys::is_plain;
+use declarations::is_plain;
 use items::Kind;
 use layout::PlacedItem;
 use names::NameTable;

@@ -7,17 +7,13 @@ ghost use Rattle.entry_rules.specs.Checks.{Finds};
 ghost use Rattle.source_tree.specs.Broken.{each};
 ghost use Rattle.source_tree.specs.FileRules.{clause_item};
 ghost use Rattle.source_tree.specs.FilingRules as spec;
-ghost use Rattle.source_tree.specs.LookUp.{items_named};
-ghost use Rattle.names.specs.Table.{calls_in};
 ghost use Rattle.program_files.specs.Files.{file_in, place_at};
 ghost use Rattle.check_rules.specs.Filed as filed;
-ghost use Rattle.check_rules.specs.FoundFiles.{IsKeyFound};
-ghost use Rattle.check_rules.specs.Named as declared;
-ghost use Rattle.check_rules.specs.Named.{IsDeclared, files_in, items_in};
+ghost use Rattle.check_rules.specs.References.{named_rules};
+ghost use Rattle.declarations.specs.Named.{IsDeclared, files_in, items_in};
 
 use crate::asked::Asked;
-use crate::declarations::Declarations;
-use crate::declared_items::item_number;
+use crate::checker::Checker;
 use crate::file_keys::{is_key_item, is_start_item};
 use crate::file_phrases::{
     is_in_sequence, is_random, is_relative, is_sequential, phrase_kind_rules, read_phrase_rules,
@@ -27,8 +23,8 @@ use entry_rules::{BrokenRule, Rule};
 use layout::PlacedItem;
 use program_files::ProgramFile;
 use source_tree::{
-    FilePhrases, Filing, Name, OpenMode, Opening, Place, QualifiedName, Reference, Relation,
-    RelationalOperator, StartKey, Statement,
+    FilePhrases, Filing, Name, OpenMode, Opening, Place, Reference, Relation, RelationalOperator,
+    StartKey, Statement,
 };
 use std::slice;
 
@@ -46,29 +42,29 @@ fn is_start_operator(one: RelationalOperator) -> bool
     }
 }
 
-impl<'a> Declarations<'a> {
+impl<'a> Checker<'a> {
     /// The item of RELATIVE KEY.
     fn relative_key(&self, file: &ProgramFile<'_>) -> Option<&PlacedItem>
-        requires { IsDeclared self.now }
-        ensures { filed.IsPlaced (place_at (items_in self.now) file.now.relative_key) result }
+        requires { IsDeclared self.now.declarations.now }
+        ensures { filed.IsPlaced (place_at (items_in self.now.declarations.now) file.now.relative_key) result }
     {
         let number = file.relative_key?;
-        self.layout.items.as_slice().get(number)
+        self.declarations.layout.items.as_slice().get(number)
     }
 
     /// A file of OPEN: only sequential files are extended.
     fn opening_rules(&self, one: &Opening) -> Result<(), BrokenRule>
-        requires { IsDeclared self.now }
-        ensures { Finds result (spec.open_rules (items_in self.now) (files_in self.now) one.now) }
+        requires { IsDeclared self.now.declarations.now }
+        ensures { Finds result (spec.open_rules (items_in self.now.declarations.now) (files_in self.now.declarations.now) one.now) }
     {
-        let file = self.file_named(&one.file)?;
+        let file = self.declarations.file_named(&one.file)?;
         let is_extended = matches!(one.mode, OpenMode::Extend) && !is_sequential(file.organization);
         Rule::FileStatement.broken_if(is_extended, one.file.place)
     }
 
     fn openings_rules(&self, all: &[Opening]) -> Result<(), BrokenRule>
-        requires { IsDeclared self.now }
-        ensures { Finds result (each (spec.open_rules (items_in self.now) (files_in self.now)) all.now) }
+        requires { IsDeclared self.now.declarations.now }
+        ensures { Finds result (each (spec.open_rules (items_in self.now.declarations.now) (files_in self.now.declarations.now)) all.now) }
     {
         for one in all {
             self.opening_rules(one)?;
@@ -77,16 +73,16 @@ impl<'a> Declarations<'a> {
     }
 
     fn closing_rules(&self, one: &Name) -> Result<(), BrokenRule>
-        requires { IsDeclared self.now }
-        ensures { Finds result (spec.close_rules (items_in self.now) (files_in self.now) one.now) }
+        requires { IsDeclared self.now.declarations.now }
+        ensures { Finds result (spec.close_rules (items_in self.now.declarations.now) (files_in self.now.declarations.now) one.now) }
     {
-        self.file_named(one)?;
+        self.declarations.file_named(one)?;
         Ok(())
     }
 
     fn closings_rules(&self, all: &[Name]) -> Result<(), BrokenRule>
-        requires { IsDeclared self.now }
-        ensures { Finds result (each (spec.close_rules (items_in self.now) (files_in self.now)) all.now) }
+        requires { IsDeclared self.now.declarations.now }
+        ensures { Finds result (each (spec.close_rules (items_in self.now.declarations.now) (files_in self.now.declarations.now)) all.now) }
     {
         for one in all {
             self.closing_rules(one)?;
@@ -94,22 +90,13 @@ impl<'a> Declarations<'a> {
         Ok(())
     }
 
-    /// The item that KEY names, and its number.
-    fn key_item(&self, name: &QualifiedName) -> Result<(usize, &PlacedItem), BrokenRule>
-        requires { IsDeclared self.now }
-        ensures { IsKeyFound (calls_in self.now.names) name.now.name.place result (items_named (items_in self.now) name.now) }
-    {
-        let number = item_number(&self.names, name)?;
-        Ok((number, &self.layout.items.as_slice()[number]))
-    }
-
     /// The item of KEY of READ, which is a key of the file.
     fn read_key_item_rules(&self, file: &ProgramFile<'_>, key: &Reference) -> Result<(), BrokenRule>
-        requires { IsDeclared self.now }
-        ensures { Finds result (clause_item (items_in self.now) (spec.read_key_item (file_in (items_in self.now) file.now)) key.now) }
+        requires { IsDeclared self.now.declarations.now }
+        ensures { Finds result (clause_item (items_in self.now.declarations.now) (spec.read_key_item (file_in (items_in self.now.declarations.now) file.now)) key.now) }
     {
-        let (number, found) = self.key_item(&key.item)?;
-        let is_key = is_key_item(&self.names, file, key, found, number);
+        let (number, found) = self.declarations.numbered_item(&key.item)?;
+        let is_key = is_key_item(&self.declarations.names, file, key, found, number);
         Rule::FilePhrase.broken_if(!is_key, key.item.name.place)
     }
 
@@ -120,8 +107,8 @@ impl<'a> Declarations<'a> {
         file: &ProgramFile<'_>,
         key: &Option<Reference>,
     ) -> Result<(), BrokenRule>
-        requires { IsDeclared self.now }
-        ensures { Finds result (spec.read_key_rules (items_in self.now) (files_in self.now) in_sequence (file_in (items_in self.now) file.now) key.now) }
+        requires { IsDeclared self.now.declarations.now }
+        ensures { Finds result (spec.read_key_rules (items_in self.now.declarations.now) (files_in self.now.declarations.now) in_sequence (file_in (items_in self.now.declarations.now) file.now) key.now) }
     {
         let Some(one) = key else {
             return Ok(());
@@ -132,8 +119,8 @@ impl<'a> Declarations<'a> {
 
     /// INTO, to which what the file sends may be moved.
     fn into_rules(&self, file: &ProgramFile<'_>, into: &Option<Reference>) -> Result<(), BrokenRule>
-        requires { IsDeclared self.now }
-        ensures { Finds result (spec.into_rules (items_in self.now) (files_in self.now) (file_in (items_in self.now) file.now) into.now) }
+        requires { IsDeclared self.now.declarations.now }
+        ensures { Finds result (spec.into_rules (items_in self.now.declarations.now) (files_in self.now.declarations.now) (file_in (items_in self.now.declarations.now) file.now) into.now) }
     {
         match into {
             None => Ok(()),
@@ -149,8 +136,8 @@ impl<'a> Declarations<'a> {
         place: Place,
         phrases: &FilePhrases<Statement>,
     ) -> Result<(), BrokenRule>
-        requires { IsDeclared self.now }
-        ensures { Finds result (filed.read_file_rules place next phrases.now (file_in (items_in self.now) file.now)) }
+        requires { IsDeclared self.now.declarations.now }
+        ensures { Finds result (filed.read_file_rules place next phrases.now (file_in (items_in self.now.declarations.now) file.now)) }
     {
         let access = file.select.access;
         Rule::FilePhrase.broken_if(next && is_random(access), place)?;
@@ -167,8 +154,8 @@ impl<'a> Declarations<'a> {
         key: &Option<Reference>,
         phrases: &FilePhrases<Statement>,
     ) -> Result<(), BrokenRule>
-        requires { IsDeclared self.now }
-        ensures { Finds result (spec.read_rules (items_in self.now) (files_in self.now) place next into.now key.now phrases.now (file_in (items_in self.now) file.now)) }
+        requires { IsDeclared self.now.declarations.now }
+        ensures { Finds result (spec.read_rules (items_in self.now.declarations.now) (files_in self.now.declarations.now) place next into.now key.now phrases.now (file_in (items_in self.now.declarations.now) file.now)) }
     {
         self.read_file_rules(next, file, place, phrases)?;
         self.read_key_rules(is_in_sequence(file.select.access, next), file, key)?;
@@ -183,10 +170,10 @@ impl<'a> Declarations<'a> {
         key: &Option<Reference>,
         phrases: &FilePhrases<Statement>,
     ) -> Result<(), BrokenRule>
-        requires { IsDeclared self.now }
-        ensures { Finds result (spec.file_named_rules (items_in self.now) (files_in self.now) name.now (spec.read_rules (items_in self.now) (files_in self.now) name.now.place next into.now key.now phrases.now)) }
+        requires { IsDeclared self.now.declarations.now }
+        ensures { Finds result (spec.file_named_rules (items_in self.now.declarations.now) (files_in self.now.declarations.now) name.now (spec.read_rules (items_in self.now.declarations.now) (files_in self.now.declarations.now) name.now.place next into.now key.now phrases.now)) }
     {
-        let file = self.file_named(name)?;
+        let file = self.declarations.file_named(name)?;
         self.read_found_rules(file, name.place, next, into, key, phrases)
     }
 
@@ -196,23 +183,22 @@ impl<'a> Declarations<'a> {
         one: &Reference,
         phrases: &FilePhrases<Statement>,
     ) -> Result<(), BrokenRule>
-        requires { IsDeclared self.now }
-        ensures { Finds result (declared.named_rules (items_in self.now) (spec.record_item (items_in self.now) (files_in self.now) phrases.now) one.now) }
+        requires { IsDeclared self.now.declarations.now }
+        ensures { Finds result (named_rules (items_in self.now.declarations.now) (spec.record_item (items_in self.now.declarations.now) (files_in self.now.declarations.now) phrases.now) one.now) }
     {
         let place = one.item.name.place;
-        let number = item_number(&self.names, &one.item)?;
-        let found = &self.layout.items.as_slice()[number];
+        let (number, found) = self.declarations.numbered_item(&one.item)?;
         let wanted = found.dimensions.as_slice().len();
         Rule::Subscripts.broken_if(one.subscripts.as_slice().len() != wanted, place)?;
-        Rule::UnknownName.broken_if(!self.is_record(number), place)?;
-        let file = self.file_with(place, found.area)?;
+        Rule::UnknownName.broken_if(!self.declarations.is_record(number), place)?;
+        let file = self.declarations.file_with(place, found.area)?;
         phrase_kind_rules(place, file.organization, phrases)
     }
 
     /// FROM, which is moved to the record.
     fn from_rules(&self, to: &Reference, from: &Option<Reference>) -> Result<(), BrokenRule>
-        requires { IsDeclared self.now }
-        ensures { Finds result (spec.from_rules (items_in self.now) (files_in self.now) to.now from.now) }
+        requires { IsDeclared self.now.declarations.now }
+        ensures { Finds result (spec.from_rules (items_in self.now.declarations.now) (files_in self.now.declarations.now) to.now from.now) }
     {
         match from {
             None => Ok(()),
@@ -226,8 +212,8 @@ impl<'a> Declarations<'a> {
         from: &Option<Reference>,
         phrases: &FilePhrases<Statement>,
     ) -> Result<(), BrokenRule>
-        requires { IsDeclared self.now }
-        ensures { Finds result (spec.record_rules (items_in self.now) (files_in self.now) one.now from.now phrases.now) }
+        requires { IsDeclared self.now.declarations.now }
+        ensures { Finds result (spec.record_rules (items_in self.now.declarations.now) (files_in self.now.declarations.now) one.now from.now phrases.now) }
     {
         self.record_named_rules(one, phrases)?;
         self.subscripts_rules(one.subscripts.as_slice())?;
@@ -235,21 +221,21 @@ impl<'a> Declarations<'a> {
     }
 
     fn delete_rules(&self, name: &Name, phrases: &FilePhrases<Statement>) -> Result<(), BrokenRule>
-        requires { IsDeclared self.now }
-        ensures { Finds result (spec.file_named_rules (items_in self.now) (files_in self.now) name.now (spec.delete_rules (items_in self.now) (files_in self.now) name.now.place phrases.now)) }
+        requires { IsDeclared self.now.declarations.now }
+        ensures { Finds result (spec.file_named_rules (items_in self.now.declarations.now) (files_in self.now.declarations.now) name.now (spec.delete_rules (items_in self.now.declarations.now) (files_in self.now.declarations.now) name.now.place phrases.now)) }
     {
-        let file = self.file_named(name)?;
+        let file = self.declarations.file_named(name)?;
         Rule::FileStatement.broken_if(is_sequential(file.organization), name.place)?;
         phrase_kind_rules(name.place, file.organization, phrases)
     }
 
     /// The item of KEY of START.
     fn start_item_rules(&self, file: &ProgramFile<'_>, key: &Reference) -> Result<(), BrokenRule>
-        requires { IsDeclared self.now }
-        ensures { Finds result (clause_item (items_in self.now) (spec.start_key_item (file_in (items_in self.now) file.now)) key.now) }
+        requires { IsDeclared self.now.declarations.now }
+        ensures { Finds result (clause_item (items_in self.now.declarations.now) (spec.start_key_item (file_in (items_in self.now.declarations.now) file.now)) key.now) }
     {
-        let (number, found) = self.key_item(&key.item)?;
-        let is_start = is_start_item(&self.names, file, key, found, number);
+        let (number, found) = self.declarations.numbered_item(&key.item)?;
+        let is_start = is_start_item(&self.declarations.names, file, key, found, number);
         Rule::StartKey.broken_if(!is_start, key.item.name.place)
     }
 
@@ -258,8 +244,8 @@ impl<'a> Declarations<'a> {
         file: &ProgramFile<'_>,
         key: &Option<StartKey>,
     ) -> Result<(), BrokenRule>
-        requires { IsDeclared self.now }
-        ensures { Finds result (spec.start_key_rules (items_in self.now) (files_in self.now) (file_in (items_in self.now) file.now) key.now) }
+        requires { IsDeclared self.now.declarations.now }
+        ensures { Finds result (spec.start_key_rules (items_in self.now.declarations.now) (files_in self.now.declarations.now) (file_in (items_in self.now.declarations.now) file.now) key.now) }
     {
         let Some(one) = key else {
             return Ok(());
@@ -270,8 +256,8 @@ impl<'a> Declarations<'a> {
 
     /// START stands not on sequential files, not with random access, and on relative files with RELATIVE KEY alone.
     fn start_file_rules(&self, file: &ProgramFile<'_>, place: Place) -> Result<(), BrokenRule>
-        requires { IsDeclared self.now }
-        ensures { Finds result (filed.start_file_rules place (file_in (items_in self.now) file.now)) }
+        requires { IsDeclared self.now.declarations.now }
+        ensures { Finds result (filed.start_file_rules place (file_in (items_in self.now.declarations.now) file.now)) }
     {
         let is_unordered = is_sequential(file.organization) || is_random(file.select.access);
         Rule::FileStatement.broken_if(is_unordered, place)?;
@@ -287,8 +273,8 @@ impl<'a> Declarations<'a> {
         key: &Option<StartKey>,
         phrases: &FilePhrases<Statement>,
     ) -> Result<(), BrokenRule>
-        requires { IsDeclared self.now }
-        ensures { Finds result (spec.start_rules (items_in self.now) (files_in self.now) place key.now phrases.now (file_in (items_in self.now) file.now)) }
+        requires { IsDeclared self.now.declarations.now }
+        ensures { Finds result (spec.start_rules (items_in self.now.declarations.now) (files_in self.now.declarations.now) place key.now phrases.now (file_in (items_in self.now.declarations.now) file.now)) }
     {
         self.start_file_rules(file, place)?;
         self.start_key_rules(file, key)?;
@@ -301,17 +287,17 @@ impl<'a> Declarations<'a> {
         key: &Option<StartKey>,
         phrases: &FilePhrases<Statement>,
     ) -> Result<(), BrokenRule>
-        requires { IsDeclared self.now }
-        ensures { Finds result (spec.file_named_rules (items_in self.now) (files_in self.now) name.now (spec.start_rules (items_in self.now) (files_in self.now) name.now.place key.now phrases.now)) }
+        requires { IsDeclared self.now.declarations.now }
+        ensures { Finds result (spec.file_named_rules (items_in self.now.declarations.now) (files_in self.now.declarations.now) name.now (spec.start_rules (items_in self.now.declarations.now) (files_in self.now.declarations.now) name.now.place key.now phrases.now)) }
     {
-        let file = self.file_named(name)?;
+        let file = self.declarations.file_named(name)?;
         self.start_found_rules(file, name.place, key, phrases)
     }
 
     /// A file statement without those in its phrases.
     pub fn filing_rules(&self, one: &Filing<Statement>) -> Result<(), BrokenRule>
-        requires { IsDeclared self.now }
-        ensures { Finds result (spec.filing_rules (items_in self.now) (files_in self.now) one.now) }
+        requires { IsDeclared self.now.declarations.now }
+        ensures { Finds result (spec.filing_rules (items_in self.now.declarations.now) (files_in self.now.declarations.now) one.now) }
     {
         match one {
             Filing::Open { files } => self.openings_rules(files.as_slice()),

@@ -2,18 +2,18 @@
 
 ghost use Rattle.entry_rules.specs.Checks.{Finds};
 ghost use Rattle.source_tree.specs.SettingRules as spec;
-ghost use Rattle.check_rules.specs.Named.{IsDeclared, items_in};
+ghost use Rattle.declarations.specs.Named.{IsDeclared, items_in};
 
 use crate::asked::Asked;
-use crate::declarations::Declarations;
+use crate::checker::Checker;
 use entry_rules::BrokenRule;
 use source_tree::Reference;
 
-impl<'a> Declarations<'a> {
+impl<'a> Checker<'a> {
     /// INITIALIZE of items, of which nothing is asked.
     pub fn initialize_rules(&self, receivers: &[Reference]) -> Result<(), BrokenRule>
-        requires { IsDeclared self.now }
-        ensures { Finds result (spec.initialize_rules (items_in self.now) receivers.now) }
+        requires { IsDeclared self.now.declarations.now }
+        ensures { Finds result (spec.initialize_rules (items_in self.now.declarations.now) receivers.now) }
     {
         self.receivers_rules(Asked::Nothing, receivers)
     }

@@ -7,10 +7,10 @@ ghost use Rattle.source_tree.specs.Broken.{each};
 ghost use Rattle.source_tree.specs.Display.{shown_literal};
 ghost use Rattle.source_tree.specs.LookUp.{items_named};
 ghost use Rattle.source_tree.specs.InspectRules as spec;
-ghost use Rattle.check_rules.specs.Named.{IsDeclared, items_in};
+ghost use Rattle.declarations.specs.Named.{IsDeclared, items_in};
 
 use crate::asked::Asked;
-use crate::declarations::Declarations;
+use crate::checker::Checker;
 use crate::forms::literal_rules;
 use crate::sides::operand_place;
 use entry_rules::{BrokenRule, Rule};
@@ -63,11 +63,11 @@ fn same_size(one: Option<usize>, other: Option<usize>) -> bool
     }
 }
 
-impl<'a> Declarations<'a> {
+impl<'a> Checker<'a> {
     /// A text.
     fn inspected_rules(&self, one: &Operand) -> Result<(), BrokenRule>
-        requires { IsDeclared self.now }
-        ensures { Finds result (spec.inspected_rules (items_in self.now) one.now) }
+        requires { IsDeclared self.now.declarations.now }
+        ensures { Finds result (spec.inspected_rules (items_in self.now.declarations.now) one.now) }
     {
         match one {
             Operand::Item(reference) => self.item_rules(Asked::Inspected, reference),
@@ -77,10 +77,10 @@ impl<'a> Declarations<'a> {
 
     /// The bytes of the item that a name names, where it names one.
     fn size_named(&self, name: &QualifiedName) -> Option<usize>
-        requires { IsDeclared self.now }
-        ensures { result ≡ spec.only_size (items_named (items_in self.now) name.now) }
+        requires { IsDeclared self.now.declarations.now }
+        ensures { result ≡ spec.only_size (items_named (items_in self.now.declarations.now) name.now) }
     {
-        match self.item_named(name) {
+        match self.declarations.item_named(name) {
             Ok(found) => Some(found.item.length as usize),
             Err(_) => None,
         }
@@ -88,8 +88,8 @@ impl<'a> Declarations<'a> {
 
     /// The characters of a text.
     fn size_of(&self, one: &Operand) -> Option<usize>
-        requires { IsDeclared self.now }
-        ensures { spec.inspected_rules (items_in self.now) one.now ≡ [] → result ≡ spec.size_of (items_in self.now) one.now }
+        requires { IsDeclared self.now.declarations.now }
+        ensures { spec.inspected_rules (items_in self.now.declarations.now) one.now ≡ [] → result ≡ spec.size_of (items_in self.now.declarations.now) one.now }
     {
         match one {
             Operand::Item(reference) => self.size_named(&reference.item),
@@ -99,8 +99,8 @@ impl<'a> Declarations<'a> {
 
     /// The characters of a replacing text.
     fn replacing_size(&self, one: &Operand) -> Option<usize>
-        requires { IsDeclared self.now }
-        ensures { spec.inspected_rules (items_in self.now) one.now ≡ [] → result ≡ spec.replacing_size (items_in self.now) one.now }
+        requires { IsDeclared self.now.declarations.now }
+        ensures { spec.inspected_rules (items_in self.now.declarations.now) one.now ≡ [] → result ≡ spec.replacing_size (items_in self.now.declarations.now) one.now }
     {
         match one {
             Operand::Item(reference) => self.size_named(&reference.item),
@@ -110,8 +110,8 @@ impl<'a> Declarations<'a> {
 
     /// What replaces a text of so many characters.
     fn by_rules(&self, size: Option<usize>, by: &Operand) -> Result<(), BrokenRule>
-        requires { IsDeclared self.now }
-        ensures { Finds result (spec.by_rules (items_in self.now) size by.now) }
+        requires { IsDeclared self.now.declarations.now }
+        ensures { Finds result (spec.by_rules (items_in self.now.declarations.now) size by.now) }
     {
         self.inspected_rules(by)?;
         let fits = same_size(size, self.replacing_size(by));
@@ -119,8 +119,8 @@ impl<'a> Declarations<'a> {
     }
 
     fn limit_rules(&self, one: &Option<Operand>) -> Result<(), BrokenRule>
-        requires { IsDeclared self.now }
-        ensures { Finds result (spec.limit_rules (items_in self.now) one.now) }
+        requires { IsDeclared self.now.declarations.now }
+        ensures { Finds result (spec.limit_rules (items_in self.now.declarations.now) one.now) }
     {
         match one {
             None => Ok(()),
@@ -133,8 +133,8 @@ impl<'a> Declarations<'a> {
         first: &Option<Operand>,
         second: &Option<Operand>,
     ) -> Result<(), BrokenRule>
-        requires { IsDeclared self.now }
-        ensures { Finds result (spec.two_limits (items_in self.now) first.now second.now) }
+        requires { IsDeclared self.now.declarations.now }
+        ensures { Finds result (spec.two_limits (items_in self.now.declarations.now) first.now second.now) }
     {
         self.limit_rules(first)?;
         self.limit_rules(second)
@@ -142,8 +142,8 @@ impl<'a> Declarations<'a> {
 
     /// BEFORE and AFTER, as they stand.
     fn limits_rules(&self, one: &Limits) -> Result<(), BrokenRule>
-        requires { IsDeclared self.now }
-        ensures { Finds result (spec.limits_rules (items_in self.now) one.now) }
+        requires { IsDeclared self.now.declarations.now }
+        ensures { Finds result (spec.limits_rules (items_in self.now.declarations.now) one.now) }
     {
         if one.after_first {
             self.two_limits(&one.after, &one.before)
@@ -153,16 +153,16 @@ impl<'a> Declarations<'a> {
     }
 
     fn tallied_text_rules(&self, one: &TalliedText) -> Result<(), BrokenRule>
-        requires { IsDeclared self.now }
-        ensures { Finds result (spec.tallied_text_rules (items_in self.now) one.now) }
+        requires { IsDeclared self.now.declarations.now }
+        ensures { Finds result (spec.tallied_text_rules (items_in self.now.declarations.now) one.now) }
     {
         self.inspected_rules(&one.text)?;
         self.limits_rules(&one.limits)
     }
 
     fn tallied_texts_rules(&self, all: &[TalliedText]) -> Result<(), BrokenRule>
-        requires { IsDeclared self.now }
-        ensures { Finds result (each (spec.tallied_text_rules (items_in self.now)) all.now) }
+        requires { IsDeclared self.now.declarations.now }
+        ensures { Finds result (each (spec.tallied_text_rules (items_in self.now.declarations.now)) all.now) }
     {
         for one in all {
             self.tallied_text_rules(one)?;
@@ -171,8 +171,8 @@ impl<'a> Declarations<'a> {
     }
 
     fn tallied_rules(&self, one: &Tallied) -> Result<(), BrokenRule>
-        requires { IsDeclared self.now }
-        ensures { Finds result (spec.tallied_rules (items_in self.now) one.now) }
+        requires { IsDeclared self.now.declarations.now }
+        ensures { Finds result (spec.tallied_rules (items_in self.now.declarations.now) one.now) }
     {
         match one {
             Tallied::Characters { limits } => self.limits_rules(limits),
@@ -181,8 +181,8 @@ impl<'a> Declarations<'a> {
     }
 
     fn all_tallied_rules(&self, all: &[Tallied]) -> Result<(), BrokenRule>
-        requires { IsDeclared self.now }
-        ensures { Finds result (each (spec.tallied_rules (items_in self.now)) all.now) }
+        requires { IsDeclared self.now.declarations.now }
+        ensures { Finds result (each (spec.tallied_rules (items_in self.now.declarations.now)) all.now) }
     {
         for one in all {
             self.tallied_rules(one)?;
@@ -192,16 +192,16 @@ impl<'a> Declarations<'a> {
 
     /// A counter, and what it counts.
     fn tallying_rules(&self, one: &Tallying) -> Result<(), BrokenRule>
-        requires { IsDeclared self.now }
-        ensures { Finds result (spec.tallying_rules (items_in self.now) one.now) }
+        requires { IsDeclared self.now.declarations.now }
+        ensures { Finds result (spec.tallying_rules (items_in self.now.declarations.now) one.now) }
     {
         self.item_rules(Asked::Counts, &one.counter)?;
         self.all_tallied_rules(one.tallied.as_slice())
     }
 
     fn counters_rules(&self, all: &[Tallying]) -> Result<(), BrokenRule>
-        requires { IsDeclared self.now }
-        ensures { Finds result (each (spec.tallying_rules (items_in self.now)) all.now) }
+        requires { IsDeclared self.now.declarations.now }
+        ensures { Finds result (each (spec.tallying_rules (items_in self.now.declarations.now)) all.now) }
     {
         for one in all {
             self.tallying_rules(one)?;
@@ -210,8 +210,8 @@ impl<'a> Declarations<'a> {
     }
 
     fn replaced_text_rules(&self, one: &ReplacedText) -> Result<(), BrokenRule>
-        requires { IsDeclared self.now }
-        ensures { Finds result (spec.replaced_text_rules (items_in self.now) one.now) }
+        requires { IsDeclared self.now.declarations.now }
+        ensures { Finds result (spec.replaced_text_rules (items_in self.now.declarations.now) one.now) }
     {
         self.inspected_rules(&one.text)?;
         self.by_rules(self.size_of(&one.text), &one.by)?;
@@ -219,8 +219,8 @@ impl<'a> Declarations<'a> {
     }
 
     fn replaced_texts_rules(&self, all: &[ReplacedText]) -> Result<(), BrokenRule>
-        requires { IsDeclared self.now }
-        ensures { Finds result (each (spec.replaced_text_rules (items_in self.now)) all.now) }
+        requires { IsDeclared self.now.declarations.now }
+        ensures { Finds result (each (spec.replaced_text_rules (items_in self.now.declarations.now)) all.now) }
     {
         for one in all {
             self.replaced_text_rules(one)?;
@@ -229,8 +229,8 @@ impl<'a> Declarations<'a> {
     }
 
     fn replacing_rules(&self, one: &Replacing) -> Result<(), BrokenRule>
-        requires { IsDeclared self.now }
-        ensures { Finds result (spec.replacing_rules (items_in self.now) one.now) }
+        requires { IsDeclared self.now.declarations.now }
+        ensures { Finds result (spec.replacing_rules (items_in self.now.declarations.now) one.now) }
     {
         match one {
             Replacing::Characters { by, limits } => {
@@ -242,8 +242,8 @@ impl<'a> Declarations<'a> {
     }
 
     fn all_replacing_rules(&self, all: &[Replacing]) -> Result<(), BrokenRule>
-        requires { IsDeclared self.now }
-        ensures { Finds result (each (spec.replacing_rules (items_in self.now)) all.now) }
+        requires { IsDeclared self.now.declarations.now }
+        ensures { Finds result (each (spec.replacing_rules (items_in self.now.declarations.now)) all.now) }
     {
         for one in all {
             self.replacing_rules(one)?;
@@ -253,8 +253,8 @@ impl<'a> Declarations<'a> {
 
     /// INSPECT: its subject, its counters with what they count, and what is replaced.
     pub fn inspect_rules(&self, one: &Inspecting) -> Result<(), BrokenRule>
-        requires { IsDeclared self.now }
-        ensures { Finds result (spec.inspect_rules (items_in self.now) one.now) }
+        requires { IsDeclared self.now.declarations.now }
+        ensures { Finds result (spec.inspect_rules (items_in self.now.declarations.now) one.now) }
     {
         self.item_rules(Asked::Inspected, &one.subject)?;
         self.counters_rules(one.tallying.as_slice())?;

@@ -6,21 +6,21 @@ ghost use Rattle.source_tree.specs.Broken.{each};
 ghost use Rattle.source_tree.specs.declared.expression.Operand.TheVariants.{Item};
 ghost use Rattle.source_tree.specs.NameRules as names;
 ghost use Rattle.source_tree.specs.MoveRules as spec;
-ghost use Rattle.check_rules.specs.Named.{IsDeclared, items_in};
+ghost use Rattle.declarations.specs.Named.{IsDeclared, items_in};
 ghost use Rattle.check_rules.specs.Asking.{asks, asked_by};
 
 use crate::asked::Asked;
-use crate::declarations::Declarations;
+use crate::checker::Checker;
 use crate::forms::literal_rules;
 use crate::sent::Sent;
 use entry_rules::BrokenRule;
 use source_tree::{Operand, Reference};
 
-impl<'a> Declarations<'a> {
+impl<'a> Checker<'a> {
     /// An operand: a reference, of whose item nothing is asked, or a literal that has its form.
     pub fn operand_rules(&self, one: &Operand) -> Result<(), BrokenRule>
-        requires { IsDeclared self.now }
-        ensures { Finds result (names.operand_rules (items_in self.now) one.now) }
+        requires { IsDeclared self.now.declarations.now }
+        ensures { Finds result (names.operand_rules (items_in self.now.declarations.now) one.now) }
     {
         match one {
             Operand::Item(reference) => self.item_rules(Asked::Nothing, reference),
@@ -30,10 +30,10 @@ impl<'a> Declarations<'a> {
 
     /// What an item asks of receivers; nothing where its name doesn't name one item.
     fn asked_by_item(&self, sender: &Reference) -> Asked
-        requires { IsDeclared self.now }
-        ensures { result ≡ asked_by (spec.sent_by (items_in self.now) (Item sender.now)) }
+        requires { IsDeclared self.now.declarations.now }
+        ensures { result ≡ asked_by (spec.sent_by (items_in self.now.declarations.now) (Item sender.now)) }
     {
-        match self.item_named(&sender.item) {
+        match self.declarations.item_named(&sender.item) {
             Ok(found) => Asked::Receives(Sent::by_item(found.item)),
             Err(_) => Asked::Nothing,
         }
@@ -41,8 +41,8 @@ impl<'a> Declarations<'a> {
 
     /// What a sender asks of receivers.
     fn asked_by(&self, sender: &Operand) -> Asked
-        requires { IsDeclared self.now }
-        ensures { result ≡ asked_by (spec.sent_by (items_in self.now) sender.now) }
+        requires { IsDeclared self.now.declarations.now }
+        ensures { result ≡ asked_by (spec.sent_by (items_in self.now.declarations.now) sender.now) }
     {
         match sender {
             Operand::Item(reference) => self.asked_by_item(reference),
@@ -52,8 +52,8 @@ impl<'a> Declarations<'a> {
 
     /// Receivers, of which the same is asked, in order.
     pub(crate) fn receivers_rules(&self, asked: Asked, all: &[Reference]) -> Result<(), BrokenRule>
-        requires { IsDeclared self.now }
-        ensures { Finds result (each (names.item_rules (items_in self.now) (asks asked)) all.now) }
+        requires { IsDeclared self.now.declarations.now }
+        ensures { Finds result (each (names.item_rules (items_in self.now.declarations.now) (asks asked)) all.now) }
     {
         for one in all {
             self.item_rules(asked, one)?;
@@ -67,8 +67,8 @@ impl<'a> Declarations<'a> {
         sender: &Reference,
         receivers: &[Reference],
     ) -> Result<(), BrokenRule>
-        requires { IsDeclared self.now }
-        ensures { Finds result (spec.move_rules (items_in self.now) (Item sender.now) receivers.now) }
+        requires { IsDeclared self.now.declarations.now }
+        ensures { Finds result (spec.move_rules (items_in self.now.declarations.now) (Item sender.now) receivers.now) }
     {
         self.item_rules(Asked::Nothing, sender)?;
         self.receivers_rules(self.asked_by_item(sender), receivers)
@@ -76,8 +76,8 @@ impl<'a> Declarations<'a> {
 
     /// MOVE of a sender to receivers.
     pub fn move_rules(&self, sender: &Operand, receivers: &[Reference]) -> Result<(), BrokenRule>
-        requires { IsDeclared self.now }
-        ensures { Finds result (spec.move_rules (items_in self.now) sender.now receivers.now) }
+        requires { IsDeclared self.now.declarations.now }
+        ensures { Finds result (spec.move_rules (items_in self.now.declarations.now) sender.now receivers.now) }
     {
         self.operand_rules(sender)?;
         self.receivers_rules(self.asked_by(sender), receivers)

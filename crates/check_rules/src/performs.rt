@@ -5,10 +5,10 @@ ghost use Rattle.source_tree.specs.Procedures.{paragraphs_in, paragraphs_or_one,
 ghost use Rattle.source_tree.specs.Recursion as spec;
 ghost use Rattle.source_tree.specs.Filing.{phrases_of};
 ghost use Rattle.source_tree.specs.Recursion.{each_performs, file_phrases_performs, performs_from, phrases_performs, selected_performs};
-ghost use Rattle.check_rules.specs.Named.{IsDeclared, procedures_in};
+ghost use Rattle.declarations.specs.Named.{IsDeclared, procedures_in};
 ghost use Rattle.check_rules.specs.Performs.{Adds, AddsPhrase, in_paragraph};
 
-use crate::declarations::Declarations;
+use crate::checker::Checker;
 use perform_order::PerformedRange;
 use source_tree::{
     Arithmetic, Branching, Evaluate, FilePhrases, Filing, Name, Paragraph, Performed, Performing,
@@ -45,7 +45,7 @@ impl Performs {
     }
 }
 
-impl<'a> Declarations<'a> {
+impl<'a> Checker<'a> {
     /// What a PERFORM of procedures performs, in the paragraph of that number.
     fn range_performs(
         &self,
@@ -54,10 +54,10 @@ impl<'a> Declarations<'a> {
         last: &Option<Name>,
         all: &mut Performs,
     ) -> Result<(), AllocError>
-        requires { IsDeclared self.now }
-        ensures { OnOk result (Adds all.old all.new (in_paragraph number (spec.range_performs first.now.place (range_of (procedures_in self.now) first.now last.now)))) }
+        requires { IsDeclared self.now.declarations.now }
+        ensures { OnOk result (Adds all.old all.new (in_paragraph number (spec.range_performs first.now.place (range_of (procedures_in self.now.declarations.now) first.now last.now)))) }
     {
-        let Some(range) = self.procedures.range_of(first, last) else {
+        let Some(range) = self.declarations.procedures.range_of(first, last) else {
             return Ok(());
         };
         let performed = PerformedRange {
@@ -70,15 +70,15 @@ impl<'a> Declarations<'a> {
 
     /// What the PERFORMs in a statement perform.
     #[cycle(performs)]
-    #[tactic(auto, using(crate::proofs::PerformLayers::statement_is))]
+    #[tactic(auto, using(declarations::proofs::PerformLayers::statement_is))]
     fn statement_performs(
         &self,
         number: usize,
         one: &Statement,
         all: &mut Performs,
     ) -> Result<(), AllocError>
-        requires { IsDeclared self.now }
-        ensures { OnOk result (Adds all.old all.new (in_paragraph number (spec.statement_performs (procedures_in self.now) one.now))) }
+        requires { IsDeclared self.now.declarations.now }
+        ensures { OnOk result (Adds all.old all.new (in_paragraph number (spec.statement_performs (procedures_in self.now.declarations.now) one.now))) }
     {
         match &one.verb {
             Verb::Arithmetic(
@@ -126,8 +126,8 @@ impl<'a> Declarations<'a> {
         statements: &[Statement],
         all: &mut Performs,
     ) -> Result<(), AllocError>
-        requires { IsDeclared self.now }
-        ensures { OnOk result (Adds all.old all.new (in_paragraph number (each_performs (spec.statement_performs (procedures_in self.now)) statements.now))) }
+        requires { IsDeclared self.now.declarations.now }
+        ensures { OnOk result (Adds all.old all.new (in_paragraph number (each_performs (spec.statement_performs (procedures_in self.now.declarations.now)) statements.now))) }
     {
         for one in statements {
             self.statement_performs(number, one, all)?;
@@ -143,8 +143,8 @@ impl<'a> Declarations<'a> {
         phrase: &Option<Items<Statement>>,
         all: &mut Performs,
     ) -> Result<(), AllocError>
-        requires { IsDeclared self.now }
-        ensures { OnOk result (AddsPhrase (procedures_in self.now) number all.old all.new phrase.now) }
+        requires { IsDeclared self.now.declarations.now }
+        ensures { OnOk result (AddsPhrase (procedures_in self.now.declarations.now) number all.old all.new phrase.now) }
     {
         match phrase {
             None => Ok(()),
@@ -160,8 +160,8 @@ impl<'a> Declarations<'a> {
         pair: &Phrases<Statement>,
         all: &mut Performs,
     ) -> Result<(), AllocError>
-        requires { IsDeclared self.now }
-        ensures { OnOk result (Adds all.old all.new (in_paragraph number (phrases_performs (spec.statement_performs (procedures_in self.now)) pair.now))) }
+        requires { IsDeclared self.now.declarations.now }
+        ensures { OnOk result (Adds all.old all.new (in_paragraph number (phrases_performs (spec.statement_performs (procedures_in self.now.declarations.now)) pair.now))) }
     {
         self.phrase_performs(number, &pair.arose, all)?;
         self.phrase_performs(number, &pair.did_not, all)
@@ -175,8 +175,8 @@ impl<'a> Declarations<'a> {
         phrases: &FilePhrases<Statement>,
         all: &mut Performs,
     ) -> Result<(), AllocError>
-        requires { IsDeclared self.now }
-        ensures { OnOk result (Adds all.old all.new (in_paragraph number (file_phrases_performs (spec.statement_performs (procedures_in self.now)) phrases.now))) }
+        requires { IsDeclared self.now.declarations.now }
+        ensures { OnOk result (Adds all.old all.new (in_paragraph number (file_phrases_performs (spec.statement_performs (procedures_in self.now.declarations.now)) phrases.now))) }
     {
         match phrases {
             FilePhrases::Absent => Ok(()),
@@ -193,8 +193,8 @@ impl<'a> Declarations<'a> {
         one: &Filing<Statement>,
         all: &mut Performs,
     ) -> Result<(), AllocError>
-        requires { IsDeclared self.now }
-        ensures { OnOk result (Adds all.old all.new (in_paragraph number (file_phrases_performs (spec.statement_performs (procedures_in self.now)) (phrases_of one.now)))) }
+        requires { IsDeclared self.now.declarations.now }
+        ensures { OnOk result (Adds all.old all.new (in_paragraph number (file_phrases_performs (spec.statement_performs (procedures_in self.now.declarations.now)) (phrases_of one.now)))) }
     {
         match one {
             Filing::Open { .. } => Ok(()),
@@ -215,8 +215,8 @@ impl<'a> Declarations<'a> {
         performed: &Performed<Statement>,
         all: &mut Performs,
     ) -> Result<(), AllocError>
-        requires { IsDeclared self.now }
-        ensures { OnOk result (Adds all.old all.new (in_paragraph number (spec.performed_performs (procedures_in self.now) (spec.statement_performs (procedures_in self.now)) performed.now))) }
+        requires { IsDeclared self.now.declarations.now }
+        ensures { OnOk result (Adds all.old all.new (in_paragraph number (spec.performed_performs (procedures_in self.now.declarations.now) (spec.statement_performs (procedures_in self.now.declarations.now)) performed.now))) }
     {
         match performed {
             Performed::Procedures { first, last } => self.range_performs(number, first, last, all),
@@ -234,8 +234,8 @@ impl<'a> Declarations<'a> {
         selections: &[Selected<Statement>],
         all: &mut Performs,
     ) -> Result<(), AllocError>
-        requires { IsDeclared self.now }
-        ensures { OnOk result (Adds all.old all.new (in_paragraph number (each_performs (selected_performs (spec.statement_performs (procedures_in self.now))) selections.now))) }
+        requires { IsDeclared self.now.declarations.now }
+        ensures { OnOk result (Adds all.old all.new (in_paragraph number (each_performs (selected_performs (spec.statement_performs (procedures_in self.now.declarations.now))) selections.now))) }
     {
         for one in selections {
             self.statements_performs(number, one.statements.as_slice(), all)?;
@@ -251,8 +251,8 @@ impl<'a> Declarations<'a> {
         one: &Evaluate<Statement>,
         all: &mut Performs,
     ) -> Result<(), AllocError>
-        requires { IsDeclared self.now }
-        ensures { OnOk result (Adds all.old all.new (in_paragraph number (spec.evaluate_performs (spec.statement_performs (procedures_in self.now)) one.now))) }
+        requires { IsDeclared self.now.declarations.now }
+        ensures { OnOk result (Adds all.old all.new (in_paragraph number (spec.evaluate_performs (spec.statement_performs (procedures_in self.now.declarations.now)) one.now))) }
     {
         self.selections_performs(number, one.selected.as_slice(), all)?;
         self.phrase_performs(number, &one.other, all)
@@ -265,8 +265,8 @@ impl<'a> Declarations<'a> {
         sentences: &[Sentence],
         all: &mut Performs,
     ) -> Result<(), AllocError>
-        requires { IsDeclared self.now }
-        ensures { OnOk result (Adds all.old all.new (in_paragraph number (each_performs (spec.sentence_performs (procedures_in self.now)) sentences.now))) }
+        requires { IsDeclared self.now.declarations.now }
+        ensures { OnOk result (Adds all.old all.new (in_paragraph number (each_performs (spec.sentence_performs (procedures_in self.now.declarations.now)) sentences.now))) }
     {
         for one in sentences {
             self.statements_performs(number, one.statements.as_slice(), all)?;
@@ -281,9 +281,9 @@ impl<'a> Declarations<'a> {
         paragraphs: &[Paragraph],
         all: &mut Performs,
     ) -> Result<(), AllocError>
-        requires declared { IsDeclared self.now }
+        requires declared { IsDeclared self.now.declarations.now }
         requires numbers { first + length paragraphs.now < 2 ^ 64 }
-        ensures { OnOk result (Adds all.old all.new (performs_from (procedures_in self.now) first paragraphs.now)) }
+        ensures { OnOk result (Adds all.old all.new (performs_from (procedures_in self.now.declarations.now) first paragraphs.now)) }
     {
         for (i, one) in paragraphs.iter().enumerate() {
             self.paragraph_performs(first + i, one.sentences.as_slice(), all)?;
@@ -298,9 +298,9 @@ impl<'a> Declarations<'a> {
         one: &Section,
         all: &mut Performs,
     ) -> Result<usize, AllocError>
-        requires { IsDeclared self.now }
+        requires { IsDeclared self.now.declarations.now }
         ensures next { IfOk result (λ next. next ≡ first + length (paragraphs_or_one one.now.paragraphs)) }
-        ensures added { OnOk result (Adds all.old all.new (performs_from (procedures_in self.now) first (paragraphs_or_one one.now.paragraphs))) }
+        ensures added { OnOk result (Adds all.old all.new (performs_from (procedures_in self.now.declarations.now) first (paragraphs_or_one one.now.paragraphs))) }
     {
         let paragraphs = one.paragraphs.as_slice();
         let Some(next) = first.checked_add(paragraphs.len().max(1)) else {
@@ -316,9 +316,9 @@ impl<'a> Declarations<'a> {
         sections: &[Section],
         all: &mut Performs,
     ) -> Result<usize, AllocError>
-        requires { IsDeclared self.now }
+        requires { IsDeclared self.now.declarations.now }
         ensures count { IfOk result (λ count. count ≡ length (paragraphs_in sections.now)) }
-        ensures added { OnOk result (Adds all.old all.new (performs_from (procedures_in self.now) 0 (paragraphs_in sections.now))) }
+        ensures added { OnOk result (Adds all.old all.new (performs_from (procedures_in self.now.declarations.now) 0 (paragraphs_in sections.now))) }
     {
         let mut number = 0;
         for one in sections {

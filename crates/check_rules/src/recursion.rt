@@ -5,11 +5,11 @@ ghost use Rattle.perform_order.specs.Order.{marks};
 ghost use Rattle.source_tree.specs.Recursion.{HasOrder};
 ghost use Rattle.source_tree.specs.Rules.{sections_rules, all_permitted};
 ghost use Rattle.entry_rules.specs.Checks.{fault_of};
-ghost use Rattle.check_rules.specs.Named.{Declares, IsDeclared, scope_in};
+ghost use Rattle.declarations.specs.Named.{Declares, IsDeclared, scope_in};
 ghost use Rattle.check_rules.specs.Told.{IsBack};
 ghost use Rattle.check_rules.specs.Performs.{Leads, HasNext, StandsFirst};
 
-use crate::declarations::Declarations;
+use crate::checker::Checker;
 use crate::performs::Performs;
 use entry_rules::{BrokenRule, CheckError, Rule};
 use perform_order::{Order, PerformedRange, order_of};
@@ -54,13 +54,13 @@ fn first_back(marked: &[bool], ranges: &[PerformedRange]) -> Option<usize>
     None
 }
 
-impl<'a> Declarations<'a> {
+impl<'a> Checker<'a> {
     /// No PERFORM of the program that declares this leads back. Where one does, the answer is at the first that stands in one of some paragraphs that
     /// perform one another, and performs one of them.
     pub(crate) fn recursion_rules(&self, alloc: Global, program: &Program) -> Result<(), CheckError>
-        requires declared { IsDeclared self.now }
-        requires program { Declares program.now self.now }
-        requires kept { sections_rules (scope_in self.now) all_permitted program.now.sections ≡ [] }
+        requires declared { IsDeclared self.now.declarations.now }
+        requires program { Declares program.now self.now.declarations.now }
+        requires kept { sections_rules (scope_in self.now.declarations.now) all_permitted program.now.sections ≡ [] }
         ensures order { OnOk result (HasOrder program.now) }
         ensures back { IfErr result (λ e. IsBack program.now (fault_of e)) }
     {

@@ -4,32 +4,32 @@ ghost use Rattle.std.specs.Prelude.{◌≡◌};
 ghost use Rattle.entry_rules.specs.Checks.{Finds};
 ghost use Rattle.source_tree.specs.Broken.{each};
 ghost use Rattle.source_tree.specs.NameRules as spec;
-ghost use Rattle.check_rules.specs.Named as declared;
-ghost use Rattle.check_rules.specs.Named.{IsDeclared, items_in, subscript_rules_of};
+ghost use Rattle.declarations.specs.Named.{IsDeclared, items_in};
+ghost use Rattle.check_rules.specs.References as parts;
 ghost use Rattle.check_rules.specs.Asking.{asks};
 
 use crate::asked::Asked;
-use crate::declarations::Declarations;
+use crate::checker::Checker;
 use crate::forms::{adjustment_rules, integer_rules};
 use entry_rules::{BrokenRule, Rule};
 use source_tree::{QualifiedName, Reference, Subscript};
 
-impl<'a> Declarations<'a> {
+impl<'a> Checker<'a> {
     /// The item of a subscript is an integer, and has no subscripts.
     fn subscript_item_rules(&self, item: &QualifiedName) -> Result<(), BrokenRule>
-        requires { IsDeclared self.now }
-        ensures { Finds result (subscript_rules_of (items_in self.now) item.now) }
+        requires { IsDeclared self.now.declarations.now }
+        ensures { Finds result (parts.subscript_rules_of (items_in self.now.declarations.now) item.now) }
     {
         let place = item.name.place;
-        let found = self.item_named(item)?;
+        let found = self.declarations.item_named(item)?;
         Rule::Subscripts.broken_if(found.dimensions.as_slice().len() != 0, place)?;
         Asked::Integer.kind_rules(found.item.kind, place)
     }
 
     /// A subscript.
     fn subscript_rules(&self, one: &Subscript) -> Result<(), BrokenRule>
-        requires { IsDeclared self.now }
-        ensures { Finds result (spec.subscript_rules (items_in self.now) one.now) }
+        requires { IsDeclared self.now.declarations.now }
+        ensures { Finds result (spec.subscript_rules (items_in self.now.declarations.now) one.now) }
     {
         match one {
             Subscript::Literal(integer) => integer_rules(integer),
@@ -42,8 +42,8 @@ impl<'a> Declarations<'a> {
 
     /// Subscripts, in order.
     pub(crate) fn subscripts_rules(&self, all: &[Subscript]) -> Result<(), BrokenRule>
-        requires { IsDeclared self.now }
-        ensures { Finds result (each (spec.subscript_rules (items_in self.now)) all.now) }
+        requires { IsDeclared self.now.declarations.now }
+        ensures { Finds result (each (spec.subscript_rules (items_in self.now.declarations.now)) all.now) }
     {
         for one in all {
             self.subscript_rules(one)?;
@@ -53,11 +53,11 @@ impl<'a> Declarations<'a> {
 
     /// The item of a reference, its number of subscripts, and what is asked of it.
     fn named_rules(&self, asked: Asked, one: &Reference) -> Result<(), BrokenRule>
-        requires { IsDeclared self.now }
-        ensures { Finds result (declared.named_rules (items_in self.now) (asks asked) one.now) }
+        requires { IsDeclared self.now.declarations.now }
+        ensures { Finds result (parts.named_rules (items_in self.now.declarations.now) (asks asked) one.now) }
     {
         let place = one.item.name.place;
-        let found = self.item_named(&one.item)?;
+        let found = self.declarations.item_named(&one.item)?;
         let wanted = found.dimensions.as_slice().len();
         Rule::Subscripts.broken_if(one.subscripts.as_slice().len() != wanted, place)?;
         asked.kind_rules(found.item.kind, place)
@@ -65,8 +65,8 @@ impl<'a> Declarations<'a> {
 
     /// A reference, and what is asked of its item.
     pub(crate) fn item_rules(&self, asked: Asked, one: &Reference) -> Result<(), BrokenRule>
-        requires { IsDeclared self.now }
-        ensures { Finds result (spec.item_rules (items_in self.now) (asks asked) one.now) }
+        requires { IsDeclared self.now.declarations.now }
+        ensures { Finds result (spec.item_rules (items_in self.now.declarations.now) (asks asked) one.now) }
     {
         self.named_rules(asked, one)?;
         self.subscripts_rules(one.subscripts.as_slice())

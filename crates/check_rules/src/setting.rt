@@ -4,21 +4,21 @@ ghost use Rattle.std.specs.Prelude.{◌≡◌, [], ◌∷◌};
 ghost use Rattle.entry_rules.specs.Checks.{Finds, broken_of};
 ghost use Rattle.source_tree.specs.LookUp.{items_named, conditions_named};
 ghost use Rattle.source_tree.specs.SettingRules as spec;
-ghost use Rattle.check_rules.specs.Named.{IsDeclared, items_in};
+ghost use Rattle.declarations.specs.Named.{IsDeclared, items_in};
 
-use crate::declarations::Declarations;
+use crate::checker::Checker;
 use entry_rules::{BrokenRule, Rule};
 use names::LookUp;
 use source_tree::{QualifiedName, Reference};
 
-impl<'a> Declarations<'a> {
+impl<'a> Checker<'a> {
     /// What a name breaks that no condition name has: 68 where items have it, else 40.
     fn no_condition(&self, name: &QualifiedName) -> BrokenRule
-        requires { IsDeclared self.now }
-        ensures { spec.no_condition name.now.name.place (items_named (items_in self.now) name.now) ≡ broken_of result ∷ [] }
+        requires { IsDeclared self.now.declarations.now }
+        ensures { spec.no_condition name.now.name.place (items_named (items_in self.now.declarations.now) name.now) ≡ broken_of result ∷ [] }
     {
         names::items_named();
-        let rule = match self.names.look_up(name) {
+        let rule = match self.declarations.names.look_up(name) {
             LookUp::Unknown => Rule::UnknownName,
             LookUp::One(_) | LookUp::Several => Rule::NoCondition,
         };
@@ -28,11 +28,11 @@ impl<'a> Declarations<'a> {
 
     /// The name of a condition, which has as many subscripts as its item has dimensions.
     fn set_name_rules(&self, one: &Reference) -> Result<(), BrokenRule>
-        requires { IsDeclared self.now }
-        ensures { Finds result (spec.set_name one.now.item.name.place one.now (items_named (items_in self.now) one.now.item) (conditions_named (items_in self.now) one.now.item)) }
+        requires { IsDeclared self.now.declarations.now }
+        ensures { Finds result (spec.set_name one.now.item.name.place one.now (items_named (items_in self.now.declarations.now) one.now.item) (conditions_named (items_in self.now.declarations.now) one.now.item)) }
     {
         names::conditions_named();
-        match self.conditions.names.look_up(&one.item) {
+        match self.declarations.conditions.names.look_up(&one.item) {
             LookUp::Unknown => Err(self.no_condition(&one.item)),
             LookUp::One(_) | LookUp::Several => self.condition_named_rules(one),
         }
@@ -40,8 +40,8 @@ impl<'a> Declarations<'a> {
 
     /// The name of a condition, with its subscripts.
     fn set_one_rules(&self, one: &Reference) -> Result<(), BrokenRule>
-        requires { IsDeclared self.now }
-        ensures { Finds result (spec.set_one (items_in self.now) one.now) }
+        requires { IsDeclared self.now.declarations.now }
+        ensures { Finds result (spec.set_one (items_in self.now.declarations.now) one.now) }
     {
         self.set_name_rules(one)?;
         self.subscripts_rules(one.subscripts.as_slice())
@@ -49,8 +49,8 @@ impl<'a> Declarations<'a> {
 
     /// SET of condition names TO TRUE.
     pub fn set_rules(&self, conditions: &[Reference]) -> Result<(), BrokenRule>
-        requires { IsDeclared self.now }
-        ensures { Finds result (spec.set_rules (items_in self.now) conditions.now) }
+        requires { IsDeclared self.now.declarations.now }
+        ensures { Finds result (spec.set_rules (items_in self.now.declarations.now) conditions.now) }
     {
         for one in conditions {
             self.set_one_rules(one)?;

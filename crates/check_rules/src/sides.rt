@@ -1,31 +1,18 @@
 //! The rules of relations: 52 besides those of their sides (COBOL-85, Nucleus, "Relation condition").
 
 ghost use Rattle.std.specs.Prelude.{◌≡◌, Some};
-ghost use Rattle.std.specs.Option.{option_copied};
 ghost use Rattle.entry_rules.specs.Checks.{Finds};
-ghost use Rattle.source_tree.specs.declared.expression.Expression.{out-Expression};
 ghost use Rattle.source_tree.specs.Conditions as tree;
 ghost use Rattle.source_tree.specs.ConditionRules as spec;
-ghost use Rattle.check_rules.specs.Named.{IsDeclared, items_in};
+ghost use Rattle.declarations.specs.Named.{IsDeclared, items_in};
 ghost use Rattle.check_rules.specs.Comparing.{meant};
 
+use crate::checker::Checker;
 use crate::compared::Compared;
-use crate::declarations::Declarations;
 use crate::forms::literal_rules;
+use declarations::operand_alone;
 use entry_rules::{BrokenRule, Rule};
 use source_tree::{Expression, Operand, Place, Side};
-
-/// The operand that an expression is, if it is one alone.
-#[tactic(auto, using(crate::proofs::SideLayers::alone_operand, crate::proofs::SideLayers::alone_negated, crate::proofs::SideLayers::alone_chain))]
-pub(crate) fn operand_alone(one: &Expression) -> Option<&Operand>
-    ensures { option_copied result ≡ tree.alone (out-Expression one.now) }
-{
-    match one {
-        Expression::Operand(operand) => Some(operand),
-        Expression::Negated(_) => None,
-        Expression::Chain { .. } => None,
-    }
-}
 
 /// The side is a literal.
 fn is_literal_alone(one: &Side) -> bool
@@ -69,11 +56,11 @@ fn side_place(one: &Side) -> Place
     }
 }
 
-impl<'a> Declarations<'a> {
+impl<'a> Checker<'a> {
     /// A side by itself: an operand alone of any kind, or numbers.
     pub(crate) fn side_rules(&self, one: &Side) -> Result<(), BrokenRule>
-        requires { IsDeclared self.now }
-        ensures { Finds result (spec.side_rules (items_in self.now) one.now) }
+        requires { IsDeclared self.now.declarations.now }
+        ensures { Finds result (spec.side_rules (items_in self.now.declarations.now) one.now) }
     {
         match one {
             Side::Expression(expression) => match operand_alone(expression) {
@@ -86,11 +73,11 @@ impl<'a> Declarations<'a> {
 
     /// What an operand is beside another.
     fn operand_compared(&self, one: &Operand) -> Compared
-        requires { IsDeclared self.now }
-        ensures { meant result ≡ spec.compared_alone (items_in self.now) (Some one.now) }
+        requires { IsDeclared self.now.declarations.now }
+        ensures { meant result ≡ spec.compared_alone (items_in self.now.declarations.now) (Some one.now) }
     {
         match one {
-            Operand::Item(reference) => match self.item_named(&reference.item) {
+            Operand::Item(reference) => match self.declarations.item_named(&reference.item) {
                 Ok(found) => Compared::of_kind(found.item.kind),
                 Err(_) => Compared::Either,
             },
@@ -100,8 +87,8 @@ impl<'a> Declarations<'a> {
 
     /// What a side is beside another.
     fn side_compared(&self, one: &Side) -> Compared
-        requires { IsDeclared self.now }
-        ensures { meant result ≡ spec.compared_alone (items_in self.now) (tree.alone_side one.now) }
+        requires { IsDeclared self.now.declarations.now }
+        ensures { meant result ≡ spec.compared_alone (items_in self.now.declarations.now) (tree.alone_side one.now) }
     {
         match one {
             Side::Expression(expression) => match operand_alone(expression) {
@@ -114,8 +101,8 @@ impl<'a> Declarations<'a> {
 
     /// Two sides, which can be compared: not two literals, not a number with decimals or in another usage beside characters.
     pub fn relation_rules(&self, left: &Side, right: &Side) -> Result<(), BrokenRule>
-        requires { IsDeclared self.now }
-        ensures { Finds result (spec.relation_rules (items_in self.now) left.now right.now) }
+        requires { IsDeclared self.now.declarations.now }
+        ensures { Finds result (spec.relation_rules (items_in self.now.declarations.now) left.now right.now) }
     {
         self.side_rules(left)?;
         self.side_rules(right)?;

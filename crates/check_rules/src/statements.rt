@@ -8,9 +8,9 @@ ghost use Rattle.source_tree.specs.Filing.{phrases_of};
 ghost use Rattle.source_tree.specs.FilingRules.{filing_rules};
 ghost use Rattle.source_tree.specs.Rules as spec;
 ghost use Rattle.source_tree.specs.Rules.{all_permitted};
-ghost use Rattle.check_rules.specs.Named.{IsDeclared, files_in, items_in, scope_in};
+ghost use Rattle.declarations.specs.Named.{IsDeclared, files_in, items_in, scope_in};
 
-use crate::declarations::Declarations;
+use crate::checker::Checker;
 use entry_rules::BrokenRule;
 use source_tree::{
     Arithmetic, Branching, Evaluate, FilePhrases, Filing, Moving, Paragraph, Performed, Performing,
@@ -18,10 +18,10 @@ use source_tree::{
 };
 use sqlite_items::Items;
 
-impl<'a> Declarations<'a> {
+impl<'a> Checker<'a> {
     fn moving_rules(&self, one: &Moving) -> Result<(), BrokenRule>
-        requires { IsDeclared self.now }
-        ensures { Finds result (spec.moving_rules (items_in self.now) one.now) }
+        requires { IsDeclared self.now.declarations.now }
+        ensures { Finds result (spec.moving_rules (items_in self.now.declarations.now) one.now) }
     {
         match one {
             Moving::Move { sender, receivers } => self.move_rules(sender, receivers.as_slice()),
@@ -31,8 +31,8 @@ impl<'a> Declarations<'a> {
     }
 
     fn text_rules(&self, one: &Text) -> Result<(), BrokenRule>
-        requires { IsDeclared self.now }
-        ensures { Finds result (spec.text_rules (items_in self.now) one.now) }
+        requires { IsDeclared self.now.declarations.now }
+        ensures { Finds result (spec.text_rules (items_in self.now.declarations.now) one.now) }
     {
         match one {
             Text::Display { operands, .. } => self.display_rules(operands.as_slice()),
@@ -44,10 +44,10 @@ impl<'a> Declarations<'a> {
 
     /// A statement, with those in it.
     #[cycle(statement)]
-    #[tactic(auto, using(crate::proofs::RuleLayers::statement_is))]
+    #[tactic(auto, using(declarations::proofs::RuleLayers::statement_is))]
     pub fn statement_rules(&self, one: &Statement) -> Result<(), BrokenRule>
-        requires { IsDeclared self.now }
-        ensures { Finds result (spec.statement_rules (scope_in self.now) all_permitted one.now) }
+        requires { IsDeclared self.now.declarations.now }
+        ensures { Finds result (spec.statement_rules (scope_in self.now.declarations.now) all_permitted one.now) }
     {
         match &one.verb {
             Verb::Moving(moving) => self.moving_rules(moving),
@@ -94,8 +94,8 @@ impl<'a> Declarations<'a> {
     /// Statements, in order.
     #[cycle(statement)]
     fn statements_rules(&self, all: &[Statement]) -> Result<(), BrokenRule>
-        requires { IsDeclared self.now }
-        ensures { Finds result (each (spec.statement_rules (scope_in self.now) all_permitted) all.now) }
+        requires { IsDeclared self.now.declarations.now }
+        ensures { Finds result (each (spec.statement_rules (scope_in self.now.declarations.now) all_permitted) all.now) }
     {
         for one in all {
             self.statement_rules(one)?;
@@ -106,8 +106,8 @@ impl<'a> Declarations<'a> {
     /// The statements of a phrase, if it stands.
     #[cycle(statement)]
     fn phrase_rules(&self, phrase: &Option<Items<Statement>>) -> Result<(), BrokenRule>
-        requires { IsDeclared self.now }
-        ensures { Finds result (spec.phrase_rules (spec.statement_rules (scope_in self.now) all_permitted) phrase.now) }
+        requires { IsDeclared self.now.declarations.now }
+        ensures { Finds result (spec.phrase_rules (spec.statement_rules (scope_in self.now.declarations.now) all_permitted) phrase.now) }
     {
         match phrase {
             None => Ok(()),
@@ -118,8 +118,8 @@ impl<'a> Declarations<'a> {
     /// The statements of a phrase and its opposite.
     #[cycle(statement)]
     fn opposite_rules(&self, pair: &Phrases<Statement>) -> Result<(), BrokenRule>
-        requires { IsDeclared self.now }
-        ensures { Finds result (spec.phrases_rules (spec.statement_rules (scope_in self.now) all_permitted) pair.now) }
+        requires { IsDeclared self.now.declarations.now }
+        ensures { Finds result (spec.phrases_rules (spec.statement_rules (scope_in self.now.declarations.now) all_permitted) pair.now) }
     {
         self.phrase_rules(&pair.arose)?;
         self.phrase_rules(&pair.did_not)
@@ -128,8 +128,8 @@ impl<'a> Declarations<'a> {
     /// Those of the phrases of a file statement.
     #[cycle(statement)]
     fn file_phrases_rules(&self, phrases: &FilePhrases<Statement>) -> Result<(), BrokenRule>
-        requires { IsDeclared self.now }
-        ensures { Finds result (spec.file_phrases_rules (spec.statement_rules (scope_in self.now) all_permitted) phrases.now) }
+        requires { IsDeclared self.now.declarations.now }
+        ensures { Finds result (spec.file_phrases_rules (spec.statement_rules (scope_in self.now.declarations.now) all_permitted) phrases.now) }
     {
         match phrases {
             FilePhrases::Absent => Ok(()),
@@ -141,8 +141,8 @@ impl<'a> Declarations<'a> {
     /// The statements in a file statement.
     #[cycle(statement)]
     fn filed_rules(&self, one: &Filing<Statement>) -> Result<(), BrokenRule>
-        requires { IsDeclared self.now }
-        ensures { Finds result (spec.file_phrases_rules (spec.statement_rules (scope_in self.now) all_permitted) (phrases_of one.now)) }
+        requires { IsDeclared self.now.declarations.now }
+        ensures { Finds result (spec.file_phrases_rules (spec.statement_rules (scope_in self.now.declarations.now) all_permitted) (phrases_of one.now)) }
     {
         match one {
             Filing::Open { .. } => Ok(()),
@@ -158,8 +158,8 @@ impl<'a> Declarations<'a> {
     /// A file statement, with those in its phrases.
     #[cycle(statement)]
     fn file_statement_rules(&self, one: &Filing<Statement>) -> Result<(), BrokenRule>
-        requires { IsDeclared self.now }
-        ensures { Finds result (filing_rules (items_in self.now) (files_in self.now) one.now ++ spec.file_phrases_rules (spec.statement_rules (scope_in self.now) all_permitted) (phrases_of one.now)) }
+        requires { IsDeclared self.now.declarations.now }
+        ensures { Finds result (filing_rules (items_in self.now.declarations.now) (files_in self.now.declarations.now) one.now ++ spec.file_phrases_rules (spec.statement_rules (scope_in self.now.declarations.now) all_permitted) (phrases_of one.now)) }
     {
         self.filing_rules(one)?;
         self.filed_rules(one)
@@ -172,8 +172,8 @@ impl<'a> Declarations<'a> {
         subjects: &[Subject],
         one: &Selected<Statement>,
     ) -> Result<(), BrokenRule>
-        requires { IsDeclared self.now }
-        ensures { Finds result (selected_rules (items_in self.now) (spec.statement_rules (scope_in self.now) all_permitted) subjects.now one.now) }
+        requires { IsDeclared self.now.declarations.now }
+        ensures { Finds result (selected_rules (items_in self.now.declarations.now) (spec.statement_rules (scope_in self.now.declarations.now) all_permitted) subjects.now one.now) }
     {
         self.whens_rules(subjects, one.whens.as_slice())?;
         self.statements_rules(one.statements.as_slice())
@@ -186,8 +186,8 @@ impl<'a> Declarations<'a> {
         subjects: &[Subject],
         all: &[Selected<Statement>],
     ) -> Result<(), BrokenRule>
-        requires { IsDeclared self.now }
-        ensures { Finds result (each (selected_rules (items_in self.now) (spec.statement_rules (scope_in self.now) all_permitted) subjects.now) all.now) }
+        requires { IsDeclared self.now.declarations.now }
+        ensures { Finds result (each (selected_rules (items_in self.now.declarations.now) (spec.statement_rules (scope_in self.now.declarations.now) all_permitted) subjects.now) all.now) }
     {
         for one in all {
             self.selected_rules(subjects, one)?;
@@ -198,8 +198,8 @@ impl<'a> Declarations<'a> {
     /// EVALUATE: its subjects, its WHENs with their statements, and those of OTHER.
     #[cycle(statement)]
     fn evaluate_rules(&self, one: &Evaluate<Statement>) -> Result<(), BrokenRule>
-        requires { IsDeclared self.now }
-        ensures { Finds result (spec.evaluate_rules (items_in self.now) (spec.statement_rules (scope_in self.now) all_permitted) one.now) }
+        requires { IsDeclared self.now.declarations.now }
+        ensures { Finds result (spec.evaluate_rules (items_in self.now.declarations.now) (spec.statement_rules (scope_in self.now.declarations.now) all_permitted) one.now) }
     {
         let subjects = one.subjects.as_slice();
         self.subjects_rules(subjects)?;
@@ -208,15 +208,15 @@ impl<'a> Declarations<'a> {
     }
 
     fn sentence_rules(&self, one: &Sentence) -> Result<(), BrokenRule>
-        requires { IsDeclared self.now }
-        ensures { Finds result (spec.sentence_rules (scope_in self.now) all_permitted one.now) }
+        requires { IsDeclared self.now.declarations.now }
+        ensures { Finds result (spec.sentence_rules (scope_in self.now.declarations.now) all_permitted one.now) }
     {
         self.statements_rules(one.statements.as_slice())
     }
 
     fn sentences_rules(&self, all: &[Sentence]) -> Result<(), BrokenRule>
-        requires { IsDeclared self.now }
-        ensures { Finds result (each (spec.sentence_rules (scope_in self.now) all_permitted) all.now) }
+        requires { IsDeclared self.now.declarations.now }
+        ensures { Finds result (each (spec.sentence_rules (scope_in self.now.declarations.now) all_permitted) all.now) }
     {
         for one in all {
             self.sentence_rules(one)?;
@@ -225,15 +225,15 @@ impl<'a> Declarations<'a> {
     }
 
     fn paragraph_rules(&self, one: &Paragraph) -> Result<(), BrokenRule>
-        requires { IsDeclared self.now }
-        ensures { Finds result (spec.paragraph_rules (scope_in self.now) all_permitted one.now) }
+        requires { IsDeclared self.now.declarations.now }
+        ensures { Finds result (spec.paragraph_rules (scope_in self.now.declarations.now) all_permitted one.now) }
     {
         self.sentences_rules(one.sentences.as_slice())
     }
 
     fn paragraphs_rules(&self, all: &[Paragraph]) -> Result<(), BrokenRule>
-        requires { IsDeclared self.now }
-        ensures { Finds result (each (spec.paragraph_rules (scope_in self.now) all_permitted) all.now) }
+        requires { IsDeclared self.now.declarations.now }
+        ensures { Finds result (each (spec.paragraph_rules (scope_in self.now.declarations.now) all_permitted) all.now) }
     {
         for one in all {
             self.paragraph_rules(one)?;
@@ -242,16 +242,16 @@ impl<'a> Declarations<'a> {
     }
 
     fn section_rules(&self, one: &Section) -> Result<(), BrokenRule>
-        requires { IsDeclared self.now }
-        ensures { Finds result (spec.section_rules (scope_in self.now) all_permitted one.now) }
+        requires { IsDeclared self.now.declarations.now }
+        ensures { Finds result (spec.section_rules (scope_in self.now.declarations.now) all_permitted one.now) }
     {
         self.paragraphs_rules(one.paragraphs.as_slice())
     }
 
     /// The statements of sections, in order.
     pub fn sections_rules(&self, all: &[Section]) -> Result<(), BrokenRule>
-        requires { IsDeclared self.now }
-        ensures { Finds result (spec.sections_rules (scope_in self.now) all_permitted all.now) }
+        requires { IsDeclared self.now.declarations.now }
+        ensures { Finds result (spec.sections_rules (scope_in self.now.declarations.now) all_permitted all.now) }
     {
         for one in all {
             self.section_rules(one)?;

@@ -6,10 +6,10 @@ ghost use Rattle.entry_rules.specs.Checks.{Finds};
 ghost use Rattle.source_tree.specs.Broken.{each};
 ghost use Rattle.source_tree.specs.LookUp.{items_named};
 ghost use Rattle.source_tree.specs.StringRules as spec;
-ghost use Rattle.check_rules.specs.Named.{IsDeclared, items_in};
+ghost use Rattle.declarations.specs.Named.{IsDeclared, items_in};
 
 use crate::asked::Asked;
-use crate::declarations::Declarations;
+use crate::checker::Checker;
 use entry_rules::{BrokenRule, Rule};
 use source_tree::{
     Literal, LiteralValue, Operand, QualifiedName, Reference, Sending, Statement, Stringing,
@@ -33,11 +33,11 @@ fn sent_literal(one: &Literal) -> Result<(), BrokenRule>
     }
 }
 
-impl<'a> Declarations<'a> {
+impl<'a> Checker<'a> {
     /// A sender or a delimiter.
     fn sent_rules(&self, one: &Operand) -> Result<(), BrokenRule>
-        requires { IsDeclared self.now }
-        ensures { Finds result (spec.sent_rules (items_in self.now) one.now) }
+        requires { IsDeclared self.now.declarations.now }
+        ensures { Finds result (spec.sent_rules (items_in self.now.declarations.now) one.now) }
     {
         match one {
             Operand::Item(reference) => self.item_rules(Asked::SendsText, reference),
@@ -47,8 +47,8 @@ impl<'a> Declarations<'a> {
 
     /// Senders, in order.
     fn senders_rules(&self, all: &[Operand]) -> Result<(), BrokenRule>
-        requires { IsDeclared self.now }
-        ensures { Finds result (each (spec.sent_rules (items_in self.now)) all.now) }
+        requires { IsDeclared self.now.declarations.now }
+        ensures { Finds result (each (spec.sent_rules (items_in self.now.declarations.now)) all.now) }
     {
         for one in all {
             self.sent_rules(one)?;
@@ -57,8 +57,8 @@ impl<'a> Declarations<'a> {
     }
 
     fn delimiter_rules(&self, delimiter: &Option<Operand>) -> Result<(), BrokenRule>
-        requires { IsDeclared self.now }
-        ensures { Finds result (spec.delimiter_rules (items_in self.now) delimiter.now) }
+        requires { IsDeclared self.now.declarations.now }
+        ensures { Finds result (spec.delimiter_rules (items_in self.now.declarations.now) delimiter.now) }
     {
         match delimiter {
             None => Ok(()),
@@ -68,16 +68,16 @@ impl<'a> Declarations<'a> {
 
     /// Senders, and the delimiter behind them.
     fn sending_rules(&self, one: &Sending) -> Result<(), BrokenRule>
-        requires { IsDeclared self.now }
-        ensures { Finds result (spec.sending_rules (items_in self.now) one.now) }
+        requires { IsDeclared self.now.declarations.now }
+        ensures { Finds result (spec.sending_rules (items_in self.now.declarations.now) one.now) }
     {
         self.senders_rules(one.senders.as_slice())?;
         self.delimiter_rules(&one.delimiter)
     }
 
     fn sendings_rules(&self, all: &[Sending]) -> Result<(), BrokenRule>
-        requires { IsDeclared self.now }
-        ensures { Finds result (each (spec.sending_rules (items_in self.now)) all.now) }
+        requires { IsDeclared self.now.declarations.now }
+        ensures { Finds result (each (spec.sending_rules (items_in self.now.declarations.now)) all.now) }
     {
         for one in all {
             self.sending_rules(one)?;
@@ -87,10 +87,10 @@ impl<'a> Declarations<'a> {
 
     /// The bytes of the item that a name names; 0 where it doesn't name one.
     fn length_named(&self, name: &QualifiedName) -> u32
-        requires { IsDeclared self.now }
-        ensures { result ≡ spec.only_length (items_named (items_in self.now) name.now) }
+        requires { IsDeclared self.now.declarations.now }
+        ensures { result ≡ spec.only_length (items_named (items_in self.now.declarations.now) name.now) }
     {
-        match self.item_named(name) {
+        match self.declarations.item_named(name) {
             Ok(found) => found.item.length,
             Err(_) => 0,
         }
@@ -98,8 +98,8 @@ impl<'a> Declarations<'a> {
 
     /// A pointer for a receiver of so many bytes.
     fn pointer_rules(&self, size: u32, pointer: &Option<Reference>) -> Result<(), BrokenRule>
-        requires { IsDeclared self.now }
-        ensures { Finds result (spec.pointer_rules (items_in self.now) size pointer.now) }
+        requires { IsDeclared self.now.declarations.now }
+        ensures { Finds result (spec.pointer_rules (items_in self.now.declarations.now) size pointer.now) }
     {
         match pointer {
             None => Ok(()),
@@ -109,8 +109,8 @@ impl<'a> Declarations<'a> {
 
     /// STRING without its phrases.
     pub fn string_rules(&self, one: &Stringing<Statement>) -> Result<(), BrokenRule>
-        requires { IsDeclared self.now }
-        ensures { Finds result (spec.string_rules (items_in self.now) one.now) }
+        requires { IsDeclared self.now.declarations.now }
+        ensures { Finds result (spec.string_rules (items_in self.now.declarations.now) one.now) }
     {
         self.sendings_rules(one.sendings.as_slice())?;
         self.item_rules(Asked::ReceivesText, &one.receiver)?;

@@ -3,19 +3,19 @@
 ghost use Rattle.std.specs.Prelude.{◌≡◌};
 ghost use Rattle.entry_rules.specs.Checks.{Finds};
 ghost use Rattle.source_tree.specs.TextRules as spec;
-ghost use Rattle.check_rules.specs.Named.{IsDeclared, items_in};
+ghost use Rattle.declarations.specs.Named.{IsDeclared, items_in};
 
 use crate::asked::Asked;
-use crate::declarations::Declarations;
+use crate::checker::Checker;
 use crate::sent::Sent;
 use entry_rules::{BrokenRule, Rule};
 use source_tree::{LiteralValue, Operand, Reference};
 
-impl<'a> Declarations<'a> {
+impl<'a> Checker<'a> {
     /// An operand that is shown: ALL with a literal isn't.
     fn shown_rules(&self, one: &Operand) -> Result<(), BrokenRule>
-        requires { IsDeclared self.now }
-        ensures { Finds result (spec.shown_rules (items_in self.now) one.now) }
+        requires { IsDeclared self.now.declarations.now }
+        ensures { Finds result (spec.shown_rules (items_in self.now.declarations.now) one.now) }
     {
         match one {
             Operand::Item(reference) => self.item_rules(Asked::Nothing, reference),
@@ -28,8 +28,8 @@ impl<'a> Declarations<'a> {
 
     /// DISPLAY of operands.
     pub fn display_rules(&self, operands: &[Operand]) -> Result<(), BrokenRule>
-        requires { IsDeclared self.now }
-        ensures { Finds result (spec.display_rules (items_in self.now) operands.now) }
+        requires { IsDeclared self.now.declarations.now }
+        ensures { Finds result (spec.display_rules (items_in self.now.declarations.now) operands.now) }
     {
         for one in operands {
             self.shown_rules(one)?;
@@ -39,16 +39,16 @@ impl<'a> Declarations<'a> {
 
     /// ACCEPT of a console line.
     pub fn accept_line_rules(&self, receiver: &Reference) -> Result<(), BrokenRule>
-        requires { IsDeclared self.now }
-        ensures { Finds result (spec.accept_line_rules (items_in self.now) receiver.now) }
+        requires { IsDeclared self.now.declarations.now }
+        ensures { Finds result (spec.accept_line_rules (items_in self.now.declarations.now) receiver.now) }
     {
         self.item_rules(Asked::Nothing, receiver)
     }
 
     /// ACCEPT FROM DATE: a MOVE of six digits.
     pub fn accept_date_rules(&self, receiver: &Reference) -> Result<(), BrokenRule>
-        requires { IsDeclared self.now }
-        ensures { Finds result (spec.accept_date_rules (items_in self.now) receiver.now) }
+        requires { IsDeclared self.now.declarations.now }
+        ensures { Finds result (spec.accept_date_rules (items_in self.now.declarations.now) receiver.now) }
     {
         self.item_rules(Asked::Receives(Sent::date()), receiver)
     }

@@ -5,19 +5,19 @@ ghost use Rattle.std.specs.Prelude.{◌≡◌, Some};
 ghost use Rattle.entry_rules.specs.Checks.{Finds};
 ghost use Rattle.source_tree.specs.ConditionRules as spec;
 ghost use Rattle.source_tree.specs.Rules as rules;
-ghost use Rattle.check_rules.specs.Named.{IsDeclared, items_in};
+ghost use Rattle.declarations.specs.Named.{IsDeclared, items_in};
 
 use crate::asked::Asked;
-use crate::declarations::Declarations;
+use crate::checker::Checker;
 use entry_rules::BrokenRule;
 use source_tree::{Turns, Until, Varying};
 use std::slice;
 
-impl<'a> Declarations<'a> {
+impl<'a> Checker<'a> {
     /// VARYING: FROM is a number that is moved, and BY one that is added.
     fn varying_rules(&self, one: &Varying) -> Result<(), BrokenRule>
-        requires { IsDeclared self.now }
-        ensures { Finds result (spec.varying_rules (items_in self.now) (Some one.now)) }
+        requires { IsDeclared self.now.declarations.now }
+        ensures { Finds result (spec.varying_rules (items_in self.now.declarations.now) (Some one.now)) }
     {
         self.move_rules(&one.from, slice::from_ref(&one.item))?;
         self.number_rules(&one.from)?;
@@ -27,8 +27,8 @@ impl<'a> Declarations<'a> {
 
     /// UNTIL, with VARYING or without.
     pub fn until_rules(&self, one: &Until) -> Result<(), BrokenRule>
-        requires { IsDeclared self.now }
-        ensures { Finds result (spec.until_rules (items_in self.now) one.now) }
+        requires { IsDeclared self.now.declarations.now }
+        ensures { Finds result (spec.until_rules (items_in self.now.declarations.now) one.now) }
     {
         if let Some(varying) = &one.varying {
             self.varying_rules(varying)?;
@@ -38,8 +38,8 @@ impl<'a> Declarations<'a> {
 
     /// How often a PERFORM turns.
     pub(crate) fn turns_rules(&self, one: &Turns) -> Result<(), BrokenRule>
-        requires { IsDeclared self.now }
-        ensures { Finds result (rules.turns_rules (items_in self.now) one.now) }
+        requires { IsDeclared self.now.declarations.now }
+        ensures { Finds result (rules.turns_rules (items_in self.now.declarations.now) one.now) }
     {
         match one {
             Turns::Once => Ok(()),

@@ -11,9 +11,9 @@ use Rattle.source_tree.specs.Records.{program_areas}
 use Rattle.source_tree.specs.Rules.{all_permitted, sections_rules}
 use Rattle.source_tree.specs.Setting.{Scope, scope}
 use Rattle.code_image.specs.declared.code.Code.{Code}
-use Rattle.check_rules.specs.declared.declarations.Declarations.{Declarations}
-use Rattle.check_rules.specs.Named.{Declares, IsDeclared, data_in, files_in, items_in, scope_in}
-use Rattle.check_rules.proofs.Declared.{same_scope}
+use Rattle.declarations.specs.declared.declarations.Declarations.{Declarations}
+use Rattle.declarations.specs.Named.{Declares, IsDeclared, data_in, files_in, items_in, scope_in}
+use Rattle.declarations.proofs.Declared.{same_scope}
 use Rattle.codegen.specs.Layout.{code_of, end_piece, section_piece, storage_code, storage_with}
 use Rattle.codegen.specs.Pieces.{in_order, joined}
 use Rattle.codegen.proofs.ConditionValues.{descriptions_kept}

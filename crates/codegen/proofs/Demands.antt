@@ -49,8 +49,8 @@ use Rattle.code_image.specs.declared.code.Code.{Code}
 use Rattle.code_image.specs.declared.instruction.Instruction.{Instruction}
 use Rattle.code_image.specs.declared.instruction.Instruction.TheVariants.{Tick, Stop, Turn, Branch, Perform}
 use Rattle.code_image.specs.Demands.{UsesBudget, ends_in, LeadsBack}
-use Rattle.check_rules.proofs.RuleLayers.{mapped_rules}
-use Rattle.check_rules.proofs.PerformLayers.{mapped_performs}
+use Rattle.declarations.proofs.RuleLayers.{mapped_rules}
+use Rattle.declarations.proofs.PerformLayers.{mapped_performs}
 use Rattle.codegen.specs.Pieces.{Piece, joined, both, in_order}
 use Rattle.codegen.specs.Meeting.{branch_code, either_piece, nothing_piece}
 use Rattle.codegen.specs.DataCode.{work_piece, taking_piece}

@@ -18,7 +18,7 @@ use Rattle.source_tree.specs.Setting.{Scope}
 use Rattle.file_tables.specs.declared.class.StatusClass.{StatusClass}
 use Rattle.file_tables.specs.declared.class.StatusClass.TheVariants as class
 use Rattle.code_image.specs.declared.code.Code.{Code}
-use Rattle.check_rules.proofs.FilingLayers.{mapped_phrases, mapped_filing}
+use Rattle.declarations.proofs.FilingLayers.{mapped_phrases, mapped_filing}
 use Rattle.codegen.specs.Pieces.{Piece, joined, both, in_order}
 use Rattle.codegen.specs.Meeting.{either_piece, nothing_piece}
 use Rattle.codegen.specs.FileCode.{file_piece, test_piece, unheard_piece, on_file_piece, into_piece, from_piece}

@@ -65,7 +65,7 @@ use Rattle.code_image.specs.declared.code.Code.{Code}
 use Rattle.code_image.specs.declared.instruction.Instruction.{Instruction}
 use Rattle.code_image.specs.declared.instruction.Instruction.TheVariants as instruction
 use Rattle.code_image.specs.Known.{known_after, known_along}
-use Rattle.check_rules.proofs.RuleLayers.{mapped_rules}
+use Rattle.declarations.proofs.RuleLayers.{mapped_rules}
 use Rattle.codegen.specs.Pieces.{Piece, joined, both, in_order, plain}
 use Rattle.codegen.specs.Meeting.{branch_code, either_piece, nothing_piece}
 use Rattle.codegen.specs.DataCode.{work_piece, taking_piece, reference_piece, operands_piece, line_end_piece, show_piece}

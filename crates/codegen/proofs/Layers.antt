@@ -20,7 +20,7 @@ use Rattle.source_tree.specs.Evaluate.{selected_asked}
 use Rattle.source_tree.specs.Performing.{turns_of}
 use Rattle.source_tree.specs.Places.{Placed}
 use Rattle.source_tree.specs.Setting.{Scope}
-use Rattle.check_rules.proofs.FilingLayers.{filing_mapped}
+use Rattle.declarations.proofs.FilingLayers.{filing_mapped}
 use Rattle.codegen.specs.Pieces.{Piece, joined, both, in_order}
 use Rattle.codegen.specs.ArithmeticCode.{arithmetic_piece}
 use Rattle.source_tree.specs.declared.branching.Branching.{Branching}

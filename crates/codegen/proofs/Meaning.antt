@@ -23,7 +23,7 @@ use Rattle.source_tree.specs.State.{State}
 use Rattle.source_tree.specs.Storage.{Storage}
 use Rattle.source_tree.specs.Meaning.{closed_connectors, start, meaning}
 use Rattle.source_tree.specs.Records.{storage_areas}
-use Rattle.check_rules.proofs.Permitted.{permitted_kept}
+use Rattle.declarations.proofs.Permitted.{permitted_kept}
 use Rattle.records.specs.Connector.{Connector, closed}
 use Rattle.file_tables.specs.declared.file.CodeFile.{CodeFile}
 use Rattle.code_image.specs.declared.code.Code.{Code}

@@ -19,7 +19,7 @@ use Rattle.source_tree.proofs.StatementRuns.{exec_runs, ranged_runs}
 use Rattle.data_instructions.specs.Tables.{IsTables}
 use Rattle.data_instructions.specs.Chains.{LiesWhole}
 use Rattle.data_instructions.specs.Codes.{data_item}
-use Rattle.check_rules.proofs.RuleLayers as rules
+use Rattle.declarations.proofs.RuleLayers as rules
 use Rattle.code_image.specs.declared.code.Code.{Code}
 use Rattle.code_image.specs.declared.instruction.Instruction.TheVariants.{Stop, Perform, Back}
 use Rattle.code_image.specs.Points.{Return, Own}

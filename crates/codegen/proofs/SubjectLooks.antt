@@ -33,8 +33,8 @@ use Rattle.source_tree.specs.References.{ItemPlace, part_of, place_behind, bytes
 use Rattle.source_tree.specs.State.{State, Outcome, in_turn, with_value}
 use Rattle.source_tree.specs.Storage.{Storage}
 use Rattle.source_tree.proofs.Subjects.{beside_zero}
-use Rattle.check_rules.specs.Looking.{choice_looked, asked_of_looked}
-use Rattle.check_rules.proofs.Looking.{asked_is}
+use Rattle.declarations.specs.Looking.{choice_looked, asked_of_looked}
+use Rattle.declarations.proofs.Looking.{asked_is}
 use Rattle.code_image.specs.declared.code.Code.{Code}
 use Rattle.codegen.specs.Pieces.{Piece, joined}
 use Rattle.codegen.specs.ConditionCode.{relation_piece}

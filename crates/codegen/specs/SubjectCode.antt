@@ -18,7 +18,7 @@ use Rattle.source_tree.specs.Conditions.{alone_side}
 use Rattle.source_tree.specs.Evaluate.{Wanted, Looked, Value, Truth, Asking, looked_subject}
 use Rattle.source_tree.specs.LookUp.{first}
 use Rattle.source_tree.specs.Places.{Placed}
-use Rattle.check_rules.specs.Looking.{choice_looked}
+use Rattle.declarations.specs.Looking.{choice_looked}
 use Rattle.codegen.specs.Pieces.{Piece, in_order}
 use Rattle.codegen.specs.Meeting.{nothing_piece}
 use Rattle.codegen.specs.DataCode.{item_number}

@@ -7,7 +7,7 @@ ghost use Rattle.source_tree.specs.ArithmeticRules.{number_receiver, number_rule
 ghost use Rattle.data_instructions.specs.ArithmeticCodes as codes;
 ghost use Rattle.data_instructions.specs.declared.calculation.Calculation.TheVariants as c;
 ghost use Rattle.data_instructions.specs.declared.instruction.DataInstruction.TheVariants as i;
-ghost use Rattle.check_rules.specs.Named.{IsDeclared, items_in};
+ghost use Rattle.declarations.specs.Named.{IsDeclared, items_in};
 ghost use Rattle.codegen.specs.Pieces.{joined, both};
 ghost use Rattle.codegen.specs.DataCode.{work_piece, works_piece};
 ghost use Rattle.codegen.specs.ArithmeticCode as spec;

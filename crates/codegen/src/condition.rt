@@ -14,7 +14,7 @@ ghost use Rattle.source_tree.specs.ValueRules.{has_form};
 ghost use Rattle.data_instructions.specs.ConditionCodes.{negation};
 ghost use Rattle.data_instructions.specs.declared.test.Test.TheVariants as t;
 ghost use Rattle.data_instructions.specs.declared.instruction.DataInstruction.TheVariants as i;
-ghost use Rattle.check_rules.specs.Named.{IsDeclared, items_in};
+ghost use Rattle.declarations.specs.Named.{IsDeclared, items_in};
 ghost use Rattle.codegen.specs.Pieces.{joined, both, in_order};
 ghost use Rattle.codegen.specs.DataCode.{sender_piece, work_piece, works_piece, number_piece, taking_piece};
 ghost use Rattle.codegen.specs.ArithmeticCode.{zero_number, value_piece, expression_piece};

@@ -3,7 +3,7 @@
 ghost use Rattle.std.specs.Prelude.{◌≡◌, [], OnOk, IfOk};
 ghost use Rattle.source_tree.specs.EntryRules.{entry_rules};
 ghost use Rattle.source_tree.specs.ConditionRules.{condition_name_rules};
-ghost use Rattle.check_rules.specs.Named.{IsDeclared, items_in};
+ghost use Rattle.declarations.specs.Named.{IsDeclared, items_in};
 ghost use Rattle.codegen.specs.Pieces.{joined};
 ghost use Rattle.codegen.specs.ConditionCode as spec;
 ghost use Rattle.codegen.specs.Values.{HasForms, AreFormedValues};

@@ -7,7 +7,7 @@ ghost use Rattle.source_tree.specs.EntryRules.{entry_rules};
 ghost use Rattle.source_tree.specs.Procedures.{range_of};
 ghost use Rattle.source_tree.specs.Rules as rules;
 ghost use Rattle.source_tree.specs.Rules.{all_permitted};
-ghost use Rattle.check_rules.specs.Named.{IsDeclared, items_in, scope_in};
+ghost use Rattle.declarations.specs.Named.{IsDeclared, items_in, scope_in};
 ghost use Rattle.codegen.specs.Pieces.{joined, both, in_order};
 ghost use Rattle.codegen.specs.UntilCode.{tick_piece};
 ghost use Rattle.codegen.specs.Layout.{moving_piece, texts_piece, stop_run_piece, branching_piece, ending_piece, range_piece, turn_piece, performing_piece, phrase_piece, phrases_piece, calculating_piece, statement_piece, sentence_piece, start_piece, back_piece, paragraph_piece, section_piece, end_piece};

@@ -1,14 +1,14 @@
 //! What the code of references is made with: the items of a program, by their names.
 
 ghost use Rattle.std.specs.Prelude.{◌≡◌, IfOk, slice_get};
-ghost use Rattle.check_rules.specs.Named.{IsDeclared, items_in};
+ghost use Rattle.declarations.specs.Named.{IsDeclared, items_in};
 ghost use Rattle.source_tree.specs.Arithmetic.{receiver_of};
 ghost use Rattle.source_tree.specs.InspectLayout.{found_size};
 ghost use Rattle.codegen.specs.DataCode as spec;
 ghost use Rattle.codegen.specs.ArithmeticCode as arithmetic;
 
-use check_rules::Declarations;
 use data_instructions::ItemIndex;
+use declarations::Declarations;
 use items::Kind;
 use layout::PlacedItem;
 use names::LookUp;

@@ -7,7 +7,7 @@ ghost use Rattle.source_tree.specs.Evaluate.{selected_asked};
 ghost use Rattle.source_tree.specs.EvaluateRules.{selected_rules};
 ghost use Rattle.source_tree.specs.Rules as rules;
 ghost use Rattle.source_tree.specs.Rules.{all_permitted};
-ghost use Rattle.check_rules.specs.Named.{IsDeclared, items_in, scope_in};
+ghost use Rattle.declarations.specs.Named.{IsDeclared, items_in, scope_in};
 ghost use Rattle.codegen.specs.Pieces.{joined, in_order};
 ghost use Rattle.codegen.specs.ConditionCode.{condition_piece};
 ghost use Rattle.codegen.specs.Layout.{evaluate_piece, statement_piece};

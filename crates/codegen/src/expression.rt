@@ -6,7 +6,7 @@ ghost use Rattle.source_tree.specs.declared.expression.Expression.{Expression};
 ghost use Rattle.source_tree.specs.Broken.{each};
 ghost use Rattle.source_tree.specs.ArithmeticRules.{number_rules, expression_rules};
 ghost use Rattle.data_instructions.specs.ArithmeticCodes as codes;
-ghost use Rattle.check_rules.specs.Named.{IsDeclared, items_in};
+ghost use Rattle.declarations.specs.Named.{IsDeclared, items_in};
 ghost use Rattle.codegen.specs.Pieces.{joined, in_order};
 ghost use Rattle.codegen.specs.ArithmeticCode as spec;
 

@@ -9,7 +9,7 @@ ghost use Rattle.source_tree.specs.declared.phrases.FilePhrases.TheVariants.{Abs
 ghost use Rattle.code_image.specs.declared.instruction.Instruction.TheVariants as instruction;
 ghost use Rattle.program_files.specs.Clauses.{NamesOne};
 ghost use Rattle.program_files.specs.Files.{file_in, found_in};
-ghost use Rattle.check_rules.specs.Named.{IsDeclared, items_in, files_in, scope_in};
+ghost use Rattle.declarations.specs.Named.{IsDeclared, items_in, files_in, scope_in};
 ghost use Rattle.codegen.specs.Pieces.{joined, in_order, plain};
 ghost use Rattle.codegen.specs.FileCode as spec;
 ghost use Rattle.codegen.specs.Layout.{alone_piece, open_piece, close_piece, statement_piece};

@@ -2,13 +2,13 @@
 
 ghost use Rattle.std.specs.Prelude.{◌≡◌, IfOk};
 ghost use Rattle.std.specs.Option.{option_map};
-ghost use Rattle.check_rules.specs.Named.{IsDeclared, items_in, files_in};
+ghost use Rattle.declarations.specs.Named.{IsDeclared, items_in, files_in};
 ghost use Rattle.codegen.specs.FileCode as spec;
 ghost use Rattle.codegen.specs.Sent.{code_in};
 
 use crate::emitter::entry_number;
-use check_rules::Declarations;
 use data_instructions::ItemIndex;
+use declarations::Declarations;
 use file_tables::CodeFile;
 use program_files::ProgramFile;
 use sqlite_items::Items;

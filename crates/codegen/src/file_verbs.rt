@@ -10,7 +10,7 @@ ghost use Rattle.source_tree.specs.FilingRules.{read_key_rules, start_key_rules}
 ghost use Rattle.source_tree.specs.ProgramFiles.{key_place};
 ghost use Rattle.program_files.specs.Clauses.{NamesOne};
 ghost use Rattle.program_files.specs.Files.{file_in};
-ghost use Rattle.check_rules.specs.Named.{IsDeclared, items_in, files_in};
+ghost use Rattle.declarations.specs.Named.{IsDeclared, items_in, files_in};
 ghost use Rattle.codegen.specs.Filed.{spec_in};
 
 use crate::emitter::Emitter;

@@ -9,7 +9,7 @@ ghost use Rattle.source_tree.specs.FilingRules.{delete_rules, file_named_rules, 
 ghost use Rattle.source_tree.specs.Rules as rules;
 ghost use Rattle.source_tree.specs.Rules.{all_permitted};
 ghost use Rattle.program_files.specs.Files.{file_in};
-ghost use Rattle.check_rules.specs.Named.{IsDeclared, items_in, files_in, scope_in};
+ghost use Rattle.declarations.specs.Named.{IsDeclared, items_in, files_in, scope_in};
 ghost use Rattle.codegen.specs.Pieces.{joined, both};
 ghost use Rattle.codegen.specs.UntilCode.{tick_piece};
 ghost use Rattle.codegen.specs.FileCode.{file_piece, into_piece, on_name_piece};

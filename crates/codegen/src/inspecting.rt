@@ -7,7 +7,7 @@ ghost use Rattle.source_tree.specs.Display.{figurative_byte};
 ghost use Rattle.source_tree.specs.NameRules.{item_rules};
 ghost use Rattle.source_tree.specs.InspectRules as rules;
 ghost use Rattle.source_tree.specs.InspectLayout as layout;
-ghost use Rattle.check_rules.specs.Named.{IsDeclared, items_in};
+ghost use Rattle.declarations.specs.Named.{IsDeclared, items_in};
 ghost use Rattle.codegen.specs.Pieces.{joined};
 ghost use Rattle.codegen.specs.DataCode.{text_piece};
 ghost use Rattle.codegen.specs.InspectCode as spec;

@@ -7,7 +7,7 @@ ghost use Rattle.source_tree.specs.Literals.{literal_sender};
 ghost use Rattle.source_tree.specs.NameRules.{operand_rules, subscript_rules};
 ghost use Rattle.source_tree.specs.MoveRules.{move_rules};
 ghost use Rattle.source_tree.specs.ValueRules.{has_form};
-ghost use Rattle.check_rules.specs.Named.{IsDeclared, items_in};
+ghost use Rattle.declarations.specs.Named.{IsDeclared, items_in};
 ghost use Rattle.codegen.specs.Pieces.{joined};
 ghost use Rattle.codegen.specs.DataCode as spec;
 

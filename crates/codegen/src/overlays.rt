@@ -7,7 +7,7 @@ ghost use Rattle.source_tree.specs.LookUp.{all_conditions};
 ghost use Rattle.source_tree.specs.NameRules.{item_rules, any_item};
 ghost use Rattle.source_tree.specs.SettingRules.{set_one};
 ghost use Rattle.data_instructions.specs.TextCodes.{new_byte, new_mark};
-ghost use Rattle.check_rules.specs.Named.{IsDeclared, items_in};
+ghost use Rattle.declarations.specs.Named.{IsDeclared, items_in};
 ghost use Rattle.initial_storage.specs.Conditions.{HasFirst};
 ghost use Rattle.initial_storage.specs.Fits.{HasKind};
 ghost use Rattle.codegen.specs.DataCode.{item_number};

@@ -10,8 +10,8 @@ ghost use Rattle.codegen.specs.Layout.{code_of};
 use crate::emit::emit_end;
 use crate::emitter::Emitter;
 use crate::storage::storage_code;
-use check_rules::Checked;
 use code_image::Code;
+use declarations::Checked;
 use std::alloc::{AllocError, Global};
 
 /// The code of a program that keeps the rules. It is refused for want of memory alone.

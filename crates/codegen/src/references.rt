@@ -5,7 +5,7 @@ ghost use Rattle.source_tree.specs.Broken.{each};
 ghost use Rattle.source_tree.specs.Integers as written;
 ghost use Rattle.source_tree.specs.NameRules.{integer_rules, adjustment_rules, subscript_rules};
 ghost use Rattle.data_instructions.specs.Codes.{integer, index_code};
-ghost use Rattle.check_rules.specs.Named.{IsDeclared, items_in};
+ghost use Rattle.declarations.specs.Named.{IsDeclared, items_in};
 ghost use Rattle.codegen.specs.Pieces.{joined, both};
 ghost use Rattle.codegen.specs.DataCode as spec;
 

@@ -5,15 +5,15 @@ ghost use Rattle.source_tree.specs.EntryRules.{entry_rules};
 ghost use Rattle.source_tree.specs.Records.{program_areas};
 ghost use Rattle.data_instructions.specs.Codes.{data_item};
 ghost use Rattle.program_files.specs.Files.{file_in};
-ghost use Rattle.check_rules.specs.Named.{Declares, IsDeclared, items_in, files_in};
+ghost use Rattle.declarations.specs.Named.{Declares, IsDeclared, items_in, files_in};
 ghost use Rattle.codegen.specs.FileCode as files;
 ghost use Rattle.codegen.specs.Layout as spec;
 ghost use Rattle.codegen.specs.Sent.{edits, first_editing};
 
 use crate::file_table::code_files;
-use check_rules::Declarations;
 use code_image::Code;
 use data_instructions::{DataItem, DataTables};
+use declarations::Declarations;
 use initial_storage::InitialStorage;
 use items::Kind;
 use layout::PlacedItem;

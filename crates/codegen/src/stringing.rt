@@ -7,7 +7,7 @@ ghost use Rattle.source_tree.specs.NameRules.{subscript_rules};
 ghost use Rattle.source_tree.specs.Rules as rules;
 ghost use Rattle.source_tree.specs.Rules.{all_permitted};
 ghost use Rattle.source_tree.specs.StringRules.{sent_rules, delimiter_rules, sending_rules, string_rules};
-ghost use Rattle.check_rules.specs.Named.{IsDeclared, items_in, scope_in};
+ghost use Rattle.declarations.specs.Named.{IsDeclared, items_in, scope_in};
 ghost use Rattle.codegen.specs.Pieces.{joined, in_order};
 ghost use Rattle.codegen.specs.Layout.{stringing_piece, statement_piece};
 ghost use Rattle.codegen.specs.StringCode as spec;

@@ -8,16 +8,16 @@ ghost use Rattle.source_tree.specs.ConditionRules.{side_rules};
 ghost use Rattle.source_tree.specs.EntryRules.{entry_rules};
 ghost use Rattle.source_tree.specs.Evaluate as tree;
 ghost use Rattle.source_tree.specs.EvaluateRules.{subject_rules};
-ghost use Rattle.check_rules.specs.Named.{IsDeclared, items_in};
-ghost use Rattle.check_rules.specs.Looking.{choice_looked};
+ghost use Rattle.declarations.specs.Named.{IsDeclared, items_in};
+ghost use Rattle.declarations.specs.Looking.{choice_looked};
 ghost use Rattle.codegen.specs.Pieces.{joined};
 ghost use Rattle.codegen.specs.DataCode.{item_number};
 ghost use Rattle.codegen.specs.SubjectCode as spec;
 
 use crate::condition::{Alone, alone_side};
 use crate::emitter::Emitter;
-use check_rules::{LookedObject, LookedSubject};
 use code_image::Code;
+use declarations::{LookedObject, LookedSubject};
 use items::Kind;
 use source_tree::{
     Choice, Evaluate, Figurative, Literal, LiteralValue, Object, Place, QualifiedName, Relation,

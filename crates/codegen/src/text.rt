@@ -2,7 +2,7 @@
 
 ghost use Rattle.std.specs.Prelude.{◌≡◌, [], OnOk};
 ghost use Rattle.source_tree.specs.TextRules.{shown_rules, display_rules};
-ghost use Rattle.check_rules.specs.Named.{IsDeclared, items_in};
+ghost use Rattle.declarations.specs.Named.{IsDeclared, items_in};
 ghost use Rattle.codegen.specs.Pieces.{joined};
 ghost use Rattle.codegen.specs.DataCode as spec;
 

@@ -6,7 +6,7 @@ ghost use Rattle.source_tree.specs.NameRules.{item_rules};
 ghost use Rattle.source_tree.specs.Performing.{turns_of};
 ghost use Rattle.source_tree.specs.Rules as rules;
 ghost use Rattle.source_tree.specs.Rules.{all_permitted, integer_item};
-ghost use Rattle.check_rules.specs.Named.{IsDeclared, items_in, scope_in};
+ghost use Rattle.declarations.specs.Named.{IsDeclared, items_in, scope_in};
 ghost use Rattle.codegen.specs.Pieces.{joined, both};
 ghost use Rattle.codegen.specs.DataCode.{taking_piece};
 ghost use Rattle.codegen.specs.Layout.{loop_begin, count_begin, turn_end, counted_turn, times_piece, counted_piece, turn_piece, statement_piece};

@@ -5,7 +5,7 @@ ghost use Rattle.source_tree.specs.EntryRules.{entry_rules};
 ghost use Rattle.source_tree.specs.ConditionRules.{varying_rules, until_rules};
 ghost use Rattle.source_tree.specs.Rules as rules;
 ghost use Rattle.source_tree.specs.Rules.{all_permitted};
-ghost use Rattle.check_rules.specs.Named.{IsDeclared, items_in, scope_in};
+ghost use Rattle.declarations.specs.Named.{IsDeclared, items_in, scope_in};
 ghost use Rattle.codegen.specs.Pieces.{joined, both};
 ghost use Rattle.codegen.specs.Meeting.{either_piece, nothing_piece};
 ghost use Rattle.codegen.specs.DataCode.{work_piece};

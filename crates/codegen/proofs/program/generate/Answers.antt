@@ -6,7 +6,7 @@ use Rattle.code_image.specs.declared.code.Code.{Code}
 use Rattle.code_image.specs.Demands.{IsVerified}
 use Rattle.code_image.specs.Table.{Runs}
 use Rattle.code_image.proofs.Determinism.{one_run}
-use Rattle.check_rules.specs.Named.{Declares}
+use Rattle.declarations.specs.Named.{Declares}
 use Rattle.codegen.specs.Layout.{code_of}
 use Rattle.codegen.proofs.Declared.{code_by, entries_by, sections_by}
 use Rattle.codegen.proofs.Verified.{entries_kept, sections_kept, files_counted, verified}

@@ -1,6 +1,6 @@
 use Rattle.std.proofs.Common.{◌≡◌, ◌+◌, ◌*◌, drop}
 use Rattle.source_tree.specs.declared.condition.Condition.{Condition}
-use Rattle.check_rules.specs.Named.{items_in}
+use Rattle.declarations.specs.Named.{items_in}
 use Rattle.codegen.specs.Pieces.{joined, in_order}
 use Rattle.codegen.specs.ConditionCode.{and_piece, or_piece, condition_piece}
 use Rattle.codegen.proofs.emitter.Emitter.+condition.Given as goal

@@ -5,9 +5,9 @@ use Rattle.source_tree.specs.Broken.{each}
 use Rattle.source_tree.specs.ArithmeticRules.{expression_rules}
 use Rattle.data_instructions.specs.declared.calculation.Calculation.TheVariants as calculation
 use Rattle.data_instructions.specs.declared.instruction.DataInstruction.TheVariants as i
-use Rattle.check_rules.specs.Named.{items_in}
-use Rattle.check_rules.specs.Operations.{further_rules}
-use Rattle.check_rules.proofs.Layers as layers
+use Rattle.declarations.specs.Named.{items_in}
+use Rattle.declarations.specs.Chains.{further_rules}
+use Rattle.declarations.proofs.Layers as layers
 use Rattle.codegen.specs.Pieces.{joined, both, in_order}
 use Rattle.codegen.specs.DataCode.{work_piece}
 use Rattle.codegen.specs.ArithmeticCode.{value_piece, expression_piece}

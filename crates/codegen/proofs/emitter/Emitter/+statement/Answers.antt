@@ -27,8 +27,8 @@ use Rattle.source_tree.specs.LookUp.{first, items_named}
 use Rattle.source_tree.specs.ProgramFiles.{ProgramFile, files_named}
 use Rattle.source_tree.specs.StringRules.{sending_rules, receiver_item, only_length, string_rules}
 use Rattle.program_files.specs.Files.{file_in}
-use Rattle.check_rules.specs.Named.{scope_in}
-use Rattle.check_rules.proofs.RuleLayers as layers
+use Rattle.declarations.specs.Named.{scope_in}
+use Rattle.declarations.proofs.RuleLayers as layers
 use Rattle.data_instructions.specs.declared.instruction.DataInstruction.TheVariants as i
 use Rattle.file_tables.specs.declared.class.StatusClass.TheVariants.{Successful}
 use Rattle.code_image.specs.declared.code.Code.{Code}

@@ -1,7 +1,7 @@
 use Rattle.std.proofs.Common.{◌≡◌, ◌+◌, ◌*◌, List, Option, length, drop}
 use Rattle.std.specs.List.{AllByRecursion}
 use Rattle.source_tree.specs.declared.statement.Statement.{Statement}
-use Rattle.check_rules.specs.Named.{scope_in}
+use Rattle.declarations.specs.Named.{scope_in}
 use Rattle.codegen.specs.Pieces.{joined, in_order}
 use Rattle.codegen.specs.Layout.{selecting_piece, statement_piece}
 use Rattle.codegen.specs.Phrases.{IsWay, met_all}

@@ -1,8 +1,8 @@
 use Rattle.std.proofs.Common.{◌≡◌, true, false, [], ◌∷◌, sym, ap, ◌∙◌}
 use Rattle.source_tree.specs.declared.condition.Condition.TheVariants.{All}
 use Rattle.source_tree.specs.Evaluate.{told_as}
-use Rattle.check_rules.specs.Looking.{condition_meant}
-use Rattle.check_rules.specs.Named.{items_in}
+use Rattle.declarations.specs.Looking.{condition_meant}
+use Rattle.declarations.specs.Named.{items_in}
 use Rattle.codegen.specs.Pieces.{joined}
 use Rattle.codegen.specs.Meeting.{nothing_piece}
 use Rattle.codegen.specs.ConditionCode.{or_piece, condition_piece}

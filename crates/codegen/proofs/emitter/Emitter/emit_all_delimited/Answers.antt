@@ -1,4 +1,4 @@
-use Rattle.check_rules.specs.Named.{items_in}
+use Rattle.declarations.specs.Named.{items_in}
 use Rattle.data_instructions.specs.declared.instruction.DataInstruction.TheVariants as i
 use Rattle.codegen.specs.Pieces.{both, in_order}
 use Rattle.codegen.specs.DataCode.{work_piece, reference_piece}

@@ -1,5 +1,5 @@
 use Rattle.std.proofs.Common.{ℕ, ◌≤◌, [], ◌∷◌, length, ap, ◌∙◌, arith}
-use Rattle.check_rules.specs.Named.{items_in}
+use Rattle.declarations.specs.Named.{items_in}
 use Rattle.source_tree.specs.InspectRules.{replacing_rules}
 use Rattle.source_tree.specs.InspectLayout.{replacing_entries}
 use Rattle.codegen.proofs.Kept.{one_kept}

@@ -2,7 +2,7 @@ use Rattle.std.proofs.Common.{◌≡◌, Option, sym, ap, ◌∙◌}
 use Rattle.source_tree.specs.declared.phrases.FilePhrases.TheVariants.{Absent}
 use Rattle.source_tree.specs.ProgramFiles.{ProgramFile}
 use Rattle.program_files.specs.Files.{file_in}
-use Rattle.check_rules.specs.Named.{items_in, scope_in}
+use Rattle.declarations.specs.Named.{items_in, scope_in}
 use Rattle.codegen.specs.Pieces.{joined}
 use Rattle.codegen.specs.FileCode.{on_file_piece}
 use Rattle.codegen.specs.Layout.{alone_piece, statement_piece}

@@ -2,8 +2,8 @@ use Rattle.std.proofs.Common.{ap, ◌∙◌}
 use Rattle.source_tree.specs.declared.condition.Condition.{Condition}
 use Rattle.source_tree.specs.ConditionRules.{condition_rules}
 use Rattle.source_tree.specs.Evaluate.{asked}
-use Rattle.check_rules.specs.Looking.{question_meant}
-use Rattle.check_rules.specs.Named.{items_in}
+use Rattle.declarations.specs.Looking.{question_meant}
+use Rattle.declarations.specs.Named.{items_in}
 use Rattle.codegen.specs.Pieces.{joined}
 use Rattle.codegen.specs.ConditionCode.{condition_piece}
 use Rattle.codegen.proofs.Sequences.{is_so}

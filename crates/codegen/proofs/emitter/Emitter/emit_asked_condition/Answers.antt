@@ -3,9 +3,9 @@ use Rattle.std.specs.Prelude.{not}
 use Rattle.source_tree.specs.declared.condition.Condition.TheVariants.{Name}
 use Rattle.source_tree.specs.ConditionRules.{condition_rules}
 use Rattle.data_instructions.specs.ConditionCodes.{negation}
-use Rattle.check_rules.specs.declared.looked.AskedCondition.{AskedCondition}
-use Rattle.check_rules.specs.Looking.{condition_meant}
-use Rattle.check_rules.specs.Named.{items_in}
+use Rattle.declarations.specs.declared.looked.AskedCondition.{AskedCondition}
+use Rattle.declarations.specs.Looking.{condition_meant}
+use Rattle.declarations.specs.Named.{items_in}
 use Rattle.codegen.specs.Pieces.{Piece, joined, both}
 use Rattle.codegen.specs.DataCode.{works_piece}
 use Rattle.codegen.specs.ConditionCode.{condition_piece}

@@ -1,6 +1,6 @@
 use Rattle.std.proofs.Common.{◌≡◌, sym}
 use Rattle.source_tree.specs.declared.condition.Relation.TheVariants.{GreaterOrEqual, LessOrEqual}
-use Rattle.check_rules.specs.Named.{items_in}
+use Rattle.declarations.specs.Named.{items_in}
 use Rattle.codegen.specs.Meeting.{nothing_piece}
 use Rattle.codegen.specs.ConditionCode.{relation_piece, and_piece}
 use Rattle.codegen.specs.Phrases.{met}

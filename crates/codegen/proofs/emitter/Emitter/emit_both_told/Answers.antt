@@ -1,7 +1,7 @@
 use Rattle.std.proofs.Common.{◌≡◌, sym, ap, ◌∙◌}
 use Rattle.source_tree.specs.Evaluate.{told_as}
-use Rattle.check_rules.specs.Looking.{condition_meant}
-use Rattle.check_rules.specs.Named.{items_in}
+use Rattle.declarations.specs.Looking.{condition_meant}
+use Rattle.declarations.specs.Named.{items_in}
 use Rattle.codegen.specs.Pieces.{joined}
 use Rattle.codegen.specs.Meeting.{nothing_piece}
 use Rattle.codegen.specs.ConditionCode.{and_piece, condition_piece}

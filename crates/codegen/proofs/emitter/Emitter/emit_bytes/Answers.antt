@@ -1,5 +1,5 @@
 use Rattle.source_tree.specs.InspectRules.{inspected_item}
-use Rattle.check_rules.specs.Named.{items_in}
+use Rattle.declarations.specs.Named.{items_in}
 use Rattle.codegen.proofs.InspectMaking.{bytes_made}
 use Rattle.codegen.proofs.Kept.{item_kept}
 use Rattle.codegen.proofs.emitter.Emitter.emit_bytes.Goals as goal

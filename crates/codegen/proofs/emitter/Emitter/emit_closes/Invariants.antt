@@ -1,5 +1,5 @@
 use Rattle.std.proofs.Common.{◌≡◌, drop}
-use Rattle.check_rules.specs.Named.{scope_in}
+use Rattle.declarations.specs.Named.{scope_in}
 use Rattle.codegen.specs.Pieces.{joined, in_order}
 use Rattle.codegen.specs.Layout.{close_piece, statement_piece}
 use Rattle.codegen.proofs.emitter.Emitter.emit_closes.Given as goal

@@ -7,7 +7,7 @@ use Rattle.source_tree.specs.Broken.{each}
 use Rattle.source_tree.specs.NameRules.{subscript_rules}
 use Rattle.data_instructions.specs.declared.index.ItemIndex.{ItemIndex}
 use Rattle.data_instructions.specs.declared.instruction.DataInstruction.TheVariants as i
-use Rattle.check_rules.specs.Named.{data_in, items_in}
+use Rattle.declarations.specs.Named.{data_in, items_in}
 use Rattle.codegen.specs.Pieces.{joined, both}
 use Rattle.codegen.specs.DataCode.{dimensions_of, work_piece, works_piece, subscripts_piece}
 use Rattle.codegen.specs.ConditionCode.{condition_item, values_piece, condition_name_piece}

@@ -1,4 +1,4 @@
-use Rattle.check_rules.specs.Named.{items_in}
+use Rattle.declarations.specs.Named.{items_in}
 use Rattle.std.proofs.Common.{◌≡◌, ◌++◌, [], ◌∷◌, length, ap, subst, ◌∙◌, arith}
 use Rattle.source_tree.specs.InspectRules.{counter_item, tallied_rules}
 use Rattle.source_tree.specs.Broken.{each}

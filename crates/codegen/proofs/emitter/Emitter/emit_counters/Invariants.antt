@@ -1,5 +1,5 @@
 use Rattle.std.proofs.Common.{take}
-use Rattle.check_rules.specs.Named.{items_in}
+use Rattle.declarations.specs.Named.{items_in}
 use Rattle.codegen.specs.InspectCode.{Counts}
 use Rattle.codegen.proofs.emitter.Emitter.emit_counters.Given as goal
 

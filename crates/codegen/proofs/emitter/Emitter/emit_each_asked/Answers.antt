@@ -4,7 +4,7 @@ use Rattle.source_tree.specs.declared.evaluate.Object.{Object}
 use Rattle.source_tree.specs.Broken.{each}
 use Rattle.source_tree.specs.ConditionRules.{condition_rules}
 use Rattle.source_tree.specs.Evaluate.{asked_each}
-use Rattle.check_rules.specs.Named.{items_in}
+use Rattle.declarations.specs.Named.{items_in}
 use Rattle.codegen.specs.Pieces.{joined, in_order}
 use Rattle.codegen.proofs.Questions.{further_piece, pair_rules, pairs_rules, pairs_go_on}
 use Rattle.codegen.proofs.emitter.Emitter.emit_each_asked.Goals as goal

@@ -2,7 +2,7 @@ use Rattle.std.proofs.Common.{◌≡◌, [], length}
 use Rattle.source_tree.specs.Broken.{each}
 use Rattle.source_tree.specs.ConditionRules.{condition_rules}
 use Rattle.source_tree.specs.Evaluate.{asked_each}
-use Rattle.check_rules.specs.Named.{items_in}
+use Rattle.declarations.specs.Named.{items_in}
 use Rattle.codegen.specs.Pieces.{joined, in_order}
 use Rattle.codegen.proofs.Questions.{further_piece}
 use Rattle.codegen.proofs.emitter.Emitter.emit_each_asked.Given as goal

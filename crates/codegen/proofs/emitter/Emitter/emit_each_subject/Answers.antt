@@ -1,7 +1,7 @@
 use Rattle.std.proofs.Common.{ap, ◌∙◌}
 use Rattle.source_tree.specs.declared.evaluate.Subject.{Subject}
 use Rattle.source_tree.specs.EvaluateRules.{subject_rules}
-use Rattle.check_rules.specs.Named.{items_in}
+use Rattle.declarations.specs.Named.{items_in}
 use Rattle.codegen.specs.Pieces.{joined, in_order}
 use Rattle.codegen.specs.SubjectCode.{subject_piece}
 use Rattle.codegen.proofs.Kept.{one_kept}

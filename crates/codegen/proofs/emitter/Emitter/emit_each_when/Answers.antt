@@ -3,7 +3,7 @@ use Rattle.source_tree.specs.declared.evaluate.When.{When}
 use Rattle.source_tree.specs.Broken.{each}
 use Rattle.source_tree.specs.ConditionRules.{condition_rules}
 use Rattle.source_tree.specs.Evaluate.{asked_each, when_asked}
-use Rattle.check_rules.specs.Named.{items_in}
+use Rattle.declarations.specs.Named.{items_in}
 use Rattle.codegen.specs.Pieces.{joined, in_order}
 use Rattle.codegen.specs.ConditionCode.{or_piece, condition_piece}
 use Rattle.codegen.proofs.Kept.{one_kept}

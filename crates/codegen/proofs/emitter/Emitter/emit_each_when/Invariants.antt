@@ -1,7 +1,7 @@
 use Rattle.std.proofs.Common.{◌≡◌, drop}
 use Rattle.source_tree.specs.declared.evaluate.When.{When}
 use Rattle.source_tree.specs.Evaluate.{when_asked}
-use Rattle.check_rules.specs.Named.{items_in}
+use Rattle.declarations.specs.Named.{items_in}
 use Rattle.codegen.specs.Pieces.{joined, in_order}
 use Rattle.codegen.specs.ConditionCode.{or_piece, condition_piece}
 use Rattle.codegen.proofs.emitter.Emitter.emit_each_when.Given as goal

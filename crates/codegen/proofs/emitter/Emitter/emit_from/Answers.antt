@@ -5,7 +5,7 @@ use Rattle.source_tree.specs.Broken.{each}
 use Rattle.source_tree.specs.FilingRules.{from_rules}
 use Rattle.source_tree.specs.NameRules.{subscript_rules, item_rules, any_item, operand_rules}
 use Rattle.source_tree.specs.MoveRules.{sent_by, receives, move_rules}
-use Rattle.check_rules.specs.Named.{items_in, files_in}
+use Rattle.declarations.specs.Named.{items_in, files_in}
 use Rattle.codegen.proofs.Kept.{front_kept, back_kept, item_kept, subscripts_kept}
 use Rattle.codegen.proofs.emitter.Emitter.emit_from.Goals as goal
 

@@ -1,5 +1,5 @@
 use Rattle.std.proofs.Common.{ap, ◌∙◌}
-use Rattle.check_rules.specs.Named.{items_in}
+use Rattle.declarations.specs.Named.{items_in}
 use Rattle.source_tree.specs.NameRules.{item_rules, any_item}
 use Rattle.codegen.proofs.Kept.{one_kept}
 use Rattle.codegen.proofs.emitter.Emitter.emit_initializes.Goals as goal

@@ -1,4 +1,4 @@
-use Rattle.check_rules.specs.Named.{items_in}
+use Rattle.declarations.specs.Named.{items_in}
 use Rattle.std.proofs.Common.{ap, subst, ◌∙◌}
 use Rattle.source_tree.specs.InspectRules.{inspected_item, tallying_rules, replacing_rules}
 use Rattle.source_tree.specs.Broken.{each}

@@ -1,4 +1,4 @@
-use Rattle.check_rules.specs.Named.{items_in}
+use Rattle.declarations.specs.Named.{items_in}
 use Rattle.codegen.proofs.InspectKept.{before_kept, after_kept}
 use Rattle.codegen.proofs.InspectMaking.{limits_straight}
 use Rattle.codegen.proofs.emitter.Emitter.emit_limits.Goals as goal

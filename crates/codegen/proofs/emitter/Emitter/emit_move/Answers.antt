@@ -1,7 +1,7 @@
 use Rattle.source_tree.specs.Broken.{each}
 use Rattle.source_tree.specs.NameRules.{operand_rules, item_rules}
 use Rattle.source_tree.specs.MoveRules.{sent_by, receives}
-use Rattle.check_rules.specs.Named.{items_in}
+use Rattle.declarations.specs.Named.{items_in}
 use Rattle.codegen.proofs.Kept.{front_kept, back_kept, subscripts_kept}
 use Rattle.codegen.proofs.emitter.Emitter.emit_move.Goals as goal
 

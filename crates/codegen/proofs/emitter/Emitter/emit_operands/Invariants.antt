@@ -1,5 +1,5 @@
 use Rattle.std.proofs.Common.{◌≡◌, drop}
-use Rattle.check_rules.specs.Named.{items_in}
+use Rattle.declarations.specs.Named.{items_in}
 use Rattle.codegen.specs.Pieces.{joined, in_order}
 use Rattle.codegen.specs.DataCode.{operand_piece}
 use Rattle.codegen.proofs.emitter.Emitter.emit_operands.Given as goal

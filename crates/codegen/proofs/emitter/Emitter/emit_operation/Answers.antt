@@ -1,5 +1,5 @@
 use Rattle.std.proofs.Common.{sym, ap}
-use Rattle.check_rules.specs.Named.{items_in}
+use Rattle.declarations.specs.Named.{items_in}
 use Rattle.codegen.specs.Pieces.{joined, both}
 use Rattle.codegen.specs.ArithmeticCode.{operation_piece}
 use Rattle.codegen.specs.Operations.{values_piece, results_piece}

@@ -4,7 +4,7 @@ use Rattle.source_tree.specs.declared.evaluate.Object.{Object}
 use Rattle.source_tree.specs.Broken.{each}
 use Rattle.source_tree.specs.ConditionRules.{condition_rules}
 use Rattle.source_tree.specs.Evaluate.{asked_each, when_asked}
-use Rattle.check_rules.specs.Named.{items_in}
+use Rattle.declarations.specs.Named.{items_in}
 use Rattle.codegen.specs.Pieces.{joined}
 use Rattle.codegen.specs.Meeting.{nothing_piece}
 use Rattle.codegen.specs.ConditionCode.{condition_piece}

@@ -1,5 +1,5 @@
 use Rattle.std.proofs.Common.{ap, ◌∙◌}
-use Rattle.check_rules.specs.Named.{scope_in}
+use Rattle.declarations.specs.Named.{scope_in}
 use Rattle.source_tree.specs.Rules.{all_permitted, paragraph_rules}
 use Rattle.codegen.proofs.Kept.{one_kept}
 use Rattle.codegen.proofs.emitter.Emitter.emit_paragraphs.Goals as goal

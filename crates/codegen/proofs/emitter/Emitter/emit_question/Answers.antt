@@ -1,8 +1,8 @@
 use Rattle.std.proofs.Common.{true, false, sym, ap, ◌∙◌}
 use Rattle.source_tree.specs.ConditionRules.{condition_rules}
-use Rattle.check_rules.specs.declared.looked.Question.{Question}
-use Rattle.check_rules.specs.Looking.{condition_meant, question_meant}
-use Rattle.check_rules.specs.Named.{items_in}
+use Rattle.declarations.specs.declared.looked.Question.{Question}
+use Rattle.declarations.specs.Looking.{condition_meant, question_meant}
+use Rattle.declarations.specs.Named.{items_in}
 use Rattle.codegen.specs.Pieces.{Piece, joined}
 use Rattle.codegen.specs.ConditionCode.{condition_piece}
 use Rattle.codegen.specs.EvaluateCode.{constant_piece}

@@ -1,7 +1,7 @@
 use Rattle.std.proofs.Common.{◌≡◌, Some, sym, ap, ◌∙◌}
 use Rattle.std.specs.Option.{option_map}
 use Rattle.source_tree.specs.Conditions.{alone_side}
-use Rattle.check_rules.specs.Named.{items_in}
+use Rattle.declarations.specs.Named.{items_in}
 use Rattle.codegen.specs.Sides.{operand_of}
 use Rattle.codegen.proofs.Sides.{left_kept, right_kept, side_kept}
 use Rattle.codegen.proofs.emitter.Emitter.emit_relation.Goals as goal

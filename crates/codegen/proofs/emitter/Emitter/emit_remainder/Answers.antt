@@ -4,7 +4,7 @@ use Rattle.source_tree.specs.ArithmeticRules.{number_receiver}
 use Rattle.data_instructions.specs.declared.calculation.Calculation.TheVariants as calculation
 use Rattle.data_instructions.specs.declared.instruction.DataInstruction.TheVariants as i
 use Rattle.data_instructions.specs.ArithmeticCodes.{duplicate}
-use Rattle.check_rules.specs.Named.{items_in}
+use Rattle.declarations.specs.Named.{items_in}
 use Rattle.codegen.specs.Pieces.{joined, both}
 use Rattle.codegen.specs.DataCode.{works_piece, taking_piece}
 use Rattle.codegen.specs.ArithmeticCode.{void_code, give_piece, remainder_piece}

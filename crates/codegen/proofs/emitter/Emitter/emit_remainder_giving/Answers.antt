@@ -2,7 +2,7 @@ use Rattle.std.proofs.Common.{◌≡◌, sym, ap, ◌∙◌}
 use Rattle.source_tree.specs.declared.arithmetic.DivisionOrder.{DivisionOrder}
 use Rattle.data_instructions.specs.declared.instruction.DataInstruction.{DataInstruction}
 use Rattle.data_instructions.specs.ArithmeticCodes.{duplicate}
-use Rattle.check_rules.specs.Named.{items_in}
+use Rattle.declarations.specs.Named.{items_in}
 use Rattle.codegen.specs.Pieces.{joined, both}
 use Rattle.codegen.specs.DataCode.{work_piece}
 use Rattle.codegen.specs.ArithmeticCode.{remainder_piece, division_piece}

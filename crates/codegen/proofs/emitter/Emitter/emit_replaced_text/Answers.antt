@@ -1,4 +1,4 @@
-use Rattle.check_rules.specs.Named.{items_in}
+use Rattle.declarations.specs.Named.{items_in}
 use Rattle.std.proofs.Common.{◌++◌}
 use Rattle.source_tree.specs.InspectRules.{inspected_rules, by_rules, size_of, limits_rules}
 use Rattle.codegen.proofs.Kept.{front_kept, back_kept}

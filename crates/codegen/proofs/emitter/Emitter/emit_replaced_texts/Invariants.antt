@@ -1,5 +1,5 @@
 use Rattle.std.proofs.Common.{[], ◌∷◌, take}
-use Rattle.check_rules.specs.Named.{items_in}
+use Rattle.declarations.specs.Named.{items_in}
 use Rattle.source_tree.specs.InspectLayout.{all_inspected, replaced_text}
 use Rattle.codegen.specs.InspectCode.{Puts}
 use Rattle.codegen.proofs.emitter.Emitter.emit_replaced_texts.Given as goal

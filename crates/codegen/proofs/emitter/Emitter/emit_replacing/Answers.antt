@@ -1,6 +1,6 @@
 use Rattle.std.proofs.Common.{◌≡◌, [], ◌++◌, Some, sym, ap, ◌∙◌}
 use Rattle.source_tree.specs.InspectRules.{inspected_rules, by_rules, limits_rules, replacing_rules}
-use Rattle.check_rules.specs.Named.{items_in}
+use Rattle.declarations.specs.Named.{items_in}
 use Rattle.codegen.proofs.Kept.{front_kept, back_kept}
 use Rattle.codegen.proofs.emitter.Emitter.emit_replacing.Goals as goal
 

@@ -1,6 +1,6 @@
 use Rattle.std.proofs.Common.{sym, ap, ◌∙◌}
 use Rattle.source_tree.specs.StringRules.{delimiter_rules}
-use Rattle.check_rules.specs.Named.{items_in}
+use Rattle.declarations.specs.Named.{items_in}
 use Rattle.codegen.proofs.emitter.Emitter.emit_sending.Goals as goal
 
 pub emit_all_by-requires-clause-delimiter : goal.emit_all_by-requires-clause-delimiter

@@ -1,5 +1,5 @@
 use Rattle.std.proofs.Common.{ap, ◌∙◌}
-use Rattle.check_rules.specs.Named.{items_in}
+use Rattle.declarations.specs.Named.{items_in}
 use Rattle.source_tree.specs.Broken.{each}
 use Rattle.source_tree.specs.StringRules.{sent_rules, delimiter_rules, sending_rules}
 use Rattle.codegen.proofs.Kept.{front_kept, back_kept, one_kept}

@@ -8,7 +8,7 @@ use Rattle.source_tree.specs.NameRules.{subscript_rules}
 use Rattle.data_instructions.specs.declared.index.ItemIndex.{ItemIndex}
 use Rattle.data_instructions.specs.declared.instruction.DataInstruction.TheVariants as i
 use Rattle.data_instructions.specs.TextCodes.{new_byte}
-use Rattle.check_rules.specs.Named.{items_in}
+use Rattle.declarations.specs.Named.{items_in}
 use Rattle.codegen.specs.Pieces.{joined, both}
 use Rattle.codegen.specs.DataCode.{dimensions_of, work_piece, subscripts_piece}
 use Rattle.codegen.specs.ConditionCode.{condition_number, condition_item}

@@ -1,7 +1,7 @@
 use Rattle.std.proofs.Common.{◌≡◌, Some, sym, ap, ◌∙◌}
 use Rattle.std.specs.Option.{option_map}
 use Rattle.source_tree.specs.Conditions.{alone_side}
-use Rattle.check_rules.specs.Named.{items_in}
+use Rattle.declarations.specs.Named.{items_in}
 use Rattle.codegen.specs.Pieces.{joined}
 use Rattle.codegen.specs.ArithmeticCode.{value_piece}
 use Rattle.codegen.specs.ConditionCode.{side_piece}

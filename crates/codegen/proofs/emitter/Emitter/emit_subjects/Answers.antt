@@ -5,7 +5,7 @@ use Rattle.source_tree.specs.declared.evaluate.Object.{Object}
 use Rattle.source_tree.specs.declared.evaluate.Selected.{Selected}
 use Rattle.source_tree.specs.declared.evaluate.Subject.{Subject}
 use Rattle.source_tree.specs.declared.statement.Statement.{Statement}
-use Rattle.check_rules.specs.Named.{items_in}
+use Rattle.declarations.specs.Named.{items_in}
 use Rattle.codegen.specs.Pieces.{joined}
 use Rattle.codegen.specs.SubjectCode.{first_object, each_subject_piece, is_asked_first, subjects_piece}
 use Rattle.codegen.proofs.Sequences.{is_so}

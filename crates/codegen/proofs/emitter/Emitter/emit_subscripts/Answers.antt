@@ -1,7 +1,7 @@
 use Rattle.std.proofs.Common.{ap, ◌∙◌, ◌<◌, ◌≤◌, length, arith}
 use Rattle.std.proofs.lemmas.Grind.{common_steps}
 use Rattle.source_tree.specs.NameRules.{subscript_rules}
-use Rattle.check_rules.specs.Named.{items_in}
+use Rattle.declarations.specs.Named.{items_in}
 use Rattle.codegen.proofs.Kept.{one_kept}
 use Rattle.codegen.proofs.Subscripts.{subscripts_done}
 use Rattle.codegen.proofs.emitter.Emitter.emit_subscripts.Goals as goal

@@ -1,4 +1,4 @@
-use Rattle.check_rules.specs.Named.{items_in}
+use Rattle.declarations.specs.Named.{items_in}
 use Rattle.source_tree.specs.InspectRules.{inspected_rules, limits_rules}
 use Rattle.codegen.proofs.Kept.{front_kept, back_kept}
 use Rattle.codegen.proofs.emitter.Emitter.emit_tallied_text.Goals as goal

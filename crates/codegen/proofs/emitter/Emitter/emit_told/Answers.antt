@@ -2,8 +2,8 @@ use Rattle.std.proofs.Common.{refl, ap}
 use Rattle.std.specs.Prelude.{not}
 use Rattle.source_tree.specs.Evaluate.{told_as}
 use Rattle.data_instructions.specs.ConditionCodes.{negation}
-use Rattle.check_rules.specs.Looking.{condition_meant}
-use Rattle.check_rules.specs.Named.{items_in}
+use Rattle.declarations.specs.Looking.{condition_meant}
+use Rattle.declarations.specs.Named.{items_in}
 use Rattle.codegen.specs.Pieces.{joined, both}
 use Rattle.codegen.specs.DataCode.{works_piece}
 use Rattle.codegen.specs.ConditionCode.{condition_piece}

@@ -1,7 +1,7 @@
 use Rattle.std.proofs.Common.{sym, ap, ◌∙◌}
 use Rattle.source_tree.specs.Broken.{each}
 use Rattle.source_tree.specs.ArithmeticRules.{number_rules}
-use Rattle.check_rules.specs.Named.{items_in}
+use Rattle.declarations.specs.Named.{items_in}
 use Rattle.codegen.proofs.Kept.{front_kept, back_kept}
 use Rattle.codegen.proofs.emitter.Emitter.emit_total.Goals as goal
 

@@ -2,7 +2,7 @@ use Rattle.std.proofs.Common.{rules, ◌≡◌, false, sym, ap, arith, ◌∙◌
 use Rattle.std.proofs.lemmas.Grind.{common_steps}
 use Rattle.source_tree.specs.declared.condition.Relation.TheVariants.{Equal}
 use Rattle.source_tree.specs.declared.condition.Side.{Side}
-use Rattle.check_rules.specs.Named.{items_in}
+use Rattle.declarations.specs.Named.{items_in}
 use Rattle.codegen.specs.Pieces.{joined}
 use Rattle.codegen.specs.ConditionCode.{relation_piece}
 use Rattle.codegen.specs.SubjectCode.{value_look, look_piece}

@@ -1,6 +1,6 @@
 use Rattle.std.proofs.Common.{sym, ap, ◌∙◌}
 use Rattle.source_tree.specs.ConditionRules.{varying_rules}
-use Rattle.check_rules.specs.Named.{items_in}
+use Rattle.declarations.specs.Named.{items_in}
 use Rattle.codegen.proofs.Varying.{from_kept, varied_kept}
 use Rattle.codegen.proofs.emitter.Emitter.emit_vary_begin.Goals as goal
 

@@ -4,7 +4,7 @@ use Rattle.source_tree.specs.declared.until.Varying.{Varying}
 use Rattle.source_tree.specs.ConditionRules.{varying_rules}
 use Rattle.data_instructions.specs.declared.instruction.DataInstruction.{DataInstruction}
 use Rattle.data_instructions.specs.declared.instruction.DataInstruction.TheVariants as i
-use Rattle.check_rules.specs.Named.{items_in}
+use Rattle.declarations.specs.Named.{items_in}
 use Rattle.codegen.specs.Pieces.{joined, both}
 use Rattle.codegen.specs.DataCode.{work_piece}
 use Rattle.codegen.specs.ArithmeticCode.{value_piece, update_piece}

@@ -2,7 +2,7 @@ use Rattle.std.proofs.Common.{sym, ap, ◌∙◌}
 use Rattle.std.specs.Prelude.{not}
 use Rattle.source_tree.specs.Evaluate.{told_as, value_within}
 use Rattle.data_instructions.specs.ConditionCodes.{negation}
-use Rattle.check_rules.specs.Named.{items_in}
+use Rattle.declarations.specs.Named.{items_in}
 use Rattle.codegen.specs.Pieces.{joined, both}
 use Rattle.codegen.specs.DataCode.{works_piece}
 use Rattle.codegen.specs.ConditionCode.{condition_piece}

@@ -7,7 +7,7 @@ use Rattle.source_tree.specs.declared.evaluate.When.{When}
 use Rattle.source_tree.specs.Broken.{each}
 use Rattle.source_tree.specs.ConditionRules.{condition_rules}
 use Rattle.source_tree.specs.Evaluate.{asked_each, when_asked, whens_asked}
-use Rattle.check_rules.specs.Named.{items_in}
+use Rattle.declarations.specs.Named.{items_in}
 use Rattle.codegen.specs.Pieces.{Piece, joined, both, in_order}
 use Rattle.codegen.specs.ConditionCode.{or_piece, condition_piece}
 use Rattle.codegen.specs.EvaluateCode.{constant_piece}

@@ -3,7 +3,7 @@ use Rattle.source_tree.specs.declared.condition.Relation.TheVariants.{Equal, Gre
 use Rattle.source_tree.specs.declared.condition.Side.{Side}
 use Rattle.source_tree.specs.ConditionRules.{condition_rules}
 use Rattle.source_tree.specs.Evaluate.{value_within}
-use Rattle.check_rules.specs.Named.{items_in}
+use Rattle.declarations.specs.Named.{items_in}
 use Rattle.codegen.specs.Pieces.{Piece, joined, both}
 use Rattle.codegen.specs.ConditionCode.{relation_piece, and_piece, condition_piece}
 use Rattle.codegen.proofs.ConditionLayers.{relation_is, relation_kept}

@@ -1,4 +1,4 @@
-use Rattle.check_rules.specs.Named.{data_in, items_in}
+use Rattle.declarations.specs.Named.{data_in, items_in}
 use Rattle.codegen.proofs.emitter.Emitter.file_named.Goals as goal
 
 pub returns : goal.returns

@@ -4,7 +4,7 @@ use Rattle.source_tree.specs.Filing.{file_with_record}
 use Rattle.source_tree.specs.LookUp.{first}
 use Rattle.source_tree.specs.Places.{Placed}
 use Rattle.source_tree.specs.ProgramFiles.{files_with}
-use Rattle.check_rules.specs.Named.{data_in, items_in, files_in}
+use Rattle.declarations.specs.Named.{data_in, items_in, files_in}
 use Rattle.codegen.proofs.OneNamed.{area_named, not_missing}
 use Rattle.codegen.proofs.emitter.Emitter.file_of_record.Goals as goal
 

@@ -1,4 +1,4 @@
-use Rattle.check_rules.specs.Named.{data_in, items_in}
+use Rattle.declarations.specs.Named.{data_in, items_in}
 use Rattle.codegen.proofs.ConditionValues.{descriptions_kept}
 use Rattle.codegen.proofs.emitter.Emitter.initial_overlay.Goals as goal
 

@@ -1,4 +1,4 @@
-use Rattle.check_rules.specs.Named.{items_in}
+use Rattle.declarations.specs.Named.{items_in}
 use Rattle.codegen.proofs.OneNamed.{key_offset, key_bytes, not_missing}
 use Rattle.codegen.proofs.emitter.Emitter.key_item.Goals as goal
 

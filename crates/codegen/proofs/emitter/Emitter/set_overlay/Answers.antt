@@ -2,7 +2,7 @@ use Rattle.std.proofs.Common.{◌≡◌, map, ap, subst, IfOk}
 use Rattle.source_tree.specs.Initializing.{Pattern}
 use Rattle.data_instructions.specs.TextCodes.{new_byte, new_mark}
 use Rattle.data_instructions.specs.declared.index.ItemIndex.{ItemIndex}
-use Rattle.check_rules.specs.Named.{data_in, items_in}
+use Rattle.declarations.specs.Named.{data_in, items_in}
 use Rattle.codegen.proofs.ConditionValues.{descriptions_kept}
 use Rattle.codegen.proofs.NewBytes.{item_there, set_kind, set_value, set_is}
 use Rattle.codegen.proofs.emitter.Emitter.set_overlay.Goals as goal

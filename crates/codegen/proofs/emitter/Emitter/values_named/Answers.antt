@@ -3,7 +3,7 @@ use Rattle.std.proofs.lemmas.Grind.{common_steps}
 use Rattle.std.specs.Prelude.{get_or, slice_get}
 use Rattle.names.specs.declared.conditions.DeclaredCondition.{DeclaredCondition}
 use Rattle.source_tree.specs.LookUp.{all_conditions}
-use Rattle.check_rules.specs.Named.{items_in}
+use Rattle.declarations.specs.Named.{items_in}
 use Rattle.codegen.specs.ConditionCode.{values_of}
 use Rattle.codegen.proofs.ConditionNames.{values_there, no_values}
 use Rattle.codegen.proofs.emitter.Emitter.values_named.Goals as goal

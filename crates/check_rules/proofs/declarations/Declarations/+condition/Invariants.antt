@@ -1,8 +1,0 @@
-use Rattle.std.proofs.Common.{◌≡◌, drop}
-use Rattle.source_tree.specs.Broken.{each}
-use Rattle.source_tree.specs.ConditionRules.{condition_rules}
-use Rattle.check_rules.specs.Named.{items_in}
-use Rattle.check_rules.proofs.declarations.Declarations.+condition.Given as goal
-
-abbrev pub invariant-conditions_rules-loop-one : goal.invariant-conditions_rules-loop-one
-invariant-conditions_rules-loop-one l = each (condition_rules (items_in l.self)) l.all ≡ each (condition_rules (items_in l.self)) (drop l.one-index l.all)

@@ -1,9 +1,0 @@
-use Rattle.std.proofs.Common.{◌≡◌, drop}
-use Rattle.source_tree.specs.Broken.{each}
-use Rattle.source_tree.specs.FilingRules.{open_rules}
-use Rattle.check_rules.specs.Named.{files_in, items_in}
-use Rattle.check_rules.proofs.declarations.Declarations.openings_rules.Given as goal
-
-abbrev pub invariant-loop-one : goal.invariant-loop-one
-invariant-loop-one l =
-    each (open_rules (items_in l.self) (files_in l.self)) l.all ≡ each (open_rules (items_in l.self) (files_in l.self)) (drop l.one-index l.all)

@@ -1,8 +1,0 @@
-use Rattle.std.proofs.Common.{◌≡◌, drop}
-use Rattle.source_tree.specs.Broken.{each}
-use Rattle.source_tree.specs.Rules.{paragraph_rules, all_permitted}
-use Rattle.check_rules.specs.Named.{scope_in}
-use Rattle.check_rules.proofs.declarations.Declarations.paragraphs_rules.Given as goal
-
-abbrev pub invariant-loop-one : goal.invariant-loop-one
-invariant-loop-one l = each (paragraph_rules (scope_in l.self) all_permitted) l.all ≡ each (paragraph_rules (scope_in l.self) all_permitted) (drop l.one-index l.all)

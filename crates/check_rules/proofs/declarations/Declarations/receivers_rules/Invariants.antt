@@ -1,9 +1,0 @@
-use Rattle.std.proofs.Common.{◌≡◌, drop}
-use Rattle.source_tree.specs.Broken.{each}
-use Rattle.source_tree.specs.NameRules.{item_rules}
-use Rattle.check_rules.specs.Named.{items_in}
-use Rattle.check_rules.specs.Asking.{asks}
-use Rattle.check_rules.proofs.declarations.Declarations.receivers_rules.Given as goal
-
-abbrev pub invariant-loop-one : goal.invariant-loop-one
-invariant-loop-one l = each (item_rules (items_in l.self) (asks l.asked)) l.all ≡ each (item_rules (items_in l.self) (asks l.asked)) (drop l.one-index l.all)

@@ -1,8 +1,0 @@
-use Rattle.std.proofs.Common.{◌≡◌, drop}
-use Rattle.source_tree.specs.Broken.{each}
-use Rattle.check_rules.specs.Operations.{receiver_rules}
-use Rattle.check_rules.specs.Named.{items_in}
-use Rattle.check_rules.proofs.declarations.Declarations.results_rules.Given as goal
-
-abbrev pub invariant-loop-one : goal.invariant-loop-one
-invariant-loop-one l = each (receiver_rules (items_in l.self) l.asked) l.all ≡ each (receiver_rules (items_in l.self) l.asked) (drop l.one-index l.all)

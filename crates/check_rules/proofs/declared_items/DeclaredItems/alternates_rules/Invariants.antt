@@ -1,9 +1,0 @@
-use Rattle.std.proofs.Common.{◌≡◌, [], ◌∷◌, drop}
-use Rattle.source_tree.specs.FileRules.{alternate_rules}
-use Rattle.check_rules.specs.Found.{items_of}
-use Rattle.check_rules.specs.Selecting.{described_of}
-use Rattle.check_rules.proofs.declared_items.DeclaredItems.alternates_rules.Given as goal
-
-abbrev pub invariant-loop-one : goal.invariant-loop-one
-invariant-loop-one l =
-    alternate_rules (items_of l.self) (described_of l.there) (l.first ∷ []) l.all ≡ alternate_rules (items_of l.self) (described_of l.there) l.before.items (drop l.one-index l.all)

@@ -1,7 +1,0 @@
-use Rattle.std.proofs.Common.{◌≡◌, take}
-use Rattle.names.specs.Table.{names_of}
-use Rattle.source_tree.specs.FileRules.{select_names}
-use Rattle.check_rules.proofs.file_names.select_names.Given as goal
-
-abbrev pub invariant-loop-one : goal.invariant-loop-one
-invariant-loop-one l = names_of l.names.items ≡ select_names (take l.one-index l.selects)

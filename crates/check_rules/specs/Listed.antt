@@ -1,8 +1,0 @@
--- Procedures in a list.
-use Rattle.std.specs.Option.{option_copied}
-use Rattle.names.specs.Noting.{procedure}
-use Rattle.source_tree.specs.Procedures as tree
-use Rattle.check_rules.specs.declared.listed.Procedure.{Procedure}
-
-abbrev pub procedure_of : Procedure → tree.Procedure
-procedure_of one = procedure (option_copied one.name) one.range

@@ -1,0 +1,15 @@
+pub mod Firsts
+pub mod Declared
+pub mod Listing
+pub mod GivenNames
+pub mod FilingLayers
+pub mod RuleLayers
+pub mod PerformLayers
+pub mod Permitted
+pub mod Layers
+pub mod Alone
+pub mod Looking
+pub mod ConditionItems
+pub mod ItemEntries
+pub mod EntryNumbers
+pub mod FilesFound

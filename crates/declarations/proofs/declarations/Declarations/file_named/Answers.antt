@@ -1,0 +1,18 @@
+use Rattle.declarations.specs.Named.{data_in, items_in}
+use Rattle.program_files.specs.Files.{file_in}
+use Rattle.source_tree.specs.ProgramFiles.{files_named, files_of}
+use Rattle.declarations.proofs.FilesFound.{none_first, once, unnamed_none}
+use Rattle.declarations.proofs.declarations.Declarations.file_named.Goals as goal
+
+pub returns-in-Some : goal.returns-in-Some
+returns-in-Some c =
+    let items = items_in c.args.self.now in
+    let program = data_in c.args.self.now in
+    c.files_named_once.ensures items program c.args.name.now (file_in items c.in-Some.file.now) (once items program c.requires.file_rules) (c.in-Some.ensures items program c.requires.files)
+
+pub returns-in-None : goal.returns-in-None
+returns-in-None c =
+    let items = items_in c.args.self.now in
+    let program = data_in c.args.self.now in
+    let found = files_named (files_of items program) c.args.name.now in
+    unnamed_none c.args.name.now.place found (none_first found (c.in-None.ensures items program c.requires.files))

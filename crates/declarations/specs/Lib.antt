@@ -1,0 +1,12 @@
+pub mod Data
+pub mod Listed
+pub mod Named
+pub mod Kept
+pub mod Looking
+pub mod Found
+pub mod FoundConditions
+pub mod FoundFiles
+pub mod Selecting
+pub mod Declaring
+pub mod Entries
+pub mod Chains

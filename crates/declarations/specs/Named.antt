@@ -1,0 +1,70 @@
+-- What is declared, in the words of the rules.
+use Rattle.std.specs.Prelude.{◌≡◌, List, [], ◌∷◌, map, Some, Result, Ok, Err}
+use Rattle.std.specs.Borrow.{Bor}
+use Rattle.lexical.specs.declared.place.Place.{Place}
+use Rattle.source_tree.specs.Broken.{Broken}
+use Rattle.source_tree.specs.declared.program.Program.{Program}
+use Rattle.source_tree.specs.LookUp.{first}
+use Rattle.source_tree.specs.NameRules.{named}
+use Rattle.source_tree.specs.FileRules.{program_file_rules}
+use Rattle.source_tree.specs.Places.{Placed}
+use Rattle.source_tree.specs.ProgramFiles.{ProgramFile, files_of}
+use Rattle.source_tree.specs.Records.{program_items}
+use Rattle.source_tree.specs.Procedures.{Procedure, procedures_of}
+use Rattle.source_tree.specs.Setting.{Scope}
+use Rattle.layout.specs.declared.placed.PlacedItem.{PlacedItem}
+use Rattle.layout.specs.Placing.{placed_item}
+use Rattle.names.specs.Items.{called_item}
+use Rattle.names.specs.Conditions.{AreConditions}
+use Rattle.names.specs.Procedures.{AreProcedures}
+use Rattle.names.specs.Table.{IsTable, calls_in}
+use Rattle.program_files.specs.Files.{AreFiles}
+use Rattle.entry_rules.specs.declared.rule.BrokenRule.{BrokenRule}
+use Rattle.entry_rules.specs.Checks.{broken_of}
+use Rattle.declarations.specs.declared.declarations.Declarations.{Declarations}
+use Rattle.declarations.specs.Data.{with_data}
+use Rattle.declarations.specs.Listed.{procedure_of}
+
+-- a program with the data that is declared
+abbrev pub data_in : Declarations → Program
+data_in all = with_data all.selects.now all.descriptions.now all.storage.now
+
+abbrev pub items_in : Declarations → List Placed
+items_in all = program_items (data_in all)
+
+abbrev pub files_in : Declarations → List ProgramFile
+files_in all = files_of (items_in all) (data_in all)
+
+abbrev pub procedures_in : Declarations → List Procedure
+procedures_in all = map procedure_of all.procedure_list.items
+
+-- what names name
+abbrev pub scope_in : Declarations → Scope
+scope_in all = record { items = items_in all; files = files_in all; procedures = procedures_in all }
+
+-- A program declares this: its data, and its procedures.
+pub record Declares (program : Program) (all : Declarations) : Type 0 where
+  pub selects : all.selects.now ≡ program.selects
+  pub descriptions : all.descriptions.now ≡ program.files
+  pub storage : all.storage.now ≡ program.storage
+  pub procedures : procedures_in all ≡ procedures_of program.sections
+
+-- Names and places are those of the items, the files those of the SELECTs, which keep their rules, and the names of procedures those of
+-- the procedures.
+pub record IsDeclared (all : Declarations) : Type 0 where
+  pub table : IsTable all.names
+  pub calls : calls_in all.names ≡ map called_item (items_in all)
+  pub items : all.layout.items ≡ map placed_item (items_in all)
+  pub conditions : AreConditions (items_in all) all.conditions
+  pub files : AreFiles (items_in all) (data_in all) all.files
+  pub file_rules : program_file_rules (items_in all) (data_in all) ≡ []
+  pub procedures : AreProcedures (procedures_in all) all.procedures
+
+abbrev pub told : Result (Bor PlacedItem) BrokenRule → Result PlacedItem BrokenRule
+told (Ok item) = Ok item.now
+told (Err broken) = Err broken
+
+-- The only item, as it is placed; or what a name breaks that names nothing, or several things.
+abbrev pub IsItemNamed : Place → Result PlacedItem BrokenRule → List Placed → Type 0
+IsItemNamed place (Ok item) found = (one : Placed) × (found ≡ one ∷ []) × (item ≡ placed_item one)
+IsItemNamed place (Err broken) found = (rules : Placed → List Broken) → first (named place rules found) ≡ Some (broken_of broken)

@@ -1,0 +1,107 @@
+//! What is declared in a program.
+
+ghost use Rattle.std.specs.Prelude.{◌≡◌, [], IfOk, OnOk};
+ghost use Rattle.entry_rules.specs.Checks.{Tells};
+ghost use Rattle.source_tree.specs.EntryRules.{entry_rules};
+ghost use Rattle.source_tree.specs.FileRules.{program_file_rules};
+ghost use Rattle.source_tree.specs.LookUp.{items_named};
+ghost use Rattle.source_tree.specs.PerformRules.{procedure_name_rules};
+ghost use Rattle.declarations.specs.Declaring.{declaration_rules, data_rules};
+ghost use Rattle.names.specs.Table.{calls_in};
+ghost use Rattle.declarations.specs.Found.{AreDeclared, items_of};
+ghost use Rattle.declarations.specs.FoundFiles.{IsNumberedItem};
+ghost use Rattle.declarations.specs.Named as spec;
+ghost use Rattle.declarations.specs.Named.{Declares, IsDeclared, IsItemNamed, items_in};
+
+use crate::declared_items::{DeclaredItems, item_number};
+use crate::listed::{Procedure, listed_procedures};
+use crate::procedures::named_procedures;
+use entry_rules::{BrokenRule, CheckError};
+use layout::{Layout, PlacedItem};
+use names::{ConditionNames, NameTable, ProcedureNames, condition_names};
+use program_files::ProgramFiles;
+use source_tree::{Entry, FileDescription, Program, QualifiedName, Select};
+use std::alloc::Global;
+
+/// What is declared in a program whose entries and files keep their rules: its SELECTs, FDs and entries of working storage, with the
+/// names of its items and where those stand, its condition names, its files, its procedures and their names. It has no statements, so
+/// what looks at it is handed none.
+#[derive(Drop)]
+pub struct Declarations<'a> {
+    pub selects: &'a [Select],
+    pub descriptions: &'a [FileDescription],
+    pub storage: &'a [Entry],
+    pub names: NameTable<'a>,
+    pub layout: Layout,
+    pub conditions: ConditionNames<'a>,
+    pub files: ProgramFiles<'a>,
+    /// Each section before its paragraphs.
+    pub procedure_list: Vec<Procedure<'a>>,
+    pub procedures: ProcedureNames<'a>,
+}
+
+impl<'a> Declarations<'a> {
+    /// What is declared in a program that keeps the rules of its entries, of its files and of the names of its procedures. Otherwise
+    /// the answer is the first that it breaks.
+    pub fn of(alloc: Global, program: &'a Program) -> Result<Declarations<'a>, CheckError>
+        ensures declared { IfOk result IsDeclared }
+        ensures program { IfOk result (Declares program.now) }
+        ensures rules { Tells result (declaration_rules program.now) }
+    {
+        let items = DeclaredItems::checked(alloc, program)?;
+        Declarations::with_items(alloc, items)
+    }
+
+    /// With these items: the condition names, the files, and the names of procedures, rule 42 where one is given to two.
+    fn with_items(alloc: Global, items: DeclaredItems<'a>) -> Result<Declarations<'a>, CheckError>
+        requires declared { AreDeclared items }
+        requires storage { entry_rules items.program.now.storage ≡ [] }
+        requires files { program_file_rules (items_of items) items.program.now ≡ [] }
+        ensures declared { IfOk result IsDeclared }
+        ensures program { IfOk result (Declares items.entry.program.now) }
+        ensures names { Tells result (procedure_name_rules items.entry.program.now.sections) }
+    {
+        let DeclaredItems {
+            program,
+            names,
+            layout,
+        } = items;
+        let conditions = condition_names(alloc, &names, program)?;
+        let files = ProgramFiles::of(alloc, program, &names, &layout)?;
+        let selects = program.selects.as_slice();
+        let descriptions = program.files.as_slice();
+        let storage = program.storage.as_slice();
+        let sections = program.sections.as_slice();
+        let procedures = named_procedures(alloc, sections)?;
+        let procedure_list = listed_procedures(alloc, sections)?;
+        Ok(Declarations {
+            selects,
+            descriptions,
+            storage,
+            names,
+            layout,
+            conditions,
+            files,
+            procedure_list,
+            procedures,
+        })
+    }
+
+    /// The item that a name names: rule 40 where there is none, 41 where there are several.
+    pub fn item_named(&self, name: &QualifiedName) -> Result<&PlacedItem, BrokenRule>
+        requires { IsDeclared self.now }
+        ensures { IsItemNamed name.now.name.place (spec.told result) (items_named (items_in self.now) name.now) }
+    {
+        let number = item_number(&self.names, name)?;
+        Ok(&self.layout.items.as_slice()[number])
+    }
+
+    /// The number of the item that a name names, and the item: rule 40 where there is none, 41 where there are several.
+    pub fn numbered_item(&self, name: &QualifiedName) -> Result<(usize, &PlacedItem), BrokenRule>
+        requires { IsDeclared self.now }
+        ensures { IsNumberedItem (items_in self.now) (calls_in self.now.names) name.now.name.place result (items_named (items_in self.now) name.now) }
+    {
+        let number = item_number(&self.names, name)?;
+        Ok((number, &self.layout.items.as_slice()[number]))
+    }
+}

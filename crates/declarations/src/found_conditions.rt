@@ -1,0 +1,45 @@
+//! The condition names that names name: rule 40 where there is none, 41 where there are several.
+
+ghost use Rattle.std.specs.Prelude.{◌≡◌, ◌<◌, length, Some, slice_get};
+ghost use Rattle.source_tree.specs.LookUp.{conditions_named};
+ghost use Rattle.declarations.specs.FoundConditions.{IsConditionNamed};
+ghost use Rattle.declarations.specs.Named.{IsDeclared, items_in, told};
+
+use crate::declarations::Declarations;
+use entry_rules::{BrokenRule, Rule};
+use layout::PlacedItem;
+use names::LookUp;
+use source_tree::QualifiedName;
+
+impl<'a> Declarations<'a> {
+    /// The item of that number.
+    fn item_at(&self, number: usize) -> &PlacedItem
+        requires { number < length self.now.layout.items }
+        ensures { slice_get self.now.layout.items number ≡ Some result.now }
+    {
+        &self.layout.items.as_slice()[number]
+    }
+
+    /// The item of the condition name that a name names: rule 40 where there is none, 41 where there are several.
+    pub fn condition_named(&self, name: &QualifiedName) -> Result<&PlacedItem, BrokenRule>
+        requires { IsDeclared self.now }
+        ensures { IsConditionNamed name.now.name.place (told result) (conditions_named (items_in self.now) name.now) }
+    {
+        names::conditions_named();
+        let place = name.name.place;
+        match self.conditions.names.look_up(name) {
+            LookUp::One(number) => {
+                let item = self.conditions.conditions[number].item;
+                Ok(self.item_at(item))
+            }
+            LookUp::Unknown => Err(BrokenRule {
+                rule: Rule::UnknownName,
+                place,
+            }),
+            LookUp::Several => Err(BrokenRule {
+                rule: Rule::AmbiguousName,
+                place,
+            }),
+        }
+    }
+}

@@ -1,0 +1,24 @@
+//! What a program declares: its data, files and procedures, what names name among them, and the rules that declarations keep.
+#![tactic(auto)]
+
+mod alone;
+mod checked;
+mod declarations;
+mod declared_items;
+mod file_names;
+mod found_conditions;
+mod found_files;
+mod keys;
+mod listed;
+mod looked;
+mod procedures;
+mod record_area;
+mod record_entries;
+mod selects;
+
+pub use alone::operand_alone;
+pub use checked::Checked;
+pub use declarations::Declarations;
+pub use keys::is_plain;
+pub use listed::Procedure;
+pub use looked::{AskedCondition, LookedObject, LookedSubject, Question, WantedValue};
