@@ -16,7 +16,7 @@ where
     E: Write,
 {
     let mut device = match HostVolume::open(rt, path, Access::Read) {
-        Ok(volume) => HostDevice::new(volume),
+        Ok(volume) => HostDevice::new(rt.alloc(), volume),
         Err(error) => return Verdict::refusing_host_file(error),
     };
     let Ok(mut out) = BufWriter::new(rt.alloc(), out) else {

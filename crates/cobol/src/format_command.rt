@@ -31,7 +31,7 @@ where
         Ok(volume) => volume,
         Err(error) => return Verdict::refusing_device(error),
     };
-    match format_volume(&mut HostDevice::new(volume)) {
+    match format_volume(&mut HostDevice::new(rt.alloc(), volume)) {
         Ok(()) => Verdict::Done,
         Err(_) => Verdict::device(),
     }

@@ -14,7 +14,7 @@ where
     O: Write,
 {
     let mut device = match HostVolume::open(rt, path, Access::Read) {
-        Ok(volume) => HostDevice::new(volume),
+        Ok(volume) => HostDevice::new(rt.alloc(), volume),
         Err(error) => return Verdict::refusing_host_file(error),
     };
     match list_volume(rt.alloc(), &mut device, out) {

@@ -28,7 +28,7 @@ where
         Err(verdict) => return verdict,
     };
     let volume = match HostVolume::open(rt, request.volume, Access::ReadWrite) {
-        Ok(volume) => HostDevice::new(volume),
+        Ok(volume) => HostDevice::new(rt.alloc(), volume),
         Err(error) => return Verdict::refusing_host_file(error),
     };
     match HostStation::new(rt.alloc(), console, out, volume) {

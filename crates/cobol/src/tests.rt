@@ -437,7 +437,7 @@ fn volumes_that_are_in_use(rt: HostRuntime) -> Result<(), Fail> {
 fn volume_of_the_first_store(rt: HostRuntime) -> Result<(), Fail> {
     prepare(&rt, "halves", SALES)?;
     let volume = NewVolume::open(&rt, "halves/V")?.fill(rt.alloc(), 1024, |_| {})?;
-    let mut device = HostDevice::new(volume);
+    let mut device = HostDevice::new(rt.alloc(), volume);
     half_store::format(&mut device)?;
     drop(device);
     expect(

@@ -8,6 +8,7 @@ ghost use Rattle.half_store.specs.Changing.{Becomes, IsMemoryCause};
 use crate::rows::{has_duplicate, has_prime_row, has_taken, number_of_new, prime_cmp};
 use crate::stored::{StoredFile, StoredRow};
 use records::{AlternateKey, Organization, Outcome, StoreFault};
+use smallvec::SmallVec;
 use std::alloc::Global;
 
 /// Arrivals are below this number, as generations are.
@@ -40,7 +41,7 @@ fn row_with(
 {
     let mut copy = Vec::new(alloc);
     copy.extend_from_slice(bytes)?;
-    let mut arrivals = Vec::new(alloc);
+    let mut arrivals = SmallVec::new(alloc);
     arrivals.resize(keys.len(), arrival)?;
     Ok(StoredRow {
         number,

@@ -15,6 +15,7 @@ use crate::heads::read_spec;
 use crate::stored::{StoredFile, StoredRow};
 use byteorder::{BigEndian, ByteOrder};
 use records::{FileSpec, Organization, StoreFault};
+use smallvec::SmallVec;
 use std::alloc::Global;
 
 /// The bytes of a file in front of its rows.
@@ -29,12 +30,16 @@ fn number_at(bytes: &[u8], at: usize) -> u64
 }
 
 /// So many numbers of eight bytes.
-fn read_numbers(alloc: Global, bytes: &[u8], count: usize) -> Result<Vec<u64>, StoreFault>
+fn read_numbers(
+    alloc: Global,
+    bytes: &[u8],
+    count: usize,
+) -> Result<SmallVec<u64, 2>, StoreFault>
     requires { 8 * count ≤ length bytes.now }
     ensures numbers { IfOk result (λ numbers. numbers.items ≡ numbers_in count bytes.now) }
     ensures memory { IsOkUnless result StoreFault.Memory }
 {
-    let mut numbers = Vec::new(alloc);
+    let mut numbers = SmallVec::new(alloc);
     for place in 0..count {
         numbers.push(number_at(bytes, 8 * place))?;
     }

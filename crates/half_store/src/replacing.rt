@@ -14,6 +14,7 @@ use crate::inserting::{ARRIVALS, outcome_of};
 use crate::rows::{has_value, pair_cmp, part_of, prime_key};
 use crate::stored::{StoredFile, StoredRow};
 use records::{AlternateKey, Organization, Outcome, StoreFault};
+use smallvec::SmallVec;
 use std::alloc::Global;
 
 /// Whether a record has another value of a key than the one before.
@@ -144,11 +145,11 @@ fn arrivals_with(
     bytes: &[u8],
     next: u64,
     keys: &[AlternateKey],
-) -> Result<Vec<u64>, StoreFault>
+) -> Result<SmallVec<u64, 2>, StoreFault>
     ensures arrivals { IfOk result (λ arrivals. arrivals.items ≡ arrivals_after row.now.bytes.items bytes.now next keys.now row.now.arrivals.items) }
     ensures memory { IsOkUnless result StoreFault.Memory }
 {
-    let mut arrivals = Vec::new(alloc);
+    let mut arrivals = SmallVec::new(alloc);
     for place in 0..keys.len() {
         if place >= row.arrivals.len() {
             return Ok(arrivals);

@@ -1,3 +1,4 @@
+pub mod Gathered
 pub mod Roots
 pub mod Unknown
 pub mod Volume

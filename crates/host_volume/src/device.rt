@@ -1,37 +1,46 @@
 //! A device over a volume of the host. It counts its failures and claims nothing more.
+//!
+//! Writes to adjacent sectors are gathered, and given to the host by one call: when a write isn't adjacent, at a read, at a sync, and when
+//! the volume is asked for. So the host sees the same writes in the same order, and each of them before the sync behind it.
 
-ghost use Rattle.std.specs.Prelude.{◌≡◌, []};
+ghost use Rattle.std.specs.Prelude.{◌≡◌, [], IfOk, OnOk};
 ghost use Rattle.station.specs.Failures.{CountsFailure};
 ghost use Rattle.host_volume.specs.Unknown.{nothing_known};
+ghost use Rattle.host_volume.specs.Gathered.{Fits};
 ghost use Rattle.host_volume.specs.Volume.{sector_count, volume_of, failure_count};
 
+use crate::gathering::GatheredWrites;
 use crate::volume::HostVolume;
 use station::{Device, DeviceError};
+use std::alloc::Global;
 use std::io;
 
 #[derive(Drop)]
 pub struct HostDevice {
     volume: HostVolume,
+    gathered: GatheredWrites,
     failures: u64,
 }
 
 impl HostDevice {
     /// A device that hasn't failed yet.
-    pub fn new(volume: HostVolume) -> HostDevice
+    pub fn new(alloc: Global, volume: HostVolume) -> HostDevice
         ensures volume { volume_of result ≡ volume }
         ensures failures { failure_count result ≡ 0 }
     {
         HostDevice {
             volume,
+            gathered: GatheredWrites::new(alloc),
             failures: 0,
         }
     }
 
-    /// The volume without the count of failures.
-    pub fn into_volume(self) -> HostVolume
-        ensures { result ≡ volume_of self }
+    /// The volume without the count of failures. What was gathered is written; it fails if the host refuses that.
+    pub fn into_volume(mut self) -> Result<HostVolume, DeviceError>
+        ensures { IfOk result (λ volume. volume ≡ volume_of self) }
     {
-        self.volume
+        self.write_gathered()?;
+        Ok(self.volume)
     }
 
     /// How often a call failed, as far as a `u64` counts.
@@ -51,6 +60,36 @@ impl HostDevice {
         }
         self.failures = self.failures.saturating_add(1);
         Err(DeviceError::Failed)
+    }
+
+    /// Gives the host what was gathered. After a failure it stays gathered, and the next call tries again: so no read gives a sector as it
+    /// was before a write.
+    fn write_gathered(&mut self) -> Result<(), DeviceError>
+        ensures volume { volume_of self.new ≡ volume_of self.old }
+        ensures failures { CountsFailure result (failure_count self.old) (failure_count self.new) }
+        ensures none { OnOk result (self.new.gathered.bytes.items ≡ []) }
+    {
+        if self.gathered.bytes.is_empty() {
+            return Ok(());
+        }
+        let done = self
+            .volume
+            .write_adjacent(self.gathered.first, &self.gathered.bytes);
+        self.count_failure(done)?;
+        self.gathered.bytes.clear();
+        Ok(())
+    }
+
+    /// Gives the host what was gathered, unless a sector has its place behind it.
+    fn make_place_for(&mut self, sector: u32) -> Result<(), DeviceError>
+        ensures volume { volume_of self.new ≡ volume_of self.old }
+        ensures failures { CountsFailure result (failure_count self.old) (failure_count self.new) }
+        ensures fits { OnOk result (Fits self.new.gathered.first self.new.gathered.bytes.items sector) }
+    {
+        if self.gathered.has_place_for(sector) {
+            return Ok(());
+        }
+        self.write_gathered()
     }
 }
 
@@ -78,16 +117,24 @@ impl Device for HostDevice {
     }
 
     fn read(&mut self, sector: u32, bytes: &mut [u8; 4096]) -> Result<(), DeviceError> {
+        self.write_gathered()?;
         let done = self.volume.read(sector, bytes);
         self.count_failure(done)
     }
 
     fn write(&mut self, sector: u32, bytes: &[u8; 4096]) -> Result<(), DeviceError> {
+        self.make_place_for(sector)?;
+        if self.gathered.add(sector, bytes).is_ok() {
+            return Ok(());
+        }
+        // Memory has no place for it.
+        self.write_gathered()?;
         let done = self.volume.write(sector, bytes);
         self.count_failure(done)
     }
 
     fn sync(&mut self) -> Result<(), DeviceError> {
+        self.write_gathered()?;
         let done = self.volume.sync();
         self.count_failure(done)
     }

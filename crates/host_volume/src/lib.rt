@@ -4,6 +4,7 @@
 #![tactic(auto)]
 
 mod device;
+mod gathering;
 mod host_file;
 mod new_volume;
 mod roots;

@@ -147,7 +147,7 @@ fn new_volume(rt: HostRuntime) -> Result<(), Fail> {
 #[test]
 fn file_that_loses_its_end(rt: HostRuntime) -> Result<(), Fail> {
     let volume = NewVolume::open(&rt, "end.V")?.fill(rt.alloc(), 3, |_| {})?;
-    let mut device = HostDevice::new(volume);
+    let mut device = HostDevice::new(rt.alloc(), volume);
     set_len(&rt, "end.V", 4097)?;
     let mut bytes = [0; 4096];
     let mut failed = 0u64;
@@ -180,5 +180,119 @@ fn roots_that_are_written_again(rt: HostRuntime) -> Result<(), Fail> {
         station.fail_at(n);
         assert!(rt; rewrite_roots(&mut station).is_err(), "{n}");
     }
+    Ok(())
+}
+
+/// A sector of this byte.
+fn sector_of(byte: u8) -> [u8; 4096] {
+    [byte; 4096]
+}
+
+/// The first byte of each sector of a file, as another reader of the file sees it.
+fn first_bytes(rt: &HostRuntime, path: &str) -> io::Result<Vec<u8>> {
+    let bytes = fs::read(rt, path)?;
+    let mut firsts = Vec::new(rt.alloc());
+    for place in (0..bytes.len()).step_by(4096) {
+        firsts.push(bytes[place])?;
+    }
+    Ok(firsts)
+}
+
+/// A device over a new volume of so many sectors.
+fn new_device(rt: &HostRuntime, path: &str, sectors: u32) -> io::Result<HostDevice> {
+    let volume = NewVolume::open(rt, path)?.fill(rt.alloc(), sectors, |_| {})?;
+    Ok(HostDevice::new(rt.alloc(), volume))
+}
+
+/// Writes each of these sectors, with a byte of its own.
+fn write_all(device: &mut HostDevice, sectors: &[(u32, u8)]) -> bool {
+    sectors.iter().all(|(sector, byte)| {
+        *sector < device.count() && device.write(*sector, &sector_of(*byte)).is_ok()
+    })
+}
+
+/// What was written reaches the file by the next sync, each sector at its place, whether or not sectors are adjacent.
+#[test]
+fn writes_before_a_sync(rt: HostRuntime) -> Result<(), Fail> {
+    let mut device = new_device(&rt, "sync.V", 8)?;
+    for (sectors, expected) in [
+        (&[(2u32, 1u8), (3, 2), (4, 3)], [0, 0, 1, 2, 3, 0, 0, 0]),
+        (&[(6, 4), (5, 5), (7, 6)], [0, 0, 1, 2, 3, 5, 4, 6]),
+        (&[(0, 7), (2, 8), (3, 9)], [7, 0, 8, 9, 3, 5, 4, 6]),
+        (&[(1, 1), (1, 2), (2, 3)], [7, 2, 3, 9, 3, 5, 4, 6]),
+    ] {
+        assert!(rt; write_all(&mut device, sectors));
+        device.sync()?;
+        assert_eq!(rt; first_bytes(&rt, "sync.V")?.as_slice(), expected.as_slice());
+    }
+    assert_eq!(rt; device.failures(), 0);
+    fs::remove_file(&rt, "sync.V")?;
+    Ok(())
+}
+
+/// A read gives what was written last, before any sync.
+#[test]
+fn reads_behind_writes(rt: HostRuntime) -> Result<(), Fail> {
+    let mut device = new_device(&rt, "read.V", 8)?;
+    assert!(rt; write_all(&mut device, &[(2, 1), (3, 2), (4, 3)]));
+    let mut bytes = [0; 4096];
+    for (sector, byte) in [(4, 3), (2, 1), (3, 2), (5, 0)] {
+        assert!(rt; sector < device.count());
+        device.read(sector, &mut bytes)?;
+        assert!(rt; bytes == sector_of(byte), "{sector}");
+    }
+    fs::remove_file(&rt, "read.V")?;
+    Ok(())
+}
+
+/// More adjacent sectors than are gathered reach the file in their order.
+#[test]
+fn many_adjacent_writes(rt: HostRuntime) -> Result<(), Fail> {
+    let mut device = new_device(&rt, "many.V", 200)?;
+    for sector in 0..200u32 {
+        assert!(rt; write_all(&mut device, &[(sector, sector as u8)]));
+    }
+    device.sync()?;
+    let firsts = first_bytes(&rt, "many.V")?;
+    assert_eq!(rt; firsts.len(), 200);
+    assert!(rt;
+        firsts
+            .iter()
+            .enumerate()
+            .all(|(place, byte)| place == usize::from(*byte))
+    );
+    fs::remove_file(&rt, "many.V")?;
+    Ok(())
+}
+
+/// The volume that a device gives back has what was written.
+#[test]
+fn volume_of_a_device_that_wrote(rt: HostRuntime) -> Result<(), Fail> {
+    let mut device = new_device(&rt, "given.V", 4)?;
+    assert!(rt; write_all(&mut device, &[(2, 1), (3, 2)]));
+    let _volume = device.into_volume()?;
+    assert_eq!(rt; first_bytes(&rt, "given.V")?.as_slice(), [0, 0, 1, 2].as_slice());
+    fs::remove_file(&rt, "given.V")?;
+    Ok(())
+}
+
+/// A volume that is open to read refuses writes. The failure is answered at the latest by the sync, and by each call from then on.
+#[test]
+fn writes_that_the_host_refuses(rt: HostRuntime) -> Result<(), Fail> {
+    drop(new_device(&rt, "refused.V", 4)?);
+    let volume = HostVolume::open(&rt, "refused.V", Access::Read)?;
+    let mut device = HostDevice::new(rt.alloc(), volume);
+    let _ = write_all(&mut device, &[(2, 1)]);
+    let mut bytes = [0; 4096];
+    for failures in [1, 2] {
+        assert!(rt; device.sync().is_err());
+        assert_eq!(rt; device.failures(), failures);
+    }
+    assert!(rt; 2 < device.count());
+    assert!(rt; device.read(2, &mut bytes).is_err());
+    assert!(rt; !write_all(&mut device, &[(0, 1)]));
+    assert_eq!(rt; device.failures(), 4);
+    assert!(rt; device.into_volume().is_err());
+    fs::remove_file(&rt, "refused.V")?;
     Ok(())
 }

@@ -1,11 +1,12 @@
 //! A volume that exists.
 
-ghost use Rattle.std.specs.Prelude.{◌≡◌, ◌≤◌, ◌<◌, ◌⊎◌, ◌*◌, ◌+◌, ◌-◌, ◌^◌, IfOk, OnOk};
+ghost use Rattle.std.specs.Prelude.{◌≡◌, ◌≤◌, ◌<◌, ◌⊎◌, ◌*◌, ◌+◌, ◌-◌, ◌^◌, length, IfOk, OnOk};
 ghost use Rattle.host_volume.specs.Volume.{sector_count};
 
 use crate::device::HostDevice;
 use crate::host_file::{lock, open_folder, refuse_other_kinds};
 use crate::roots::rewrite_roots;
+use std::alloc::Global;
 use std::fs::{File, OpenOptions};
 use std::io;
 use std::io::ErrorKind;
@@ -51,7 +52,7 @@ impl HostVolume {
         };
         match access {
             Access::Read => Ok(volume),
-            Access::ReadWrite => volume.settle(&open_folder(rt, path)?),
+            Access::ReadWrite => volume.settle(rt.alloc(), &open_folder(rt, path)?),
         }
     }
 
@@ -60,14 +61,17 @@ impl HostVolume {
     /// After a failed sync of an earlier process the host may keep a root in its cache that the disk doesn't have, and report
     /// no further error. A later commit would trust that root and reuse sectors that the root on the disk still names. The
     /// sectors that a root names were synced before the root was written, so only a root can be missing on the disk.
-    fn settle(self, folder: &File) -> io::Result<HostVolume>
+    fn settle(self, alloc: Global, folder: &File) -> io::Result<HostVolume>
         ensures { IfOk result (λ volume. sector_count volume ≡ sector_count self) }
     {
         self.file.sync_all()?;
         folder.sync_all()?;
-        let mut device = HostDevice::new(self);
-        match rewrite_roots(&mut device) {
-            Ok(()) => Ok(device.into_volume()),
+        let mut device = HostDevice::new(alloc, self);
+        if rewrite_roots(&mut device).is_err() {
+            return Err(ErrorKind::Other.into());
+        }
+        match device.into_volume() {
+            Ok(volume) => Ok(volume),
             Err(_) => Err(ErrorKind::Other.into()),
         }
     }
@@ -91,6 +95,17 @@ impl HostVolume {
         ensures { OnOk result (sector < sector_count self.now) }
     {
         self.file.write_all_at(bytes, self.place(sector)?)
+    }
+
+    /// Writes adjacent sectors, as many as there are bytes for. If the volume lacks one of them, it fails and the file doesn't grow.
+    pub(crate) fn write_adjacent(&self, first: u32, bytes: &[u8]) -> io::Result<()>
+        ensures { OnOk result (first * 4096 + length bytes.now ≤ sector_count self.now * 4096) }
+    {
+        let place = byte_length(first);
+        if byte_length(self.sectors) < place.saturating_add(bytes.len() as u64) {
+            return Err(ErrorKind::InvalidInput.into());
+        }
+        self.file.write_all_at(bytes, place)
     }
 
     /// Asks the host to put all writes on the disk. After an error the host may have dropped some of them.

@@ -25,6 +25,8 @@ pub(crate) struct Draft<'a> {
     pub changed_maps: Vec<bool>,
     /// The sectors whose use changed.
     pub turns: Vec<Turn>,
+    /// The first sector that may be taken.
+    pub start: u32,
     /// No sector from here on is taken yet.
     pub next: u32,
 }
@@ -48,7 +50,7 @@ pub(crate) fn note_turns(turns: &mut Vec<Turn>, old: u32, new: u32) -> Result<()
     Ok(())
 }
 
-/// Places a block in the next sector that isn't used.
+/// Places a block in the next sector that isn't used. So blocks of adjacent sectors stand one behind the other.
 pub(crate) fn place_block<'a>(
     used: &SectorUse,
     draft: &mut Draft<'a>,

@@ -66,6 +66,7 @@ pub(crate) fn read_volume<D: Device>(alloc: Global, device: &mut D) -> Result<Vo
         table,
         used,
         free,
+        near: 0,
     })
 }
 

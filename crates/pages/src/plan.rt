@@ -24,15 +24,51 @@ const FIRST_SECTOR: u32 = 2;
 /// A draft has room for so many blocks from the start, which is enough for a small commit, and for as many old and new sectors.
 const FEW_BLOCKS: usize = 8;
 
-/// A draft with nothing in it, for so many maps.
-fn fresh_draft<'a>(alloc: Global, maps: usize) -> Result<Draft<'a>, AllocError>
-    ensures { IfOk result (λ draft. IsFresh maps draft) }
+/// A commit of more changes takes the first sectors that aren't used, and looks for no adjacent ones.
+const MOST_ADJACENT: usize = 256;
+
+/// So many sectors before the first one of the last commit are looked at too. What it replaced is there, and is in the processor's caches.
+const BEHIND: u32 = 32;
+
+/// How far the next search is from one that found nothing.
+const STEP: u32 = 1024;
+
+/// Where a commit of so many changes finds adjacent sectors, one for each change and one for a map sector. From there on the volume has
+/// all sectors that the commit may need.
+fn adjacent_start(used: &SectorUse, near: u32, changes: usize) -> Option<u32>
+    ensures some { IfSome result (λ s. 0 < s) }
+    ensures room { IfSome result (λ s. unused_below used.now s + 2 * changes ≤ unused_count used.now) }
+{
+    if changes > MOST_ADJACENT {
+        return None;
+    }
+    let from = near.saturating_sub(BEHIND).max(FIRST_SECTOR);
+    let start = used.adjacent_unused(from, changes + 1)?;
+    if !used.has_room(start, 2 * changes) {
+        return None;
+    }
+    Some(start)
+}
+
+/// Where the next commit looks, after one that began there or found no adjacent sectors. Behind the last sector it begins anew.
+fn near_after(near: u32, sectors: u32, found: Option<u32>) -> u32 {
+    match found {
+        Some(start) => start,
+        None if near.saturating_add(STEP) < sectors => near.saturating_add(STEP),
+        None => FIRST_SECTOR,
+    }
+}
+
+/// A draft with nothing in it, for so many maps, whose blocks begin there.
+fn fresh_draft<'a>(alloc: Global, maps: usize, start: u32) -> Result<Draft<'a>, AllocError>
+    ensures { IfOk result (λ draft. IsFresh maps start draft) }
 {
     Ok(Draft {
         blocks: Vec::with_capacity(alloc, FEW_BLOCKS)?,
         changed_maps: vec![in alloc; false; maps]?,
         turns: Vec::with_capacity(alloc, 2 * FEW_BLOCKS)?,
-        next: FIRST_SECTOR,
+        start,
+        next: start,
     })
 }
 
@@ -60,7 +96,10 @@ pub(crate) fn next_volume<'a>(
     if volume.generation + 1 >= GENERATIONS {
         return Err(PagesError::Full);
     }
-    let mut draft = fresh_draft(alloc, volume.maps.len())?;
+    let found = adjacent_start(&volume.used, volume.near, changes.len());
+    volume.near = near_after(volume.near, volume.sectors, found);
+    let start = found.unwrap_or(FIRST_SECTOR);
+    let mut draft = fresh_draft(alloc, volume.maps.len(), start)?;
     stage_changes(volume, &mut draft, changes)?;
     stage_maps(alloc, volume, &mut draft)?;
     volume.generation += 1;

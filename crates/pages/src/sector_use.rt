@@ -1,6 +1,6 @@
 //! Which sectors of a volume are used.
 ghost use Rattle.std.specs.Prelude.{◌≡◌, ◌<◌, ◌≤◌, ◌+◌, ◌*◌, ℕ, false, true, if◌then◌else◌, length, slice_index_or, IfOk, IfSome, IfNone};
-ghost use Rattle.pages.specs.Runs.{marked, unused_below, AreRuns};
+ghost use Rattle.pages.specs.Runs.{marked, unused_below, unused_count, AreRuns};
 
 use crate::volume::count_free;
 use memchr::memchr;
@@ -12,6 +12,9 @@ const RUN: usize = 1024;
 
 /// The byte of a sector that isn't used.
 const UNUSED: u8 = 0;
+
+/// How many sectors a search for adjacent ones looks at.
+const SPAN: usize = 1024;
 
 /// For each sector a byte, 1 if it is used, and of each run of 1,024 sectors how many aren't: so a search passes over runs without one.
 #[derive(Drop)]
@@ -105,6 +108,30 @@ fn unused_in_run(used: &[u8], counts: &[u32], from: usize, run: usize) -> Option
     }
 }
 
+/// The first of so many adjacent sectors among some that aren't used.
+fn first_adjacent(used: &[u8], start: usize, end: usize, count: usize) -> Option<u32>
+    requires few { length used.now ≤ 921600 }
+    requires end { end ≤ length used.now }
+    ensures { IfSome result (λ s. (start ≤ s) × (s < end)) }
+{
+    let mut first = start;
+    for place in start..end {
+        if used[place] != UNUSED {
+            first = place + 1;
+        } else if place - first + 1 >= count {
+            return Some(first as u32);
+        }
+    }
+    None
+}
+
+/// How many of some sectors aren't used.
+fn count_bytes(used: &[u8]) -> usize
+    ensures { result ≡ unused_count (marked used.now) }
+{
+    used.iter().filter(|byte| **byte == UNUSED).count()
+}
+
 impl SectorUse {
     ghost use Rattle.std.specs.Prelude.{slice_set};
 
@@ -150,5 +177,27 @@ impl SectorUse {
             }
         }
         None
+    }
+
+    /// The first of so many adjacent sectors that aren't used. It looks at 1,024 sectors, from the first one on that isn't used and isn't
+    /// before this one.
+    pub(crate) fn adjacent_unused(&self, from: u32, count: usize) -> Option<u32>
+        ensures { IfSome result (λ s. (from ≤ s) × (s < length self.now)) }
+    {
+        let start = self.next_unused(from)? as usize;
+        let end = self.used.len().min(start.saturating_add(SPAN));
+        first_adjacent(&self.used, start, end, count)
+    }
+
+    /// Whether so many sectors from this one on aren't used. It looks at no more than sixteen times as many sectors.
+    pub(crate) fn has_room(&self, from: u32, count: usize) -> bool
+        ensures { result ≡ true → unused_below self.now from + count ≤ unused_count self.now }
+    {
+        let start = from as usize;
+        let end = start.saturating_add(count.saturating_mul(16));
+        match self.used.get(start..self.used.len().min(end)) {
+            Some(sectors) => count_bytes(sectors) >= count,
+            None => false,
+        }
     }
 }

@@ -23,6 +23,8 @@ pub(crate) struct VolumeMap {
     pub used: SectorUse,
     /// How many aren't.
     pub free: u32,
+    /// The sector around which the next commit looks for adjacent sectors. It is not on the disk, and nothing is claimed of it.
+    pub near: u32,
 }
 
 /// How many sectors aren't used.

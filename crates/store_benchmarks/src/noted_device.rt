@@ -24,7 +24,7 @@ impl NotedDevice {
     /// A device over a volume, without steps so far.
     pub fn new(alloc: Global, volume: HostVolume, is_durable: bool) -> NotedDevice {
         NotedDevice {
-            device: HostDevice::new(volume),
+            device: HostDevice::new(alloc, volume),
             is_durable,
             steps: Vec::new(alloc),
             reads: 0,
