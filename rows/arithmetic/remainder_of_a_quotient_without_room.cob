@@ -1,0 +1,20 @@
+       IDENTIFICATION DIVISION.
+       PROGRAM-ID. ROW.
+       DATA DIVISION.
+       WORKING-STORAGE SECTION.
+       77 I PIC 9(2) VALUE 2.
+       77 J PIC S9(2) VALUE 3.
+       77 E PIC -(3)9.99.
+       77 X PIC X(6) VALUE "12AB".
+       77 N PIC 9(4) VALUE 0.
+       77 D PIC 9(6) VALUE 0.
+       77 C PIC S9(3)V99 VALUE 0.
+       77 R PIC S9(3)V99 VALUE 0.
+       77 B PIC Z9.9 BLANK WHEN ZERO.
+       PROCEDURE DIVISION.
+           MOVE 2 TO I.
+           MOVE 0 TO N.
+           DIVIDE 2 INTO 999 GIVING I REMAINDER N ON SIZE ERROR DISPLAY
+               "error " WITH NO ADVANCING.
+           DISPLAY I N.
+           STOP RUN.

@@ -1,0 +1,15 @@
+       IDENTIFICATION DIVISION.
+       PROGRAM-ID. ROW.
+       DATA DIVISION.
+       WORKING-STORAGE SECTION.
+       01 G.
+           05 Q PIC XX VALUE "x1".
+           05 I REDEFINES Q PIC 99.
+           88 ONE VALUE 1.
+           88 SOME VALUES 3 THRU 5.
+       77 J PIC S99 VALUE 3.
+       77 X PIC X(6) VALUE "12AB".
+       77 N PIC 9 VALUE 0.
+       PROCEDURE DIVISION.
+           DISPLAY "A".
+           IF X NOT NUMERIC AND SOME DISPLAY "B" ELSE DISPLAY "C".

@@ -1,0 +1,23 @@
+       IDENTIFICATION DIVISION.
+       PROGRAM-ID. ROW.
+       DATA DIVISION.
+       WORKING-STORAGE SECTION.
+       01 A.
+           05 A1 PIC 9(5) COMP.
+       01 B REDEFINES A.
+           05 FILLER PIC XX.
+           05 B1 PIC S9(4) COMP.
+       01 C.
+           05 C1 PIC S9(3) PACKED-DECIMAL.
+       01 D REDEFINES C.
+           05 D1 PIC 9(3) PACKED-DECIMAL.
+       PROCEDURE DIVISION.
+           MOVE 9999 TO A1.
+           IF B1 NUMERIC DISPLAY "T" ELSE DISPLAY "F".
+           MOVE 10000 TO A1.
+           IF B1 NUMERIC DISPLAY "T" ELSE DISPLAY "F".
+           MOVE -12 TO C1.
+           IF C1 NUMERIC DISPLAY "T" ELSE DISPLAY "F".
+           MOVE 12 TO D1.
+           IF C1 NUMERIC DISPLAY "T" ELSE DISPLAY "F".
+           STOP RUN.

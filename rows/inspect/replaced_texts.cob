@@ -1,0 +1,55 @@
+       IDENTIFICATION DIVISION.
+       PROGRAM-ID. ROW.
+       DATA DIVISION.
+       WORKING-STORAGE SECTION.
+       77 T1 PIC X(6) VALUE "000120".
+       77 T2 PIC X(3) VALUE "ABA".
+       77 T3 PIC X(3) VALUE "BAA".
+       77 T4 PIC X(4) VALUE "AB,A".
+       77 T5 PIC X(5) VALUE "AAAAA".
+       77 T6 PIC X(3) VALUE "ABA".
+       77 T7 PIC X(5) VALUE "AABAA".
+       77 T8 PIC X(4) VALUE "ABAB".
+       77 T9 PIC X(6) VALUE "ABCABC".
+       77 T10 PIC X(6) VALUE "ABCABC".
+       77 T11 PIC X(6) VALUE "ABCABC".
+       77 T12 PIC X(3) VALUE "ABC".
+       77 T13 PIC X(4) VALUE "BBAB".
+       77 T14 PIC X(4) VALUE "AABB".
+       77 T15 PIC X(5) VALUE "AXAXA".
+       77 T16 PIC X(4) VALUE "AAAA".
+       PROCEDURE DIVISION.
+           INSPECT T1 REPLACING LEADING "0" BY " ".
+           DISPLAY T1.
+           INSPECT T2 REPLACING ALL "A" BY "B" ALL "B" BY "X".
+           DISPLAY T2.
+           INSPECT T3 REPLACING FIRST "A" BY "X".
+           DISPLAY T3.
+           INSPECT T4 REPLACING CHARACTERS BY "X" BEFORE ",".
+           DISPLAY T4.
+           INSPECT T5 REPLACING ALL "AA" BY "XY".
+           DISPLAY T5.
+           INSPECT T6 REPLACING ALL "B" BY "X" CHARACTERS BY "Z".
+           DISPLAY T6.
+           INSPECT T7 REPLACING LEADING "A" BY "X" ALL "A" BY "Y".
+           DISPLAY T7.
+           INSPECT T8 REPLACING FIRST "AB" BY "BA" FIRST "AB" BY "XY".
+           DISPLAY T8.
+           INSPECT T9 REPLACING ALL "A" BY "X" AFTER "B".
+           DISPLAY T9.
+           INSPECT T10 REPLACING FIRST "C" BY "-".
+           DISPLAY T10.
+           INSPECT T11 REPLACING CHARACTERS BY "*" BEFORE "C".
+           DISPLAY T11.
+           INSPECT T12 REPLACING ALL "Z" BY "Y" AFTER "Q".
+           DISPLAY T12.
+           INSPECT T13 REPLACING ALL "B" BY "C" BEFORE "A".
+           DISPLAY T13.
+           INSPECT T14 REPLACING ALL "AB" BY "XY" LEADING "A" BY "Z".
+           DISPLAY T14.
+           INSPECT T15 REPLACING FIRST "A" BY "Z" LEADING "X" BY "Y"
+               AFTER "A".
+           DISPLAY T15.
+           INSPECT T16 REPLACING ALL "A" BY "B" ALL "BB" BY "CC".
+           DISPLAY T16.
+           STOP RUN.

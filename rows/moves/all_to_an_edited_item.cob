@@ -1,0 +1,9 @@
+       IDENTIFICATION DIVISION.
+       PROGRAM-ID. ROW.
+       DATA DIVISION.
+       WORKING-STORAGE SECTION.
+       77 R1 PIC XXBX/X.
+       PROCEDURE DIVISION.
+           MOVE ALL "AB" TO R1.
+           DISPLAY "[" R1 "]".
+           STOP RUN.

@@ -1,0 +1,14 @@
+       IDENTIFICATION DIVISION.
+       PROGRAM-ID. ROW.
+       DATA DIVISION.
+       WORKING-STORAGE SECTION.
+       77 S PIC X(18) VALUE "123456789012345678".
+       77 T PIC X(19) VALUE "1234567890123456789".
+       77 U PIC X(19).
+       77 N PIC 9(5).
+       PROCEDURE DIVISION.
+           MOVE S TO N.
+           DISPLAY N.
+           MOVE T TO U.
+           DISPLAY U.
+           STOP RUN.

@@ -1,0 +1,9 @@
+       IDENTIFICATION DIVISION.
+       PROGRAM-ID. ROW.
+       DATA DIVISION.
+       WORKING-STORAGE SECTION.
+       77 S PIC XX VALUE "  ".
+       77 R PIC 9(3).
+       PROCEDURE DIVISION.
+           DISPLAY "A".
+           MOVE S TO R.

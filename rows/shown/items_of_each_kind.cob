@@ -1,0 +1,38 @@
+       IDENTIFICATION DIVISION.
+       PROGRAM-ID. ROW.
+       DATA DIVISION.
+       WORKING-STORAGE SECTION.
+       77 N1 PIC S9(3)V99 VALUE -1.50.
+       77 N2 PIC V99 VALUE .50.
+       77 N3 PIC 9(4) COMP VALUE 7.
+       77 N4 PIC S9(4) COMP VALUE 7.
+       77 N5 PIC S9 VALUE -3.
+       77 N6 PIC SV999 PACKED-DECIMAL VALUE -.012.
+       77 N7 PIC 9(18) VALUE 123456789012345678.
+       77 N8 PIC S9V9(17) VALUE -.00000000000000003.
+       77 N9 PIC V9(6) VALUE 0.
+       77 N10 PIC X(3) VALUE "a b".
+       77 N11 PIC XX VALUE "xy".
+       77 N12 PIC $Z9.99 VALUE "$ 1.50".
+       01 G.
+           05 T PIC X(3) VALUE "-00".
+           05 N REDEFINES T PIC S99 SIGN LEADING SEPARATE.
+       01 H.
+           05 FILLER PIC X VALUE LOW-VALUE.
+           05 FILLER PIC XX VALUE " 1".
+       PROCEDURE DIVISION.
+           DISPLAY N1.
+           DISPLAY N2.
+           DISPLAY N3.
+           DISPLAY N4.
+           DISPLAY N5.
+           DISPLAY N6.
+           DISPLAY N7.
+           DISPLAY N8.
+           DISPLAY N9.
+           DISPLAY N10.
+           DISPLAY N11.
+           DISPLAY N12.
+           DISPLAY N.
+           DISPLAY H.
+           STOP RUN.

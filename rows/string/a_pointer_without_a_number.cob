@@ -1,0 +1,11 @@
+       IDENTIFICATION DIVISION.
+       PROGRAM-ID. ROW.
+       DATA DIVISION.
+       WORKING-STORAGE SECTION.
+       77 N PIC X(4).
+       01 G.
+           05 Q PIC XX VALUE "x1".
+           05 I REDEFINES Q PIC 99.
+       PROCEDURE DIVISION.
+           DISPLAY "A".
+           STRING "|" DELIMITED BY SIZE INTO N WITH POINTER I.
