@@ -2,7 +2,8 @@
 
 `trace_run` runs a command and returns a list of events, in their order:
 
-    Write(sector, text, is_done)   a sector was written, or the call failed
+    Write(sector, text, is_done)   a sector was written, or the call failed; a call that writes several adjacent sectors is one event for
+                                   each of them, because a power cut may come between them
     Sync(is_done)                  the volume was synced, or that failed
     Show(count)                    so many bytes were written to standard output"""
 import re
@@ -21,6 +22,7 @@ CALL = re.compile(r"(?:\d+ +)?(\w+)\((.*)\) += (-?\d+)(?: .*)?$")
 OPENED = re.compile(r'AT_FDCWD, "((?:\\x[0-9a-f]{2})*)"')
 WRITTEN = re.compile(r'(\d+), "((?:\\x[0-9a-f]{2})*)", (\d+), (\d+)$')
 MOST_SECONDS = 120
+MOST_BYTES = 1 << 20
 
 
 class UnknownCall(Failure):
@@ -30,7 +32,7 @@ class UnknownCall(Failure):
 def trace_run(words, volume, folder, fault=None):
     """Runs a command that opens the volume. `fault` is (call, n): the n-th call of this kind fails with an I/O error."""
     calls = f"{folder}/calls"
-    strace = ["strace", "-f", "-qq", "--seccomp-bpf", "-xx", "-s", "8192", "-e", f"trace={CALLS}", "-o", calls]
+    strace = ["strace", "-f", "-qq", "--seccomp-bpf", "-xx", "-s", str(MOST_BYTES), "-e", f"trace={CALLS}", "-o", calls]
     if fault:
         strace += ["-e", f"inject={fault[0]}:error=EIO:when={fault[1]}"]
     with open(f"{folder}/out", "wb") as out, open(f"{folder}/err", "wb") as err:
@@ -50,8 +52,7 @@ def events_of(lines, volume):
         if found:
             name, words, result = found[1], found[2], int(found[3])
             note_descriptor(volumes, name, words, result, volume)
-            event = event_of(volumes, name, words, result)
-            events += [event] if event else []
+            events += events_of_call(volumes, name, words, result)
         elif "+++" not in line and "---" not in line:
             raise UnknownCall(line[:200])
     return events
@@ -81,20 +82,29 @@ def note_descriptor(volumes, name, words, result, volume):
         volumes.discard(int(words))
 
 
-def event_of(volumes, name, words, result):
+def events_of_call(volumes, name, words, result):
     if name in ("openat", "open", "close"):
-        return None
+        return []
     descriptor = int(words.split(",")[0])
     if descriptor == 1 and name in ("write", "writev"):
-        return Show(max(result, 0))
+        return [Show(max(result, 0))]
     if descriptor not in volumes:
-        return None
+        return []
     if name in ("fdatasync", "fsync"):
-        return Sync(result == 0)
+        return [Sync(result == 0)]
+    return writes_of(name, words, result)
+
+
+def writes_of(name, words, result):
+    """The sectors that a call wrote, or didn't write if it failed. A call that wrote some of them alone isn't known."""
     written = WRITTEN.match(words) if name == "pwrite64" else None
-    if not written or int(written[3]) != SECTOR or int(written[4]) % SECTOR or result not in (SECTOR, -1):
+    size, place = (int(written[3]), int(written[4])) if written else (0, 0)
+    if not size or size % SECTOR or place % SECTOR or result not in (size, -1):
         raise UnknownCall(f"{name}({words[:60]} ..) = {result}")
-    return Write(int(written[4]) // SECTOR, text_of(written[2]), result == SECTOR)
+    text = text_of(written[2])
+    if len(text) != size:
+        raise UnknownCall(f"{name} of {size} bytes, of which the trace has {len(text)}")
+    return [Write((place + at) // SECTOR, text[at:at + SECTOR], result == size) for at in range(0, size, SECTOR)]
 
 
 def text_of(escaped):

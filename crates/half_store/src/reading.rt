@@ -30,11 +30,7 @@ fn number_at(bytes: &[u8], at: usize) -> u64
 }
 
 /// So many numbers of eight bytes.
-fn read_numbers(
-    alloc: Global,
-    bytes: &[u8],
-    count: usize,
-) -> Result<SmallVec<u64, 2>, StoreFault>
+fn read_numbers(alloc: Global, bytes: &[u8], count: usize) -> Result<SmallVec<u64, 2>, StoreFault>
     requires { 8 * count ≤ length bytes.now }
     ensures numbers { IfOk result (λ numbers. numbers.items ≡ numbers_in count bytes.now) }
     ensures memory { IsOkUnless result StoreFault.Memory }

@@ -39,7 +39,7 @@ impl HostDevice {
     pub fn into_volume(mut self) -> Result<HostVolume, DeviceError>
         ensures { IfOk result (λ volume. volume ≡ volume_of self) }
     {
-        self.write_gathered()?;
+        self.write_gathered()?; // The device is all that has it.
         Ok(self.volume)
     }
 
@@ -117,7 +117,7 @@ impl Device for HostDevice {
     }
 
     fn read(&mut self, sector: u32, bytes: &mut [u8; 4096]) -> Result<(), DeviceError> {
-        self.write_gathered()?;
+        self.write_gathered()?; // It may have the newest bytes of this sector.
         let done = self.volume.read(sector, bytes);
         self.count_failure(done)
     }
@@ -134,7 +134,7 @@ impl Device for HostDevice {
     }
 
     fn sync(&mut self) -> Result<(), DeviceError> {
-        self.write_gathered()?;
+        self.write_gathered()?; // The host syncs what it was given.
         let done = self.volume.sync();
         self.count_failure(done)
     }

@@ -271,7 +271,10 @@ fn volume_of_a_device_that_wrote(rt: HostRuntime) -> Result<(), Fail> {
     let mut device = new_device(&rt, "given.V", 4)?;
     assert!(rt; write_all(&mut device, &[(2, 1), (3, 2)]));
     let _volume = device.into_volume()?;
-    assert_eq!(rt; first_bytes(&rt, "given.V")?.as_slice(), [0, 0, 1, 2].as_slice());
+    assert_eq!(rt;
+        first_bytes(&rt, "given.V")?.as_slice(),
+        [0, 0, 1, 2].as_slice()
+    );
     fs::remove_file(&rt, "given.V")?;
     Ok(())
 }

@@ -10,7 +10,7 @@ use Rattle.station.specs.declared.blocks.Block.{Block}
 use Rattle.std.proofs.lemmas.List.Sums.{count_by_more_yes, count_by_more_no, sum_by-append, sum_by-set, count_by-le-length}
 use Rattle.pages.specs.Use.{IsUse}
 use Rattle.pages.specs.declared.draft.Draft.{Draft}
-use Rattle.pages.specs.Volumes.{unused_count, AreAscending, IsTaken, PlacesBlock}
+use Rattle.pages.specs.Volumes.{unused_count, unused_below, AreAscending, IsTaken, PlacesBlock}
 
 -- a sector that is marked is there
 marked_low : (used : List Bool) (s : ℕ) → get_or used s false ≡ true → s < length used
@@ -77,24 +77,25 @@ ascending_push blocks b next ascending low later i j d e before lt = ⊎_elim
     (cases_lt j (length blocks))
 
 -- one more block
-pub taken_next : (used : List Bool) (old new : Draft) (s : ℕ) (bytes : Sector) → IsTaken used old.next old.blocks.items → PlacesBlock used old new s bytes → IsTaken used new.next new.blocks.items
+pub taken_next : (used : List Bool) (old new : Draft) (s : ℕ) (bytes : Sector) → IsTaken used old.start old.next old.blocks.items → PlacesBlock used old new s bytes → IsTaken used new.start new.next new.blocks.items
 taken_next used old new s bytes taken placed =
     let b : Block = record { sector = s; bytes = bytes } in
-    subst (λ (n : ℕ). IsTaken used n new.blocks.items) (sym placed.next) (subst (λ (l : List Block). IsTaken used (s + 1) l) (sym placed.blocks) (record {
+    subst (λ (n : ℕ). IsTaken used n new.next new.blocks.items) (sym placed.start) (subst (λ (n : ℕ). IsTaken used old.start n new.blocks.items) (sym placed.next) (subst (λ (l : List Block). IsTaken used old.start (s + 1) l) (sym placed.blocks) (record {
       start = omega arith;
       count = omega (arith, count_next used old.next s placed.later placed.low placed.first placed.free, taken.count, length-append old.blocks.items (b ∷ []));
       low = All-push (λ (x : Block). x.sector < s + 1) old.blocks.items b (λ k d lt. omega (arith, taken.low k d lt, placed.later)) (omega arith);
       ascending = ascending_push old.blocks.items b old.next taken.ascending taken.low placed.later;
-    }))
+    })))
 
-pub taken_as : (used used' : List Bool) (next next' : ℕ) (blocks blocks' : List Block) → used' ≡ used → next' ≡ next → blocks' ≡ blocks → IsTaken used next blocks → IsTaken used' next' blocks'
-taken_as used used' next next' blocks blocks' u n b is = subst (λ (x : List Bool). IsTaken x next' blocks') (sym u) (subst (λ (x : ℕ). IsTaken used x blocks') (sym n) (subst (λ (x : List Block). IsTaken used next x) (sym b) is))
+pub taken_as : (used used' : List Bool) (from from' next next' : ℕ) (blocks blocks' : List Block) → used' ≡ used → from' ≡ from → next' ≡ next → blocks' ≡ blocks → IsTaken used from next blocks → IsTaken used' from' next' blocks'
+taken_as used used' from from' next next' blocks blocks' u f n b is = subst (λ (x : List Bool). IsTaken x from' next' blocks') (sym u) (subst (λ (x : ℕ). IsTaken used x next' blocks') (sym f)
+    (subst (λ (x : ℕ). IsTaken used from x blocks') (sym n) (subst (λ (x : List Block). IsTaken used from next x) (sym b) is)))
 
 -- no block yet
-pub taken_start : (n : ℕ) (named : List ℕ) (used : List Bool) (next : ℕ) (blocks : List Block) → 2 ≤ n → IsUse n named used → next ≡ 2 → blocks ≡ [] → IsTaken used next blocks
-taken_start n named used next blocks some right at none = taken_as used used 2 next [] blocks refl at none (record {
-  start = omega arith;
-  count = roots_marked n named used some right;
-  low = All-nil (λ (x : Block). x.sector < 2);
+pub taken_start : (used : List Bool) (from next : ℕ) (blocks : List Block) → 0 < from → next ≡ from → blocks ≡ [] → IsTaken used from next blocks
+taken_start used from next blocks some at none = taken_as used used from from from next [] blocks refl refl at none (record {
+  start = some;
+  count = sym (add-zero (unused_below used from));
+  low = All-nil (λ (x : Block). x.sector < from);
   ascending = λ i j d e before lt. absurd (omega (arith, lt));
 })

@@ -18,8 +18,8 @@ use Rattle.pages.specs.Plan.{IsPlan}
 use Rattle.pages.specs.Volumes.{volume_of, IsSound, IsSoundAfter, IsDraft, IsMappedDraft, IsFresh, IsNext, SameSize, unused_count}
 
 -- nothing is staged yet
-pub started : (m : VolumeMap) (d : Draft) → IsSound m → IsFresh (length m.maps.items) d → IsDraft (volume_of m) m d []
-started m d sound fresh = record {
+pub started : (m : VolumeMap) (d : Draft) (start : ℕ) → IsSound m → 0 < start → IsFresh (length m.maps.items) start d → IsDraft (volume_of m) m d []
+started m d start sound some fresh = record {
   in_use = sound.in_use;
   some = omega (arith, sound.least);
   staged = record {
@@ -32,7 +32,7 @@ started m d sound fresh = record {
     pages = λ base all reads. ap (λ (l : List Block). pages_in (with_all base l) m.table) fresh.blocks;
   };
   naming = record {
-    start = omega (arith, fresh.next);
+    start = omega (arith, fresh.next, some);
     places = sound.places;
     once = sound.once;
     fresh = λ s has. inl has;

@@ -1,12 +1,13 @@
 -- Runs of sectors, how many of each aren't marked, and the bytes that mark them.
 use Rattle.std.proofs.Common.{◌≡◌, ⊎_elim, ◌<◌, ◌≤◌, ◌+◌, ◌-◌, ◌*◌, ◌/◌, ◌==◌, min, cond, Bool, true, false, not, ℕ, List, [], ◌∷◌, map, length, take, take_all, drop, set, get_or, refl, sym, ◌∙◌, ap, subst, arith, length-set, get_or-set_other, get_or-set_same}
 use Rattle.std.proofs.lemmas.Bool.{cases_lt, cases_eq, cases_Bool}
-use Rattle.std.proofs.lemmas.List.{take-take, take-set-le, get_or-take, get_or-drop, get_or_read, length-map, length-take-le, drop-take, map-set}
+use Rattle.std.proofs.lemmas.List.{take-take, take-set-le, get_or-take, get_or-drop, get_or_read, length-map, length-take-le, drop-take, map-set, take-map, drop-map}
 use Rattle.std.proofs.Math.ListN.{get_or-map}
+use Rattle.std.specs.Prelude.{count_by}
 use Rattle.std.specs.Int.{from_bool}
 use Rattle.memchr.specs.Find.{Nowhere, Passes, is_byte}
 use Rattle.std.proofs.Math.Seq.{take-set-lt}
-use Rattle.std.proofs.lemmas.List.Sums.{count_by_more_yes, count_by-le-length, sum_by-set, sum_by-take-drop}
+use Rattle.std.proofs.lemmas.List.Sums.{count_by_more_yes, count_by-le-length, sum_by-cons, sum_by-set, sum_by-take-drop}
 use Rattle.pages.specs.Runs.{marked, unused_count, unused_below, AreRuns}
 
 -- as many sectors as bytes
@@ -187,3 +188,25 @@ module _ (bytes counts : List ℕ) (are : AreRuns (marked bytes) counts) (s coun
       let was = ap {B = ℕ} (λ u. cond u 0 1) mark_read in
       subst (λ (used : List Bool). AreRuns used (set counts (s / 1024) c)) (sym (marked_set bytes s mark b is))
       (runs_set (marked bytes) counts are s c b low (omega (arith, turned, count_read, was)))
+
+-- how many aren't marked, by the bytes
+one_marked : (b : Bool) → bit (not b) ≡ cond b 1 0
+one_marked true = refl
+one_marked false = refl
+
+count_marked : (bytes : List ℕ) → unused_count (marked bytes) ≡ count_by (λ byte. byte == 0) bytes
+count_marked [] = refl
+count_marked (byte ∷ more) = omega (arith, sum_by-cons bit (not (byte == 0)) (marked more), sum_by-cons (λ (b : ℕ). cond (b == 0) 1 0) byte more, one_marked (byte == 0), count_marked more)
+
+-- a front has no more than the whole
+pub below_all : (used : List Bool) (n : ℕ) → unused_below used n ≤ unused_count used
+below_all used n = omega (arith, sum_by-take-drop bit used n)
+
+-- part of the bytes has no more that aren't marked than the whole has behind its start
+pub room_counted : (bytes part : List ℕ) (start end : ℕ) → part ≡ take (end - start) (drop start bytes) → unused_below (marked bytes) start + count_by (λ byte. byte == 0) part ≤ unused_count (marked bytes)
+room_counted bytes part start end is =
+    let parts = part_counted (marked bytes) start (end - start) in
+    let same : marked part ≡ take (end - start) (drop start (marked bytes)) =
+        ap marked is ∙ sym (take-map (λ byte. not (byte == 0)) (end - start) (drop start bytes)) ∙ ap (take (end - start)) (sym (drop-map (λ byte. not (byte == 0)) start bytes)) in
+    let counted : unused_count (marked part) ≡ unused_count (take (end - start) (drop start (marked bytes))) = ap unused_count same in
+    omega (arith, parts, counted, count_marked part, below_all (marked bytes) (start + (end - start)))

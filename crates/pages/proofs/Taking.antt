@@ -15,8 +15,8 @@ use Rattle.pages.specs.Image.{Volume, NamesOnce, names, map_part}
 use Rattle.pages.specs.Use.{free_count}
 use Rattle.pages.specs.Changes.{changed_pages, kept}
 use Rattle.pages.specs.Needed.{filled, alters, has_pages, is_written, written_below, needed}
-use Rattle.pages.specs.Volumes.{volume_of, IsSound, IsFresh, IsCounted, PlacesBlock, SetsPage, SetsMap, ReleasesPage, HadNone, HadOne, unused_count}
-use Rattle.pages.proofs.Counting.{count_rest, front_le, count_push, taken_next, taken_as, taken_start}
+use Rattle.pages.specs.Volumes.{volume_of, IsSound, IsFresh, IsCounted, PlacesBlock, SetsPage, SetsMap, ReleasesPage, HadNone, HadOne, unused_count, unused_below, MayStart}
+use Rattle.pages.proofs.Counting.{count_rest, front_le, count_push, roots_marked, taken_next, taken_as, taken_start}
 use Rattle.pages.proofs.Counted.{counted}
 use Rattle.pages.proofs.Edits.{Away, away_same}
 use Rattle.pages.proofs.Staging.{applied_more}
@@ -104,7 +104,7 @@ module _ (v : Volume) (m : VolumeMap) (d : Draft) (changes : List Change) (maps 
         let sector : s ≢ 0 = λ e. omega (arith, e, placed.later, counted.taken.start) in
         record {
           free = ap unused_count sets.size.used ∙ counted.free;
-          taken = taken_as m.used after.used mid.next last.next mid.blocks.items last.blocks.items sets.size.used sets.next (ap (λ (b : Vec Block Global). b.items) sets.blocks)
+          taken = taken_as m.used after.used mid.start last.start mid.next last.next mid.blocks.items last.blocks.items sets.size.used sets.start sets.next (ap (λ (b : Vec Block Global). b.items) sets.blocks)
               (taken_next m.used d mid s bytes counted.taken placed);
           blocks = omega (arith, ap (λ (b : Vec Block Global). length b.items) sets.blocks, more_blocks mid s bytes placed, counted.blocks, filled_yes changes c some);
           pages = ap (map names_sector) sets.table ∙ kept_set v m.table changes c s counted.pages (ap not (ne_eqb s 0 sector) ∙ sym some);
@@ -129,15 +129,15 @@ module _ (v : Volume) (m : VolumeMap) (d : Draft) (changes : List Change) (maps 
         let entry : changes_entry v c ≡ true = or_right (is_some c.bytes) (names_sector (get_or v.table c.page 0)) (sym (entry_same c.page away) ∙ ap not (ne_eqb (get_or m.table c.page 0) 0 some)) in
         record {
           free = ap unused_count sets.size.used ∙ counted.free;
-          taken = taken_as m.used after.used d.next last.next d.blocks.items last.blocks.items sets.size.used sets.next (ap (λ (b : Vec Block Global). b.items) sets.blocks) counted.taken;
+          taken = taken_as m.used after.used d.start last.start d.next last.next d.blocks.items last.blocks.items sets.size.used sets.start sets.next (ap (λ (b : Vec Block Global). b.items) sets.blocks) counted.taken;
           blocks = ap (λ (b : Vec Block Global). length b.items) sets.blocks ∙ counted.blocks ∙ ap (λ (n : ℕ). n + maps) (sym (filled_no changes c absent));
           pages = ap (map names_sector) sets.table ∙ kept_set v m.table changes c 0 counted.pages (sym absent);
           changed_maps = subst (AreChanged v (changes ++ c ∷ [])) (sym sets.changed_maps) (changed_set v changes c d.changed_maps.items counted.changed_maps low entry);
         }
 
   -- no sector is left
-  pub full_count : ((s : ℕ) → d.next ≤ s → s < length m.used → get_or m.used s false ≡ true) → free_count v ≡ filled changes + maps
-  full_count all = sym counted.free ∙ count_rest m.used d.next all ∙ counted.taken.count ∙ counted.blocks
+  pub full_count : ((s : ℕ) → d.next ≤ s → s < length m.used → get_or m.used s false ≡ true) → free_count v ≡ unused_below m.used d.start + (filled changes + maps)
+  full_count all = omega (arith, counted.free, count_rest m.used d.next all, counted.taken.count, counted.blocks)
 
   -- what was taken was free
   pub enough_free : filled changes + maps ≤ free_count v
@@ -184,7 +184,7 @@ module _ (v : Volume) (m : VolumeMap) (d : Draft) (changes : List Change) (j : �
   pub blank_counted : (last : Draft) (after : VolumeMap) → list_all (λ entry. entry == 0) (map_part m.table j) ≡ true → SetsMap m after d last j 0 → IsCounted v after last changes (written_below v changes (j + 1))
   blank_counted last after is sets = record {
     free = ap unused_count sets.size.used ∙ counted.free;
-    taken = taken_as m.used after.used d.next last.next d.blocks.items last.blocks.items sets.size.used sets.next (ap (λ (b : Vec Block Global). b.items) sets.blocks) counted.taken;
+    taken = taken_as m.used after.used d.start last.start d.next last.next d.blocks.items last.blocks.items sets.size.used sets.start sets.next (ap (λ (b : Vec Block Global). b.items) sets.blocks) counted.taken;
     blocks = ap (λ (b : Vec Block Global). length b.items) sets.blocks ∙ counted.blocks ∙ ap (λ (n : ℕ). filled changes + n) (sym (step_no v changes j (blank_unwritten is)));
     pages = ap (λ (t : List ℕ). map names_sector t) sets.table ∙ counted.pages;
     changed_maps = subst (λ (x : Vec Bool Global). AreChanged v changes x.items) (sym sets.changed_maps) counted.changed_maps;
@@ -194,14 +194,14 @@ module _ (v : Volume) (m : VolumeMap) (d : Draft) (changes : List Change) (j : �
   pub written_counted : (bytes : Sector) (mid last : Draft) (after : VolumeMap) (s : ℕ) → is_written v changes j ≡ true → PlacesBlock m.used d mid s bytes → SetsMap m after mid last j s → IsCounted v after last changes (written_below v changes (j + 1))
   written_counted bytes mid last after s is placed sets = record {
     free = ap unused_count sets.size.used ∙ counted.free;
-    taken = taken_as m.used after.used mid.next last.next mid.blocks.items last.blocks.items sets.size.used sets.next (ap (λ (b : Vec Block Global). b.items) sets.blocks)
+    taken = taken_as m.used after.used mid.start last.start mid.next last.next mid.blocks.items last.blocks.items sets.size.used sets.start sets.next (ap (λ (b : Vec Block Global). b.items) sets.blocks)
         (taken_next m.used d mid s bytes counted.taken placed);
     blocks = omega (arith, ap (λ (b : Vec Block Global). length b.items) sets.blocks, more_blocks v m d changes (written_below v changes j) counted mid s bytes placed, counted.blocks, step_yes v changes j is);
     pages = ap (λ (t : List ℕ). map names_sector t) sets.table ∙ counted.pages;
     changed_maps = subst (λ (x : Vec Bool Global). AreChanged v changes x.items) (sym (sets.changed_maps ∙ placed.changed_maps)) counted.changed_maps;
   }
 
-  pub full_map : is_written v changes j ≡ true → ((s : ℕ) → d.next ≤ s → s < length m.used → get_or m.used s false ≡ true) → free_count v < filled changes + written_below v changes (j + 1)
+  pub full_map : is_written v changes j ≡ true → ((s : ℕ) → d.next ≤ s → s < length m.used → get_or m.used s false ≡ true) → free_count v < unused_below m.used d.start + (filled changes + written_below v changes (j + 1))
   full_map is all = omega (arith, full_count v m d changes (written_below v changes j) counted all, step_yes v changes j is)
 
 pub written_mono : (v : Volume) (changes : List Change) (i j : ℕ) → i ≤ j → written_below v changes i ≤ written_below v changes j
@@ -221,10 +221,10 @@ front_away changes i d once some low k e lt is =
     omega (arith, same, below)
 
 -- nothing is staged yet
-pub counted_start : (m : VolumeMap) (d : Draft) → IsSound m → IsFresh (length m.maps.items) d → IsCounted (volume_of m) m d [] 0
-counted_start m d sound fresh = record {
+pub counted_start : (m : VolumeMap) (d : Draft) (start : ℕ) → IsSound m → 0 < start → IsFresh (length m.maps.items) start d → IsCounted (volume_of m) m d [] 0
+counted_start m d start sound some fresh = record {
   free = counted m.sectors (names (volume_of m)) m.used sound.in_use;
-  taken = taken_start m.sectors (names (volume_of m)) m.used d.next d.blocks.items (omega (arith, sound.least)) sound.in_use fresh.next fresh.blocks;
+  taken = taken_start m.used d.start d.next d.blocks.items (omega (arith, fresh.start, some)) (fresh.next ∙ sym fresh.start) fresh.blocks;
   blocks = ap length fresh.blocks;
   pages = refl;
   changed_maps = λ i lt. ap (λ (l : List Bool). get_or l i false) fresh.changed_maps ∙ get_or-replicate (length m.maps.items) i false false (omega (arith, lt, ap length fresh.changed_maps, length-replicate (length m.maps.items) false));
@@ -273,3 +273,11 @@ written_changed v changes (suc i) = omega (arith, written_changed v changes i, a
 -- at most two sectors for each change
 pub few_needed_lem : (v : Volume) (changes : List Change) → needed v changes ≤ 2 * length changes
 few_needed_lem v changes = omega (arith, count_by-le-length (λ (c : Change). is_some c.bytes) changes, written_changed v changes (length v.root.maps), changed_le v changes (length v.root.maps))
+
+-- where a commit may start and finds too few sectors, too few are free
+pub short_start : (m : VolumeMap) (changes : List Change) (start passed : ℕ) → IsSound m → MayStart m.used (length changes) start → passed ≡ unused_below m.used start
+    → free_count (volume_of m) < passed + needed (volume_of m) changes → free_count (volume_of m) < needed (volume_of m) changes
+short_start m changes start passed sound may is few = ⊎_elim
+    (λ front. let none : unused_below m.used start ≡ 0 = ap (unused_below m.used) front ∙ roots_marked m.sectors (names (volume_of m)) m.used (omega (arith, sound.least)) sound.in_use in omega (arith, none, is, few))
+    (λ room. absurd (omega (arith, room, is, few, counted m.sectors (names (volume_of m)) m.used sound.in_use, few_needed_lem (volume_of m) changes)))
+    may.room

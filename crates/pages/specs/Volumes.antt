@@ -1,6 +1,6 @@
 -- A volume in memory.
 use Rattle.std.specs.List.{All, list_any}
-use Rattle.std.specs.Prelude.{◌≡◌, ◌≢◌, ◌<◌, ◌≤◌, ◌+◌, ◌*◌, ◌^◌, ◌/◌, ◌==◌, not, map, take, replicate, Bool, true, false, ℕ, List, [], ◌∷◌, ◌++◌, length, slice_index, slice_index_or, slice_set, Contains}
+use Rattle.std.specs.Prelude.{◌≡◌, ◌≢◌, ◌⊎◌, ◌<◌, ◌≤◌, ◌+◌, ◌*◌, ◌^◌, ◌/◌, ◌==◌, not, map, take, replicate, Bool, true, false, ℕ, List, [], ◌∷◌, ◌++◌, length, slice_index, slice_index_or, slice_set, Contains}
 use Rattle.station.specs.Disk.{Sector}
 use Rattle.station.specs.declared.blocks.Block.{Block}
 use Rattle.pages.specs.Layout.{map_count}
@@ -9,7 +9,7 @@ use Rattle.pages.specs.Use.{IsUse, turned, turns_of, free_count}
 use Rattle.pages.specs.Changes.{kept}
 use Rattle.pages.specs.Needed.{filled, alters}
 use Rattle.pages.specs.Draft.{Naming, IsStaged, IsMapped}
-pub use Rattle.pages.specs.Runs.{unused_count}
+pub use Rattle.pages.specs.Runs.{unused_count, unused_below}
 use Rattle.pages.specs.declared.volume.VolumeMap.{VolumeMap}
 use Rattle.pages.specs.declared.draft.Draft.{Draft}
 use Rattle.pages.specs.declared.draft.Turn.{Turn}
@@ -47,17 +47,23 @@ pub record IsMappedDraft (v : Volume) (m : VolumeMap) (d : Draft) (changes : Lis
 abbrev pub AreAscending : List Block → Type 0
 AreAscending blocks = (i j : ℕ) (d e : Block) → i < j → j < length blocks → (slice_index_or blocks i d).sector < (slice_index_or blocks j e).sector
 
--- blocks were placed in ascending sectors, one in each sector below `next` that isn't marked as used
-pub record IsTaken (used : List Bool) (next : ℕ) (blocks : List Block) : Type 0 where
+-- The blocks of a commit of so many changes may begin there: at the first sector behind the roots, or where from there on at least two
+-- sectors for each change aren't marked as used.
+pub record MayStart (used : List Bool) (changes start : ℕ) : Type 0 where
+  pub some : 0 < start
+  pub room : (start ≡ 2) ⊎ (unused_below used start + 2 * changes ≤ unused_count used)
+
+-- blocks were placed in ascending sectors, one in each sector from `from` on and below `next` that isn't marked as used
+pub record IsTaken (used : List Bool) (from next : ℕ) (blocks : List Block) : Type 0 where
   pub start : 0 < next
-  pub count : unused_count (take next used) ≡ length blocks
+  pub count : unused_below used next ≡ unused_below used from + length blocks
   pub low : All (λ (b : Block). b.sector < next) blocks
   pub ascending : AreAscending blocks
 
 -- There are as many blocks as these changes with bytes, and so many maps. The table has the pages after the changes.
 pub record IsCounted (v : Volume) (m : VolumeMap) (d : Draft) (changes : List Change) (maps : ℕ) : Type 0 where
   pub free : unused_count m.used ≡ free_count v
-  pub taken : IsTaken m.used d.next d.blocks.items
+  pub taken : IsTaken m.used d.start d.next d.blocks.items
   pub blocks : length d.blocks.items ≡ filled changes + maps
   pub pages : map (λ s. not (s == 0)) m.table ≡ kept v.table changes
   pub changed_maps : (i : ℕ) → i < length d.changed_maps.items → slice_index_or d.changed_maps.items i false ≡ list_any (alters v i) changes
@@ -81,6 +87,7 @@ pub record PlacesBlock (used : List Bool) (old new : Draft) (sector : ℕ) (byte
   pub blocks : new.blocks.items ≡ old.blocks.items ++ record { sector = sector; bytes = bytes } ∷ []
   pub changed_maps : new.changed_maps ≡ old.changed_maps
   pub turns : new.turns ≡ old.turns
+  pub start : new.start ≡ old.start
   pub next : new.next ≡ sector + 1
 
 -- a page has another sector, or none
@@ -91,6 +98,7 @@ pub record SetsPage (m after : VolumeMap) (old new : Draft) (page sector : ℕ) 
   pub blocks : new.blocks ≡ old.blocks
   pub changed_maps : new.changed_maps.items ≡ slice_set old.changed_maps.items (page / 1024) true
   pub turns : new.turns.items ≡ old.turns.items ++ turns_of (slice_index m.table page) sector
+  pub start : new.start ≡ old.start
   pub next : new.next ≡ old.next
 
 -- a map has another sector, or none
@@ -101,6 +109,7 @@ pub record SetsMap (m after : VolumeMap) (old new : Draft) (map sector : ℕ) : 
   pub blocks : new.blocks ≡ old.blocks
   pub changed_maps : new.changed_maps ≡ old.changed_maps
   pub turns : new.turns.items ≡ old.turns.items ++ turns_of (slice_index m.maps.items map) sector
+  pub start : new.start ≡ old.start
   pub next : new.next ≡ old.next
 
 -- a page has no sector
@@ -108,12 +117,13 @@ pub data ReleasesPage (m after : VolumeMap) (old new : Draft) (page : ℕ) : Typ
   HadNone : slice_index m.table page ≡ 0 → after ≡ m → new ≡ old → ReleasesPage m after old new page
   HadOne : slice_index m.table page ≢ 0 → SetsPage m after old new page 0 → ReleasesPage m after old new page
 
--- a draft of a volume with so many maps, with nothing in it
-pub record IsFresh (maps : ℕ) (d : Draft) : Type 0 where
+-- a draft of a volume with so many maps, with nothing in it, whose blocks begin there
+pub record IsFresh (maps start : ℕ) (d : Draft) : Type 0 where
   pub blocks : d.blocks.items ≡ []
   pub changed_maps : d.changed_maps.items ≡ replicate maps false
   pub turns : d.turns.items ≡ []
-  pub next : d.next ≡ 2
+  pub start : d.start ≡ start
+  pub next : d.next ≡ start
 
 -- the next generation, with this page of the catalog's root
 pub record IsNext (old new : VolumeMap) (page : ℕ) : Type 0 where

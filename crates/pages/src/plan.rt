@@ -1,5 +1,5 @@
 //! The plan of a commit: the next volume, its blocks, and the sectors whose use changes.
-ghost use Rattle.std.specs.Prelude.{◌≡◌, ◌<◌, ◌≤◌, ◌+◌, ◌^◌, Err, length, slice_set, IfOk, OnOk};
+ghost use Rattle.std.specs.Prelude.{◌≡◌, ◌<◌, ◌≤◌, ◌+◌, ◌^◌, Err, length, slice_set, IfOk, IfSome, OnOk};
 ghost use Rattle.std.specs.List.{All};
 ghost use Rattle.pages.specs.Errors.{IsPlanError};
 ghost use Rattle.pages.specs.Plan.{IsPlan};
@@ -7,7 +7,7 @@ ghost use Rattle.pages.specs.Image.{NamesOnce};
 ghost use Rattle.pages.specs.Changes.{changed_pages};
 ghost use Rattle.pages.specs.Needed.{IsShort, needed};
 ghost use Rattle.pages.specs.Use.{turned};
-ghost use Rattle.pages.specs.Volumes.{volume_of, IsSound, IsSoundAfter, SameSize, IsNext, IsFresh, AreAscending, unused_count};
+ghost use Rattle.pages.specs.Volumes.{volume_of, IsSound, IsSoundAfter, SameSize, IsNext, IsFresh, MayStart, AreAscending, unused_count};
 
 use crate::change::Change;
 use crate::draft::{Draft, Turn};
@@ -33,11 +33,17 @@ const BEHIND: u32 = 32;
 /// How far the next search is from one that found nothing.
 const STEP: u32 = 1024;
 
+/// Where the blocks of a commit begin, and around which sector the next commit looks.
+#[derive(Clone, Copy)]
+struct Start {
+    sector: u32,
+    near: u32,
+}
+
 /// Where a commit of so many changes finds adjacent sectors, one for each change and one for a map sector. From there on the volume has
 /// all sectors that the commit may need.
 fn adjacent_start(used: &SectorUse, near: u32, changes: usize) -> Option<u32>
-    ensures some { IfSome result (λ s. 0 < s) }
-    ensures room { IfSome result (λ s. unused_below used.now s + 2 * changes ≤ unused_count used.now) }
+    ensures { IfSome result (MayStart used.now changes) }
 {
     if changes > MOST_ADJACENT {
         return None;
@@ -50,12 +56,29 @@ fn adjacent_start(used: &SectorUse, near: u32, changes: usize) -> Option<u32>
     Some(start)
 }
 
-/// Where the next commit looks, after one that began there or found no adjacent sectors. Behind the last sector it begins anew.
-fn near_after(near: u32, sectors: u32, found: Option<u32>) -> u32 {
-    match found {
-        Some(start) => start,
-        None if near.saturating_add(STEP) < sectors => near.saturating_add(STEP),
-        None => FIRST_SECTOR,
+/// Where a search begins, after one around this sector that found nothing. Behind the last sector it begins anew.
+fn near_behind(near: u32, sectors: u32) -> u32 {
+    let behind = near.saturating_add(STEP);
+    if behind < sectors {
+        behind
+    } else {
+        FIRST_SECTOR
+    }
+}
+
+/// Where the blocks of a commit of so many changes begin: where adjacent sectors are, if some are found, and behind the roots else.
+fn start_of(volume: &VolumeMap, changes: usize) -> Start
+    ensures { MayStart volume.now.used changes result.sector }
+{
+    match adjacent_start(&volume.used, volume.near, changes) {
+        Some(sector) => Start {
+            sector,
+            near: sector,
+        },
+        None => Start {
+            sector: FIRST_SECTOR,
+            near: near_behind(volume.near, volume.sectors),
+        },
     }
 }
 
@@ -96,14 +119,13 @@ pub(crate) fn next_volume<'a>(
     if volume.generation + 1 >= GENERATIONS {
         return Err(PagesError::Full);
     }
-    let found = adjacent_start(&volume.used, volume.near, changes.len());
-    volume.near = near_after(volume.near, volume.sectors, found);
-    let start = found.unwrap_or(FIRST_SECTOR);
-    let mut draft = fresh_draft(alloc, volume.maps.len(), start)?;
+    let start = start_of(volume, changes.len());
+    let mut draft = fresh_draft(alloc, volume.maps.len(), start.sector)?;
     stage_changes(volume, &mut draft, changes)?;
     stage_maps(alloc, volume, &mut draft)?;
     volume.generation += 1;
     volume.catalog = catalog;
+    volume.near = start.near;
     Ok(draft)
 }
 

@@ -1,5 +1,5 @@
 //! Which sectors of a volume are used.
-ghost use Rattle.std.specs.Prelude.{◌≡◌, ◌<◌, ◌≤◌, ◌+◌, ◌*◌, ℕ, false, true, if◌then◌else◌, length, slice_index_or, IfOk, IfSome, IfNone};
+ghost use Rattle.std.specs.Prelude.{◌≡◌, ◌<◌, ◌≤◌, ◌+◌, ◌*◌, ◌==◌, count_by, ℕ, false, true, if◌then◌else◌, length, slice_index_or, IfOk, IfSome, IfNone};
 ghost use Rattle.pages.specs.Runs.{marked, unused_below, unused_count, AreRuns};
 
 use crate::volume::count_free;
@@ -127,9 +127,19 @@ fn first_adjacent(used: &[u8], start: usize, end: usize, count: usize) -> Option
 
 /// How many of some sectors aren't used.
 fn count_bytes(used: &[u8]) -> usize
-    ensures { result ≡ unused_count (marked used.now) }
+    ensures { result ≡ count_by (λ byte. byte == 0) used.now }
 {
     used.iter().filter(|byte| **byte == UNUSED).count()
+}
+
+/// How many sectors from one place on and before another aren't used.
+fn count_between(used: &[u8], start: usize, end: usize) -> usize
+    ensures { unused_below (marked used.now) start + result ≤ unused_count (marked used.now) }
+{
+    match used.get(start..end) {
+        Some(sectors) => count_bytes(sectors),
+        None => 0,
+    }
 }
 
 impl SectorUse {
@@ -195,9 +205,6 @@ impl SectorUse {
     {
         let start = from as usize;
         let end = start.saturating_add(count.saturating_mul(16));
-        match self.used.get(start..self.used.len().min(end)) {
-            Some(sectors) => count_bytes(sectors) >= count,
-            None => false,
-        }
+        count_between(&self.used, start, end.min(self.used.len())) >= count
     }
 }

@@ -1,7 +1,7 @@
-use Rattle.std.proofs.Common.{◌≡◌, ◌+◌, ◌++◌, ◌∷◌, [], true, get_or, ap, ◌∙◌, ◌<◌, List, take, take_all, length, subst, sym, arith}
+use Rattle.std.proofs.Common.{Bool, ◌≡◌, ◌+◌, ◌++◌, ◌∷◌, [], true, get_or, ap, ◌∙◌, ◌<◌, List, take, take_all, length, subst, sym, arith}
 use Rattle.std.proofs.lemmas.List.{take_more}
 use Rattle.std.specs.Prelude.{is_some}
-use Rattle.pages.specs.Volumes.{IsDraft, IsCounted}
+use Rattle.pages.specs.Volumes.{unused_below, IsDraft, IsCounted}
 use Rattle.pages.specs.declared.change.Change.{Change}
 use Rattle.pages.proofs.Drafts.{same_size_then}
 use Rattle.pages.proofs.Counting.{front_lt}
@@ -23,6 +23,7 @@ loop-change-preserved c =
     record {
       size = same_size_then c.args.volume.now c.loop-change.volume c.stage_change.new.volume before.size here.size;
       maps = here.maps ∙ before.maps;
+      start = here.start ∙ before.start;
       changed_maps = here.changed_maps ∙ before.changed_maps;
       staged = λ v draft. subst (λ (l : List Change). IsDraft v c.stage_change.new.volume c.stage_change.new.draft l) next
           (here.staged v (take i changes) some (before.staged v draft));
@@ -42,4 +43,6 @@ returns-in_err-stage_change-clause-full c = λ v once start full.
     let here = c.in_err-stage_change.ensures.full v (take i c.args.changes.now) 0 (c.loop-change.invariant.counted v once start) (cc (told)) in
     let item = c.change-item.result in
     let filled_here : is_some (get_or c.args.changes.now i item).bytes ≡ true = subst (λ (x : Change). is_some x.bytes ≡ true) c.change-item.is here.0 in
-    omega (arith, here.1, front_lt (λ (x : Change). is_some x.bytes) c.args.changes.now i item lt filled_here)
+    let begun : unused_below c.loop-change.volume.used c.loop-change.draft.start ≡ unused_below c.args.volume.now.used c.args.draft.now.start =
+    ap (λ (u : List Bool). unused_below u c.loop-change.draft.start) c.loop-change.invariant.size.used ∙ ap (unused_below c.args.volume.now.used) c.loop-change.invariant.start in
+    omega (arith, here.1, begun, front_lt (λ (x : Change). is_some x.bytes) c.args.changes.now i item lt filled_here)

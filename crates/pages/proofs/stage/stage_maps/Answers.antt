@@ -1,7 +1,7 @@
-use Rattle.std.proofs.Common.{◌≡◌, ◌∙◌, ◌+◌, ◌≤◌, ℕ, Bool, length, ap, subst, arith}
+use Rattle.std.proofs.Common.{List, ◌≡◌, ◌∙◌, ◌+◌, ◌≤◌, ℕ, Bool, length, ap, subst, arith}
 use Rattle.std.specs.Prelude.{Vec}
 use Rattle.std.specs.declared.alloc.Global.{Global}
-use Rattle.pages.specs.Volumes.{IsMappedDraft, IsCounted}
+use Rattle.pages.specs.Volumes.{unused_below, IsMappedDraft, IsCounted}
 use Rattle.pages.specs.Needed.{written_below}
 use Rattle.pages.proofs.Drafts.{same_size_then}
 use Rattle.pages.proofs.Taking.{written_mono}
@@ -13,6 +13,7 @@ loop-map-preserved c =
     let here = c.in_ok-stage_map.ensures in
     record {
       size = same_size_then c.args.volume.now c.loop-map.volume c.stage_map.new.volume before.size here.size;
+      start = here.start ∙ before.start;
       changed_maps = ap (λ (x : Vec Bool Global). length x.items) here.changed_maps ∙ before.changed_maps;
       mapped = λ v changes draft. here.mapped v changes (before.mapped v changes draft);
       counted = λ v changes start. here.counted v changes (before.counted v changes start);
@@ -33,4 +34,6 @@ returns-in_err-stage_map-clause-full c = λ v changes start full.
     let told = rw full at c.from_residual.ensures.1 in
     let here = c.in_err-stage_map.ensures.full v changes (c.loop-map.invariant.counted v changes start) (cc (told)) in
     let low : c.loop-map.map + 1 ≤ length c.args.volume.now.maps.items = omega (arith, c.loop-map-test.true, c.len-map-end.ensures) in
-    omega (arith, here, written_mono v changes (c.loop-map.map + 1) (length c.args.volume.now.maps.items) low)
+    let begun : unused_below c.loop-map.volume.used c.loop-map.draft.start ≡ unused_below c.args.volume.now.used c.args.draft.now.start =
+    ap (λ (u : List Bool). unused_below u c.loop-map.draft.start) c.loop-map.invariant.size.used ∙ ap (unused_below c.args.volume.now.used) c.loop-map.invariant.start in
+    omega (arith, here, begun, written_mono v changes (c.loop-map.map + 1) (length c.args.volume.now.maps.items) low)
