@@ -207,6 +207,6 @@ pub room_counted : (bytes part : List ℕ) (start end : ℕ) → part ≡ take (
 room_counted bytes part start end is =
     let parts = part_counted (marked bytes) start (end - start) in
     let same : marked part ≡ take (end - start) (drop start (marked bytes)) =
-        ap marked is ∙ sym (take-map (λ byte. not (byte == 0)) (end - start) (drop start bytes)) ∙ ap (take (end - start)) (sym (drop-map (λ byte. not (byte == 0)) start bytes)) in
+    ap marked is ∙ sym (take-map (λ byte. not (byte == 0)) (end - start) (drop start bytes)) ∙ ap (take (end - start)) (sym (drop-map (λ byte. not (byte == 0)) start bytes)) in
     let counted : unused_count (marked part) ≡ unused_count (take (end - start) (drop start (marked bytes))) = ap unused_count same in
     omega (arith, parts, counted, count_marked part, below_all (marked bytes) (start + (end - start)))

@@ -67,6 +67,7 @@ pub(crate) fn read_volume<D: Device>(alloc: Global, device: &mut D) -> Result<Vo
         used,
         free,
         near: 0,
+        last_start: 0,
     })
 }
 

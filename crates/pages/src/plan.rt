@@ -27,13 +27,13 @@ const FEW_BLOCKS: usize = 8;
 /// A commit of more changes takes the first sectors that aren't used, and looks for no adjacent ones.
 const MOST_ADJACENT: usize = 256;
 
-/// So many sectors before the first one of the last commit are looked at too. What it replaced is there, and is in the processor's caches.
-const BEHIND: u32 = 32;
+/// So many sectors before the one around which a search looks are looked at too.
+const BEHIND: u32 = 8;
 
 /// How far the next search is from one that found nothing.
-const STEP: u32 = 1024;
+const STEP: u32 = 256;
 
-/// Where the blocks of a commit begin, and around which sector the next commit looks.
+/// Where the blocks of a commit begin, and around which sector the commit behind the next one looks.
 #[derive(Clone, Copy)]
 struct Start {
     sector: u32,
@@ -125,7 +125,8 @@ pub(crate) fn next_volume<'a>(
     stage_maps(alloc, volume, &mut draft)?;
     volume.generation += 1;
     volume.catalog = catalog;
-    volume.near = start.near;
+    volume.near = volume.last_start;
+    volume.last_start = start.near;
     Ok(draft)
 }
 

@@ -14,7 +14,7 @@ const RUN: usize = 1024;
 const UNUSED: u8 = 0;
 
 /// How many sectors a search for adjacent ones looks at.
-const SPAN: usize = 1024;
+const SPAN: usize = 256;
 
 /// For each sector a byte, 1 if it is used, and of each run of 1,024 sectors how many aren't: so a search passes over runs without one.
 #[derive(Drop)]
@@ -189,7 +189,7 @@ impl SectorUse {
         None
     }
 
-    /// The first of so many adjacent sectors that aren't used. It looks at 1,024 sectors, from the first one on that isn't used and isn't
+    /// The first of so many adjacent sectors that aren't used. It looks at 256 sectors, from the first one on that isn't used and isn't
     /// before this one.
     pub(crate) fn adjacent_unused(&self, from: u32, count: usize) -> Option<u32>
         ensures { IfSome result (λ s. (from ≤ s) × (s < length self.now)) }
@@ -199,12 +199,12 @@ impl SectorUse {
         first_adjacent(&self.used, start, end, count)
     }
 
-    /// Whether so many sectors from this one on aren't used. It looks at no more than sixteen times as many sectors.
+    /// Whether so many sectors from this one on aren't used. It looks at no more than four times as many sectors.
     pub(crate) fn has_room(&self, from: u32, count: usize) -> bool
         ensures { result ≡ true → unused_below self.now from + count ≤ unused_count self.now }
     {
         let start = from as usize;
-        let end = start.saturating_add(count.saturating_mul(16));
+        let end = start.saturating_add(count.saturating_mul(4));
         count_between(&self.used, start, end.min(self.used.len())) >= count
     }
 }

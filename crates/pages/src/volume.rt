@@ -23,8 +23,11 @@ pub(crate) struct VolumeMap {
     pub used: SectorUse,
     /// How many aren't.
     pub free: u32,
-    /// The sector around which the next commit looks for adjacent sectors. It is not on the disk, and nothing is claimed of it.
+    /// The sector around which the next commit looks for adjacent sectors: the first one of the commit before the last. What that one
+    /// wrote is what the last one replaced. It is not on the disk, and nothing is claimed of it.
     pub near: u32,
+    /// The first sector of the last commit.
+    pub last_start: u32,
 }
 
 /// How many sectors aren't used.

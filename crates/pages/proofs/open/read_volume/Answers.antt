@@ -36,7 +36,7 @@ returns-clause-reads g c = λ honest.
     let table = c.in_ok-table.table in
     let within = c.in_ok-root.ensures.within in
     let present = (g.D.Device.state c.args.device.now).disk.present in
-    let m : List ℕ → VolumeMap = λ sectors. record { generation = root.generation; sectors = root.sectors; catalog = root.catalog; maps = root.maps; table = sectors; used = c.mark_names-2.new.used.items; free = c.count_free-free.result; near = 0 } in
+    let m : List ℕ → VolumeMap = λ sectors. record { generation = root.generation; sectors = root.sectors; catalog = root.catalog; maps = root.maps; table = sectors; used = c.mark_names-2.new.used.items; free = c.count_free-free.result; near = 0; last_start = 0 } in
     let honest' = c.in_ok-root.ensures.only.honest.0 honest in
     let maps : length root.maps.items ≡ (root.sectors + 1023) / 1024 = within.maps in
     let count : length table.items ≡ 1024 * length root.maps.items = c.in_ok-table.ensures.count ∙ ap (λ (l : List ℕ). 1024 * length l) c.deref-2.ensures.value in
@@ -55,7 +55,7 @@ returns-clause-sound g c =
     let root = c.in_ok-root.root in
     let table = c.in_ok-table.table in
     let within = c.in_ok-root.ensures.within in
-    let m : List ℕ → List Bool → VolumeMap = λ sectors used. record { generation = root.generation; sectors = root.sectors; catalog = root.catalog; maps = root.maps; table = sectors; used = used; free = c.count_free-free.result; near = 0 } in
+    let m : List ℕ → List Bool → VolumeMap = λ sectors used. record { generation = root.generation; sectors = root.sectors; catalog = root.catalog; maps = root.maps; table = sectors; used = used; free = c.count_free-free.result; near = 0; last_start = 0 } in
     let maps : length root.maps.items ≡ (root.sectors + 1023) / 1024 = within.maps in
     let count : length table.items ≡ 1024 * length root.maps.items = c.in_ok-table.ensures.count ∙ ap (λ (l : List ℕ). 1024 * length l) c.deref-2.ensures.value in
     let marked : IsMarked root.maps.items c.mark_names.new.used.items = subst (λ (l : List ℕ). IsMarked l c.mark_names.new.used.items) c.deref.ensures.value (c.mark_names.ensures.marked c.if-not-mark_names.false [] c.in_ok-used.ensures.marked) in

@@ -13,7 +13,7 @@ returns-clause-plan c =
     let m = c.args.volume.now in
     let changes = c.args.changes.now in
     let last = c.stage_maps.new.volume in
-    let after : VolumeMap = record { generation = last.generation + 1; sectors = last.sectors; catalog = c.args.catalog; maps = last.maps; table = last.table; used = last.used; free = last.free; near = c.start_of-start.result.near } in
+    let after : VolumeMap = record { generation = last.generation + 1; sectors = last.sectors; catalog = c.args.catalog; maps = last.maps; table = last.table; used = last.used; free = last.free; near = last.last_start; last_start = c.start_of-start.result.near } in
     let start = c.start_of-start.result.sector in
     let may = c.start_of-start.ensures in
     let fresh : IsFresh (length m.maps.items) start c.in_ok-draft.draft = subst (λ (n : ℕ). IsFresh n start c.in_ok-draft.draft) (omega (arith, m.maps.ok)) c.in_ok-draft.ensures in
@@ -27,7 +27,7 @@ returns-clause-sound c =
     let m = c.args.volume.now in
     let changes = c.args.changes.now in
     let last = c.stage_maps.new.volume in
-    let after : VolumeMap = record { generation = last.generation + 1; sectors = last.sectors; catalog = c.args.catalog; maps = last.maps; table = last.table; used = last.used; free = last.free; near = c.start_of-start.result.near } in
+    let after : VolumeMap = record { generation = last.generation + 1; sectors = last.sectors; catalog = c.args.catalog; maps = last.maps; table = last.table; used = last.used; free = last.free; near = last.last_start; last_start = c.start_of-start.result.near } in
     let start = c.start_of-start.result.sector in
     let may = c.start_of-start.ensures in
     let fresh : IsFresh (length m.maps.items) start c.in_ok-draft.draft = subst (λ (n : ℕ). IsFresh n start c.in_ok-draft.draft) (omega (arith, m.maps.ok)) c.in_ok-draft.ensures in
