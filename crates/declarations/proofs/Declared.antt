@@ -1,5 +1,5 @@
 -- What is declared by a program, in the words of the program.
-use Rattle.std.proofs.Common.{◌≡◌, List, [], ◌++◌, ap, subst, sym, ◌∙◌}
+use Rattle.std.proofs.Common.{◌≡◌, List, [], ap, subst, sym, ◌∙◌}
 use Rattle.std.specs.Prelude.{map}
 use Rattle.source_tree.specs.declared.entry.Entry.{Entry}
 use Rattle.source_tree.specs.declared.program.Program.{Program}
@@ -8,7 +8,7 @@ use Rattle.source_tree.specs.declared.select.FileDescription.{FileDescription}
 use Rattle.source_tree.specs.declared.select.Select.{Select}
 use Rattle.source_tree.specs.FileRules.{program_file_rules}
 use Rattle.source_tree.specs.Places.{Placed}
-use Rattle.source_tree.specs.ProgramFiles.{ProgramFile, files_from}
+use Rattle.source_tree.specs.ProgramFiles.{files_from}
 use Rattle.source_tree.specs.Procedures.{Procedure, procedures_of}
 use Rattle.source_tree.specs.Records.{program_items, storage_areas}
 use Rattle.source_tree.specs.Rules.{all_permitted, sections_rules}
@@ -21,7 +21,7 @@ use Rattle.names.specs.Table.{IsTable, calls_in}
 use Rattle.program_files.specs.Files.{AreFiles}
 use Rattle.declarations.specs.declared.declarations.Declarations.{Declarations}
 use Rattle.declarations.specs.Data.{with_data}
-use Rattle.declarations.specs.Named.{Declares, IsDeclared, data_in, files_in, items_in, procedures_in, scope_in}
+use Rattle.declarations.specs.Named.{Declares, IsDeclared, data_in, items_in, procedures_in, scope_in}
 
 module _ (program : Program) (all : Declarations) (h : Declares program all) where
   -- the data of the program

@@ -7,7 +7,7 @@ pub mod RuleLayers
 pub mod PerformLayers
 pub mod Permitted
 pub mod Layers
-pub mod Alone
+pub mod OperandAlone
 pub mod Looking
 pub mod ConditionItems
 pub mod ItemEntries

@@ -1,5 +1,5 @@
 -- Procedures that are listed one after another.
-use Rattle.std.proofs.Common.{◌≡◌, ℕ, ◌<◌, ◌+◌, ◌-◌, List, [], ◌∷◌, ◌++◌, length, max, get_or, drop, None, Some, refl, sym, ap, ◌∙◌, append_assoc, add-one, drop-cons, arith}
+use Rattle.std.proofs.Common.{◌≡◌, ℕ, ◌<◌, ◌+◌, ◌-◌, List, [], ◌∷◌, ◌++◌, length, get_or, drop, refl, sym, ap, ◌∙◌, append_assoc, add-one, drop-cons, arith}
 use Rattle.std.specs.Prelude.{Option, map}
 use Rattle.std.specs.Borrow.{Bor}
 use Rattle.std.specs.Option.{option_copied}
@@ -10,7 +10,6 @@ use Rattle.source_tree.specs.declared.program.Section.{Section}
 use Rattle.source_tree.specs.Procedures as tree
 use Rattle.source_tree.specs.Procedures.{one_range, paragraph_procedures, paragraphs_or_one, procedures_from}
 use Rattle.names.specs.Noting.{section_procedures}
-use Rattle.names.specs.declared.procedures.ParagraphRange.{ParagraphRange}
 use Rattle.declarations.specs.declared.listed.Procedure.{Procedure}
 use Rattle.declarations.specs.Listed.{procedure_of}
 

@@ -8,7 +8,7 @@ ghost use Rattle.source_tree.specs.Conditions as tree;
 use source_tree::{Expression, Operand};
 
 /// The operand that an expression is, if it is one alone.
-#[tactic(auto, using(crate::proofs::Alone::alone_operand, crate::proofs::Alone::alone_negated, crate::proofs::Alone::alone_chain))]
+#[tactic(auto, using(crate::proofs::OperandAlone::alone_operand, crate::proofs::OperandAlone::alone_negated, crate::proofs::OperandAlone::alone_chain))]
 pub fn operand_alone(one: &Expression) -> Option<&Operand>
     ensures { option_copied result ≡ tree.alone (out-Expression one.now) }
 {
