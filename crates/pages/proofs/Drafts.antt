@@ -188,5 +188,6 @@ placed_in same placed = record {
   blocks = placed.blocks;
   changed_maps = placed.changed_maps;
   turns = placed.turns;
+  start = placed.start;
   next = placed.next;
 }

@@ -1,5 +1,5 @@
 -- A draft with all its pages and maps is a plan.
-use Rattle.std.proofs.Common.{◌≡◌, inl, ◌<◌, ◌+◌, ◌*◌, ◌^◌, false, ℕ, List, [], ◌++◌, length, get_or, refl, sym, ◌∙◌, ap, subst, arith}
+use Rattle.std.proofs.Common.{◌≡◌, ◌≤◌, inl, ◌<◌, ◌+◌, ◌*◌, ◌^◌, false, ℕ, List, [], ◌++◌, length, get_or, refl, sym, ◌∙◌, ap, subst, arith}
 use Rattle.std.specs.Prelude.{Contains, Vec}
 use Rattle.std.specs.List.{All}
 use Rattle.std.specs.declared.alloc.Global.{Global}
@@ -18,7 +18,7 @@ use Rattle.pages.specs.Plan.{IsPlan}
 use Rattle.pages.specs.Volumes.{volume_of, IsSound, IsSoundAfter, IsDraft, IsMappedDraft, IsFresh, IsNext, SameSize, unused_count}
 
 -- nothing is staged yet
-pub started : (m : VolumeMap) (d : Draft) (start : ℕ) → IsSound m → 0 < start → IsFresh (length m.maps.items) start d → IsDraft (volume_of m) m d []
+pub started : (m : VolumeMap) (d : Draft) (start : ℕ) → IsSound m → 2 ≤ start → IsFresh (length m.maps.items) start d → IsDraft (volume_of m) m d []
 started m d start sound some fresh = record {
   in_use = sound.in_use;
   some = omega (arith, sound.least);

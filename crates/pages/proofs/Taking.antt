@@ -221,7 +221,7 @@ front_away changes i d once some low k e lt is =
     omega (arith, same, below)
 
 -- nothing is staged yet
-pub counted_start : (m : VolumeMap) (d : Draft) (start : ℕ) → IsSound m → 0 < start → IsFresh (length m.maps.items) start d → IsCounted (volume_of m) m d [] 0
+pub counted_start : (m : VolumeMap) (d : Draft) (start : ℕ) → IsSound m → 2 ≤ start → IsFresh (length m.maps.items) start d → IsCounted (volume_of m) m d [] 0
 counted_start m d start sound some fresh = record {
   free = counted m.sectors (names (volume_of m)) m.used sound.in_use;
   taken = taken_start m.used d.start d.next d.blocks.items (omega (arith, fresh.start, some)) (fresh.next ∙ sym fresh.start) fresh.blocks;

@@ -50,7 +50,7 @@ AreAscending blocks = (i j : ℕ) (d e : Block) → i < j → j < length blocks 
 -- The blocks of a commit of so many changes may begin there: at the first sector behind the roots, or where from there on at least two
 -- sectors for each change aren't marked as used.
 pub record MayStart (used : List Bool) (changes start : ℕ) : Type 0 where
-  pub some : 0 < start
+  pub some : 2 ≤ start
   pub room : (start ≡ 2) ⊎ (unused_below used start + 2 * changes ≤ unused_count used)
 
 -- blocks were placed in ascending sectors, one in each sector from `from` on and below `next` that isn't marked as used
@@ -118,12 +118,12 @@ pub data ReleasesPage (m after : VolumeMap) (old new : Draft) (page : ℕ) : Typ
   HadOne : slice_index m.table page ≢ 0 → SetsPage m after old new page 0 → ReleasesPage m after old new page
 
 -- a draft of a volume with so many maps, with nothing in it, whose blocks begin there
-pub record IsFresh (maps start : ℕ) (d : Draft) : Type 0 where
+pub record IsFresh (maps first : ℕ) (d : Draft) : Type 0 where
   pub blocks : d.blocks.items ≡ []
   pub changed_maps : d.changed_maps.items ≡ replicate maps false
   pub turns : d.turns.items ≡ []
-  pub start : d.start ≡ start
-  pub next : d.next ≡ start
+  pub start : d.start ≡ first
+  pub next : d.next ≡ first
 
 -- the next generation, with this page of the catalog's root
 pub record IsNext (old new : VolumeMap) (page : ℕ) : Type 0 where

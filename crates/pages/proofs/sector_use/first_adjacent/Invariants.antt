@@ -1,4 +1,4 @@
-use Rattle.std.proofs.Common.{◌≤◌, ◌×◌}
+use Rattle.std.proofs.Common.{◌≤◌}
 use Rattle.pages.proofs.sector_use.first_adjacent.Given as goal
 
 abbrev pub invariant-loop-place : goal.invariant-loop-place
