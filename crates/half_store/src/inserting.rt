@@ -41,8 +41,7 @@ fn row_with(
 {
     let mut copy = Vec::new(alloc);
     copy.extend_from_slice(bytes)?;
-    let mut arrivals = SmallVec::new(alloc);
-    arrivals.resize(keys.len(), arrival)?;
+    let arrivals = SmallVec::from_elem(alloc, arrival, keys.len())?;
     Ok(StoredRow {
         number,
         bytes: copy,
