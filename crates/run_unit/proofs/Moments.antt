@@ -166,15 +166,24 @@ module _ (holds : List Sector → Files → Type 0) (lacks : List Sector → Boo
   ends_alone machine.Stopped now own ends = finished_alone end.Stopped now ends
   ends_alone machine.Budget now own ends = finished_alone end.Budget now ends
   ends_alone (machine.Faulted fault line) now own ends = finished_alone (end.Faulted (fault_of fault) line) now ends
-  ends_alone (machine.Refused refused.Device) now own ends = tt
+  ends_alone (machine.Refused refused.Device) now own ends = ends
   ends_alone (machine.Refused refused.Full) now own ends = absurd own
   ends_alone (machine.Refused refused.Damaged) now own ends = absurd own
   ends_alone (machine.Refused refused.Memory) now own ends = absurd own
+
+  -- nothing was told yet
+  first_alone : Alone run old old
+  first_alone = record {
+    told = record { seen = []; rest = run.events; since = sym (append-nil old.events); begins = refl };
+    console = nothing_taken old;
+    disk = refl;
+  }
 
   -- a machine ran
   pub ran_alone : (past later : List State) (new : State) (ended : MachineEnded) → IsOwnEnd ended
       → Through past later new (Moment holds run old) → EndsAs holds lacks entries run old ended new → RunsAlone run past old (ended_of ended) later new
   ran_alone past later new ended own moments ends = record {
+    first = first_alone;
     moments = weakens past later new (Moment holds run old) (Alone run old) alone_of moments;
     ends = ends_alone ended new own ends;
   }

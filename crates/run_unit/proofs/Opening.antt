@@ -19,7 +19,7 @@ use Rattle.machine.specs.Prefix.{Moment}
 use Rattle.machine.specs.Ends.{LacksRoom}
 use Rattle.half_store.specs.Half.{Holds as HoldsHalf}
 use Rattle.alternate_keys.specs.Stands.{LacksRoom as LacksTrees}
-use Rattle.run_unit.specs.Volume.{EndsOver, IsUnopened, IsUnwritten, RunsOver, lacks_half}
+use Rattle.run_unit.specs.Volume.{EndsOver, IsUnopened, IsUnwritten, LeavesClosed, RunsOver, lacks_half}
 use Rattle.run_unit.specs.Volume.{RunsOnVolume, Unopened, Opened, RunsOnHalves, NotOpened, HeldFiles}
 use Rattle.run_unit.specs.declared.ended.Refusal.{Refusal}
 use Rattle.run_unit.specs.declared.ended.Refusal.TheVariants.{Image, Device, Full, Damaged, Memory}
@@ -49,8 +49,13 @@ unopened store.Damaged = tt
 unopened store.Spent = tt
 unopened store.Layout = tt
 
-pub refused_opening : (fault : StoreFault) (refusal : Refusal) → refusal ≡ of_opening fault → IsUnopened (Refused refusal)
-refused_opening fault refusal is = subst (λ (r : Refusal). IsUnopened (Refused r)) (sym is) (unopened fault)
+pub left_closed : (fault : StoreFault) (refusal : Refusal) (past later : List State) (old new : State) → refusal ≡ of_opening fault
+    → Through past later new (Opening old) → IsUnwritten old new → LeavesClosed past old (Refused refusal) later new
+left_closed fault refusal past later old new is moments unwritten = record {
+  why = subst (λ (r : Refusal). IsUnopened (Refused r)) (sym is) (unopened fault);
+  moments = moments;
+  unwritten = unwritten;
+}
 
 -- a sync takes no line, so that a run is given the same after it
 pub given_after : (files : Files) (old mid : State) (day : List ℕ) (budget : ℕ) → mid ≡ synced old → given_over files old day budget ≡ given_over files mid day budget
@@ -87,13 +92,21 @@ given_later files old mid day budget (inr is) = given_after files old mid day bu
 opening_then : (old mid : State) → Opening old mid → (s : State) → Opening mid s → Opening old s
 opening_then old mid first s second = record { events = second.events ∙ first.events; images = λ image crash. first.images image (second.images image crash) }
 
+-- a call that doesn't open it either
+closed_then : (past looked later : List State) (old mid new : State) (ended : Ended)
+    → Through past looked mid (Opening old) → IsUnwritten old mid → LeavesClosed looked mid ended later new → LeavesClosed past old ended later new
+closed_then past looked later old mid new ended first is closed = record {
+  why = closed.why;
+  moments = goes past looked later mid new (Opening old) first
+      (weakens looked later new (Opening mid) (Opening old) (opening_then old mid first.now) closed.moments);
+  unwritten = unwritten_then old mid new is closed.unwritten;
+}
+
 pub on_volume_then : (holds : List Sector → Files → Type 0) (no_room : Run → State → State → Type 0) (run : Run) (past looked later : List State) (old mid new : State) (ended : Ended)
     → Through past looked mid (Opening old) → IsUnwritten old mid → RunsOnVolume holds no_room run looked mid ended later new
     → RunsOnVolume holds no_room run past old ended later new
-on_volume_then holds no_room run past looked later old mid new ended first is (Unopened why through same) =
-    Unopened why (goes past looked later mid new (Opening old) first
-    (weakens looked later new (Opening mid) (Opening old) (opening_then old mid first.now) through))
-    (unwritten_then old mid new is same)
+on_volume_then holds no_room run past looked later old mid new ended first is (Unopened closed) =
+    Unopened (closed_then past looked later old mid new ended first is closed)
 on_volume_then holds no_room run past looked later old mid new ended first is (Opened opened spans runs) =
     Opened opened (then past looked opened (Opening old) first.spans (weaker looked opened (Opening mid) (Opening old) (opening_then old mid first.now) spans))
     (subst (λ (s : State). RunsOver holds no_room run opened s ended later new) (synced_after old mid is) runs)
@@ -101,10 +114,8 @@ on_volume_then holds no_room run past looked later old mid new ended first is (O
 pub on_halves_then : (entries : List Entry) (run : Files → Run) (past looked later : List State) (old mid new : State) (ended : Ended)
     → Through past looked mid (Opening old) → IsUnwritten old mid → RunsOnHalves entries run looked mid ended later new
     → RunsOnHalves entries run past old ended later new
-on_halves_then entries run past looked later old mid new ended first is (NotOpened why through same) =
-    NotOpened why (goes past looked later mid new (Opening old) first
-    (weakens looked later new (Opening mid) (Opening old) (opening_then old mid first.now) through))
-    (unwritten_then old mid new is same)
+on_halves_then entries run past looked later old mid new ended first is (NotOpened closed) =
+    NotOpened (closed_then past looked later old mid new ended first is closed)
 on_halves_then entries run past looked later old mid new ended first is (HeldFiles files held runs) =
     HeldFiles files (subst (λ (image : List Sector). HoldsHalf image files) (present_after old mid is) held)
     (on_volume_then HoldsHalf (LacksRoom lacks_half entries) (run files) past looked later old mid new ended first is runs)
@@ -135,7 +146,7 @@ module _ (here either : List Sector → Files → Type 0) (also : (image : List 
   }
 
   pub on_either : (past : List State) (old : State) (ended : Ended) (later : List State) (new : State) → RunsOnVolume here no_room run past old ended later new → RunsOnVolume either none_either run past old ended later new
-  on_either past old ended later new (Unopened why through same) = Unopened why through same
+  on_either past old ended later new (Unopened closed) = Unopened closed
   on_either past old ended later new (Opened opened spans runs) = Opened opened spans (over_either opened (synced old) ended later new runs)
 
 -- where only the device and memory refuse, the other store's layout isn't told

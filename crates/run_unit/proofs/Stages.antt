@@ -30,7 +30,8 @@ use Rattle.entry_rules.specs.declared.rule.CheckError.{CheckError}
 use Rattle.entry_rules.specs.declared.rule.CheckError.TheVariants as in_rules
 use Rattle.run_unit.specs.Faults as compiling
 use Rattle.run_unit.specs.Faults.{StageFault, OfLines, OfTokens, OfTree, OfRules, from_tokens, from_tree, from_rules}
-use Rattle.run_unit.specs.Trees.{IsReadFrom, IsTreeAnswer, IsRecursion, IsToldOf, IsFaultOf, broken_rules, then_read, tree_by, tree_with_rules, tree_in_tokens, tree_in_characters, tree_of}
+use Rattle.run_unit.specs.Trees.{IsReadFrom, broken_rules}
+use Rattle.run_unit.specs.Stages.{IsTreeAnswer, IsRecursion, IsToldOf, IsFaultOf, then_read, tree_by, tree_with_rules, tree_in_tokens, tree_in_characters, tree_of}
 use Rattle.run_unit.specs.Images.{IsImageAnswer}
 use Rattle.run_unit.specs.declared.fault.CompileError.{CompileError}
 use Rattle.run_unit.specs.declared.fault.CompileError.TheVariants.{Memory, Refused}

@@ -1,7 +1,9 @@
 pub mod Faults
 pub mod Trees
+pub mod Stages
 pub mod Images
 pub mod Ends
+pub mod Course
 pub mod Alone
 pub mod Volume
 pub mod Runs

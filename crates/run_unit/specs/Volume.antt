@@ -12,14 +12,13 @@ use Rattle.half_store.specs.Half.{marks as half_marks, Holds as HoldsHalf}
 use Rattle.half_store.specs.Stands.{LacksRoom as LacksHalf}
 use Rattle.alternate_keys.specs.Opened.{HasMap}
 use Rattle.alternate_keys.specs.Stands.{LacksRoom as LacksTrees}
-use Rattle.source_tree.specs.State as end
 use Rattle.source_tree.specs.Meaning.{Run}
-use Rattle.data_instructions.specs.Faults.{fault_of}
-use Rattle.machine.specs.Prefix.{Moment, TakesLines}
+use Rattle.machine.specs.Prefix.{Moment}
 use Rattle.machine.specs.Ends.{Finished, BeforeNote, LacksRoom}
-use Rattle.run_unit.specs.declared.ended.Refusal.TheVariants.{Image, Device, Full, Damaged, Memory}
+use Rattle.run_unit.specs.declared.ended.Refusal.TheVariants.{Device, Damaged, Memory}
 use Rattle.run_unit.specs.declared.ended.Ended.{Ended}
-use Rattle.run_unit.specs.declared.ended.Ended.TheVariants.{Stopped, Budget, Faulted, Refused}
+use Rattle.run_unit.specs.declared.ended.Ended.TheVariants.{Refused}
+use Rattle.run_unit.specs.Course.{EndsBy, TakesCourse}
 
 -- why a volume isn't opened
 abbrev pub IsUnopened : Ended → Type 0
@@ -44,33 +43,29 @@ lacks_half image is_new name before after = LacksHalf image after
 abbrev pub lacks_either : List Sector → Bool → List ℕ → Files → Files → Type 0
 lacks_either image is_new name before after = LacksTrees image is_new name after ⊎ LacksHalf image after
 
--- What is so after each end of a run from a state, of whose ends for want of room this is so. Want of memory ends it in a file statement or
--- before it begins, damage never.
+-- What is so after each end of a run over the files that a store stands for. Want of memory ends it in a file
+-- statement or before it begins.
 abbrev pub EndsOver : (List Sector → Files → Type 0) → (Run → State → State → Type 0) → Run → State → Ended → State → Type 0
-EndsOver holds no_room run old Stopped now = Finished holds run end.Stopped old now
-EndsOver holds no_room run old Budget now = Finished holds run end.Budget old now
-EndsOver holds no_room run old (Faulted fault line) now = Finished holds run (end.Faulted (fault_of fault) line) old now
-EndsOver holds no_room run old (Refused (Image fault)) now = ⊥
-EndsOver holds no_room run old (Refused Device) now = TakesLines old now
-EndsOver holds no_room run old (Refused Full) now = no_room run old now
-EndsOver holds no_room run old (Refused Damaged) now = ⊥
-EndsOver holds no_room run old (Refused Memory) now = BeforeNote run old now ⊎ (now ≡ old)
+EndsOver holds no_room run old ended now =
+    EndsBy (λ how. Finished holds run how old now) (no_room run old now) (BeforeNote run old now ⊎ (now ≡ old)) old ended now
 
--- A run over the files that a store stands for, from a state to another, by this end: each moment is one of the run, the
--- first one too.
-pub record RunsOver (holds : List Sector → Files → Type 0) (no_room : Run → State → State → Type 0) (run : Run) (past : List State)
-    (old : State) (ended : Ended) (later : List State) (new : State) : Type 0 where
-  pub first : Moment holds run old old
-  pub moments : Through past later new (Moment holds run old)
-  pub ends : EndsOver holds no_room run old ended new
+-- a run over these files, from a state to another, by this end
+abbrev pub RunsOver : (List Sector → Files → Type 0) → (Run → State → State → Type 0) → Run
+    → List State → State → Ended → List State → State → Type 0
+RunsOver holds no_room run past old = TakesCourse (Moment holds run old) (EndsOver holds no_room run old) past old
+
+-- A call that doesn't open the volume: there are no events, whatever a crash leaves was possible before the
+-- call, and no sector was written.
+pub record LeavesClosed (past : List State) (old : State) (ended : Ended) (later : List State) (new : State) : Type 0 where
+  pub why : IsUnopened ended
+  pub moments : Through past later new (Opening old)
+  pub unwritten : IsUnwritten old new
 
 -- A call that opens a volume which holds files, and does a run over them. Until the volume is opened there are no events,
--- and whatever a crash leaves was possible before the call. If it isn't opened, that is all, and no sector was written.
--- Else each moment from its opening on is one of the run.
+-- and whatever a crash leaves was possible before the call. From its opening on each moment is one of the run.
 pub data RunsOnVolume (holds : List Sector → Files → Type 0) (no_room : Run → State → State → Type 0) (run : Run) (past : List State)
     (old : State) (ended : Ended) (later : List State) (new : State) : Type 0 where
-  Unopened : IsUnopened ended → Through past later new (Opening old) → IsUnwritten old new
-      → RunsOnVolume holds no_room run past old ended later new
+  Unopened : LeavesClosed past old ended later new → RunsOnVolume holds no_room run past old ended later new
   Opened : (opened : List State) → Spans past opened (Opening old)
       → RunsOver holds no_room run opened (synced old) ended later new → RunsOnVolume holds no_room run past old ended later new
 
@@ -79,12 +74,10 @@ abbrev pub IsOfHalves : List Sector → Type 0
 IsOfHalves image = (roots : Roots) × (roots_in half_marks 1 image ≡ Ok roots)
 
 -- A call that opens a volume of halves, and does a run over the files that it finds. Such a volume is read whole when it is
--- opened. Either it isn't opened, there are no events, and no sector was written; or it held files, and the call is one
--- with these. The program's files are these entries.
+-- opened. Either it isn't opened, or it held files, and the call is one with these. The program's files are these entries.
 pub data RunsOnHalves (entries : List Entry) (run : Files → Run) (past : List State) (old : State)
     (ended : Ended) (later : List State) (new : State) : Type 0 where
-  NotOpened : IsUnopened ended → Through past later new (Opening old) → IsUnwritten old new
-      → RunsOnHalves entries run past old ended later new
+  NotOpened : LeavesClosed past old ended later new → RunsOnHalves entries run past old ended later new
   HeldFiles : (files : Files) → HoldsHalf old.disk.present files
       → RunsOnVolume HoldsHalf (LacksRoom lacks_half entries) (run files) past old ended later new
       → RunsOnHalves entries run past old ended later new

@@ -8,7 +8,8 @@ ghost use Rattle.source_tree.specs.Meaning.{meaning};
 ghost use Rattle.entry_rules.specs.Checks as rules;
 ghost use Rattle.check_rules.specs.Told.{IsTold};
 ghost use Rattle.run_unit.specs.Faults.{fault_of};
-ghost use Rattle.run_unit.specs.Trees.{IsReadFrom, IsTreeOf, IsTreeAnswer, IsToldOf, IsFaultOf, broken_rules, tree_with_rules, tree_of};
+ghost use Rattle.run_unit.specs.Trees.{IsReadFrom, IsTreeOf, broken_rules};
+ghost use Rattle.run_unit.specs.Stages.{IsTreeAnswer, IsToldOf, IsFaultOf, tree_with_rules, tree_of};
 ghost use Rattle.run_unit.specs.Images.{MeansAs, IsCompiled, IsImageAnswer};
 
 use crate::fault::CompileError;

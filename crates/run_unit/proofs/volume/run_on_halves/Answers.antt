@@ -9,7 +9,7 @@ use Rattle.code_image.specs.Table.{Runs}
 use Rattle.machine.specs.Ends.{LacksRoom}
 use Rattle.run_unit.specs.declared.ended.Ended.TheVariants.{Refused}
 use Rattle.run_unit.specs.Volume.{Unopened, NotOpened, HeldFiles, lacks_half}
-use Rattle.run_unit.proofs.Opening.{read_cause, refused_opening, given_after, ran_on}
+use Rattle.run_unit.proofs.Opening.{read_cause, left_closed, given_after, ran_on}
 use Rattle.run_unit.proofs.volume.run_on_halves.Goals as goal
 
 pub returns-in-Ok-clause-volume : goal.returns-in-Ok-clause-volume
@@ -49,13 +49,11 @@ returns-in-Err-clause-sound g c = λ honest files held is.
 
 pub returns-in-Err-clause-volume : goal.returns-in-Err-clause-volume
 returns-in-Err-clause-volume g c = λ honest files held run runs.
-    Unopened (refused_opening c.in-Err.fault c.of_opening.result c.of_opening.ensures)
-    (c.open.ensures.moments honest) (c.in-Err.ensures.unwritten honest)
+    Unopened (left_closed c.in-Err.fault c.of_opening.result _ _ _ _ c.of_opening.ensures (c.open.ensures.moments honest) (c.in-Err.ensures.unwritten honest))
 
 pub returns-in-Err-clause-halves : goal.returns-in-Err-clause-halves
 returns-in-Err-clause-halves g c = λ honest run runs.
-    NotOpened (refused_opening c.in-Err.fault c.of_opening.result c.of_opening.ensures)
-    (c.open.ensures.moments honest) (c.in-Err.ensures.unwritten honest)
+    NotOpened (left_closed c.in-Err.fault c.of_opening.result _ _ _ _ c.of_opening.ensures (c.open.ensures.moments honest) (c.in-Err.ensures.unwritten honest))
 
 pub returns-in-Ok-clause-unwritten : goal.returns-in-Ok-clause-unwritten
 returns-in-Ok-clause-unwritten g c = λ honest is.

@@ -13,7 +13,7 @@ use Rattle.machine.specs.Ends.{LacksRoom}
 use Rattle.run_unit.specs.declared.ended.Ended.TheVariants.{Refused}
 use Rattle.run_unit.specs.Volume.{Unopened, NotOpened, lacks_half, lacks_either}
 use Rattle.run_unit.proofs.Moments.{room_under}
-use Rattle.run_unit.proofs.Opening.{read_cause, refused_opening, no_layout}
+use Rattle.run_unit.proofs.Opening.{read_cause, left_closed, no_layout}
 use Rattle.run_unit.proofs.Opening.{given_after, given_later, present_after, unwritten_then, lacks_trees, ran_on, on_volume_then, on_halves_then, on_either}
 use Rattle.run_unit.proofs.volume.run_on_volume.Goals as goal
 
@@ -97,13 +97,11 @@ returns-in_default-clause-sound g c = λ honest files held is.
 
 pub returns-in_default-clause-volume : goal.returns-in_default-clause-volume
 returns-in_default-clause-volume g c = λ honest files held run runs.
-    Unopened (refused_opening c.in-Err.fault c.of_opening.result c.of_opening.ensures)
-    (c.open.ensures.moments honest) (c.in-Err.ensures.unwritten honest)
+    Unopened (left_closed c.in-Err.fault c.of_opening.result _ _ _ _ c.of_opening.ensures (c.open.ensures.moments honest) (c.in-Err.ensures.unwritten honest))
 
 pub returns-in_default-clause-halves : goal.returns-in_default-clause-halves
 returns-in_default-clause-halves g c = λ honest halves run runs.
-    NotOpened (refused_opening c.in-Err.fault c.of_opening.result c.of_opening.ensures)
-    (c.open.ensures.moments honest) (c.in-Err.ensures.unwritten honest)
+    NotOpened (left_closed c.in-Err.fault c.of_opening.result _ _ _ _ c.of_opening.ensures (c.open.ensures.moments honest) (c.in-Err.ensures.unwritten honest))
 
 -- ---- damage
 
