@@ -450,7 +450,8 @@ module _ (program : Program) (keep : program_rules program ≡ []) where
             ∙ behind_at (map data_item items) (map (sent_entry items) files) k (sent_entry items file) (map_at (sent_entry items) files k file here);
       }
 
-  entries_same : table.entries_of code.tables code.files ≡ entries_of files
+  -- The table of files has the entries of the program's files.
+  pub entries_same : table.entries_of code.tables code.files ≡ entries_of files
   entries_same =
       ap (table.entries_of code.tables) files_are ∙ entries_are items areas program.files code.tables item_entries program.selects selects_keep
 

@@ -2,7 +2,10 @@
 
 ghost use Rattle.std.specs.Prelude.{◌≡◌, length, IfOk};
 ghost use Rattle.source_tree.specs.Given.{Given};
+ghost use Rattle.source_tree.specs.Setting.{scope};
+ghost use Rattle.source_tree.specs.ProgramFiles as described;
 ghost use Rattle.source_tree.specs.Meaning.{Run, meaning};
+ghost use Rattle.file_tables.specs.Files.{entries_of};
 ghost use Rattle.code_image.specs.Demands.{IsVerified};
 ghost use Rattle.code_image.specs.Table.{Runs};
 ghost use Rattle.codegen.specs.Layout.{code_of};
@@ -23,6 +26,8 @@ pub fn generate(alloc: Global, checked: &Checked<'_>) -> Result<Code, AllocError
     ensures ends_only { IfOk result (λ code. (given : Given) (run : Run) → Runs code given run → run ≡ meaning checked.now given) }
     // There is one file for each SELECT.
     ensures files { IfOk result (λ code. length code.files ≡ length checked.now.selects) }
+    // Each file is what its SELECT and FD say.
+    ensures entries { IfOk result (λ code. entries_of code.tables code.files ≡ described.entries_of (scope checked.now).files) }
     // A machine can run it.
     ensures verified { IfOk result (λ code. IsVerified code) }
 {

@@ -14,11 +14,12 @@ use Rattle.run_unit.specs.declared.ended.Refusal.{Refusal}
 use Rattle.run_unit.specs.declared.ended.Refusal.TheVariants.{Image, Device, Full, Damaged, Memory}
 use Rattle.run_unit.specs.declared.ended.Ended.{Ended}
 use Rattle.run_unit.specs.declared.ended.Ended.TheVariants.{Stopped, Budget, Faulted, Refused}
+use Rattle.file_tables.specs.Files.{entries_of}
 use Rattle.code_image.specs.declared.code.Code.{Code}
 use Rattle.code_image.specs.Spelling.{spelling, HasSpelling}
 use Rattle.code_image.specs.Reading.{code_at}
 use Rattle.code_image.specs.Table.{Runs}
-use Rattle.run_unit.specs.Images.{IsImageOf, IsImage, RefusesImage, MeansAs}
+use Rattle.run_unit.specs.Images.{IsImageOf, IsImage, RefusesImage, MeansAs, entries_of_tree}
 use Rattle.run_unit.proofs.Results.{value}
 
 -- what `spelling_law` says
@@ -62,11 +63,11 @@ end_of_image spelt image (Refused Memory) is for = tt
 
 -- what is written of a tree's code is an image that means the same
 pub made : (tree : Program) (code : Code) (written : Result (Vec ℕ Global) AllocError) → ((given : Given) → Runs code given (meaning tree given))
-    → length code.files ≡ length tree.selects → IsVerified code
+    → length code.files ≡ length tree.selects → entries_of code.tables code.files ≡ entries_of_tree tree → IsVerified code
     → IfOk written (λ bytes. bytes.items ≡ spelling code) → OnOk written (HasSpelling code) → IfOk written (λ image. MeansAs tree image.items)
-made tree code (Ok image) ends files verified bytes spelt =
-    record { code = code; is = record { bytes = bytes; spelt = spelt; verified = verified }; files = files; runs = ends }
-made tree code (Err e) ends files verified bytes spelt = tt
+made tree code (Ok image) ends files entries verified bytes spelt =
+    record { code = code; is = record { bytes = bytes; spelt = spelt; verified = verified }; files = files; entries = entries; runs = ends }
+made tree code (Err e) ends files entries verified bytes spelt = tt
 
 -- of two lists of one length both are empty, or none
 pub none_too : {A B : Type 0} (xs : List A) (ys : List B) → length xs ≡ length ys → ys ≡ [] → xs ≡ []

@@ -99,7 +99,5 @@ module _ (source image : List ℕ) (compiled : IsCompiled source image) where
   pub compiled_runs : OneTreeOfText → (call : Call) → ImageRuns image call → TextRuns source call
   compiled_runs one call runs tree is =
       let has = compiled_tree one tree is in
-      let entries : List Entry = entries_of has.code.tables has.code.files in (
-        entries,
-        subst (λ (count : ℕ). RunsAsMeant entries (meaning tree) count call) has.files (runs has.code has.is (meaning tree) has.runs),
-      )
+      subst (λ (entries : List Entry). RunsAsMeant entries (meaning tree) (length tree.selects) call) has.entries
+      (subst (λ (count : ℕ). RunsAsMeant (entries_of has.code.tables has.code.files) (meaning tree) count call) has.files (runs has.code has.is (meaning tree) has.runs))

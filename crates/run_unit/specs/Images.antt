@@ -3,7 +3,11 @@ use Rattle.std.specs.Prelude.{◌≡◌, ◌⊎◌, ℕ, List, length, Vec, Resu
 use Rattle.std.specs.declared.alloc.Global.{Global}
 use Rattle.source_tree.specs.declared.program.Program.{Program}
 use Rattle.source_tree.specs.Given.{Given}
+use Rattle.source_tree.specs.Setting.{scope}
+use Rattle.source_tree.specs.ProgramFiles as described
 use Rattle.source_tree.specs.Meaning.{Run, meaning}
+use Rattle.records.specs.Connector.{Entry}
+use Rattle.file_tables.specs.Files.{entries_of}
 use Rattle.code_image.specs.declared.code.Code.{Code}
 use Rattle.image_tables.specs.declared.fault.ImageFault.{ImageFault}
 use Rattle.code_image.specs.Spelling.{spelling, HasSpelling}
@@ -26,11 +30,16 @@ pub record HasRun (image : List ℕ) (given : Given) (run : Run) : Type 0 where
   pub is : IsImageOf image code
   pub runs : Runs code given run
 
--- The image has as many files as the tree, and whatever it is given, its run is what the tree means.
+-- what the tree's SELECTs and FDs say of its files
+abbrev pub entries_of_tree : Program → List Entry
+entries_of_tree tree = described.entries_of (scope tree).files
+
+-- The image has the files that the tree describes, and whatever it is given, its run is what the tree means.
 pub record MeansAs (tree : Program) (image : List ℕ) : Type 0 where
   pub code : Code
   pub is : IsImageOf image code
   pub files : length code.files ≡ length tree.selects
+  pub entries : entries_of code.tables code.files ≡ entries_of_tree tree
   pub runs : (given : Given) → Runs code given (meaning tree given)
 
 -- The bytes are an image of the source text's tree: whatever it is given, its run is what the tree means.

@@ -13,7 +13,7 @@ use Rattle.file_tables.specs.Files.{entries_of}
 use Rattle.code_image.specs.Table.{Runs}
 use Rattle.machine.specs.Ends.{LacksRoom}
 use Rattle.run_unit.specs.Trees.{IsTreeOf}
-use Rattle.run_unit.specs.Images.{IsImageOf}
+use Rattle.run_unit.specs.Images.{IsImageOf, entries_of_tree}
 use Rattle.run_unit.specs.Alone.{RunsAlone}
 use Rattle.run_unit.specs.Volume.{RunsOnVolume, RunsOnHalves, IsOfHalves, lacks_either}
 use Rattle.run_unit.specs.declared.ended.Refusal.TheVariants.{Damaged}
@@ -78,7 +78,7 @@ ImageRuns image call = (code : Code) → IsImageOf image code
     → (means : Given → Run) → ((given : Given) → Runs code given (means given))
     → RunsAsMeant (entries_of code.tables code.files) means (length code.files) call
 
--- The call runs a source text: what its tree means, on files as its image says them.
+-- The call runs a source text: what its tree means, on the files that the tree describes.
 abbrev pub TextRuns : List ℕ → Call → Type 0
 TextRuns source call = (tree : Program) → IsTreeOf source tree
-    → (entries : List Entry) × RunsAsMeant entries (meaning tree) (length tree.selects) call
+    → RunsAsMeant (entries_of_tree tree) (meaning tree) (length tree.selects) call

@@ -2,6 +2,9 @@ use Rattle.std.proofs.Common.{◌≡◌, [], length, ap, sym, subst, ◌∙◌}
 use Rattle.source_tree.specs.declared.program.Program.{Program}
 use Rattle.source_tree.specs.EntryRules.{entry_rules}
 use Rattle.source_tree.specs.Meaning.{meaning}
+use Rattle.source_tree.specs.Setting.{scope}
+use Rattle.source_tree.specs.ProgramFiles as described
+use Rattle.file_tables.specs.Files.{entries_of}
 use Rattle.code_image.specs.declared.code.Code.{Code}
 use Rattle.code_image.specs.Demands.{IsVerified}
 use Rattle.code_image.specs.Table.{Runs}
@@ -9,7 +12,7 @@ use Rattle.code_image.proofs.Determinism.{one_run}
 use Rattle.declarations.specs.Named.{Declares}
 use Rattle.codegen.specs.Layout.{code_of}
 use Rattle.codegen.proofs.Declared.{code_by, entries_by, sections_by}
-use Rattle.codegen.proofs.Verified.{entries_kept, sections_kept, files_counted, verified}
+use Rattle.codegen.proofs.Verified.{entries_kept, sections_kept, files_counted, entries_same, verified}
 use Rattle.codegen.proofs.Meaning.{runs}
 use Rattle.codegen.proofs.program.generate.Goals as goal
 
@@ -61,6 +64,14 @@ returns-clause-files c =
     code_by program c.declarations-declarations.result.now c.declarations-declarations.ensures.program c.program-program.result.now c.as_slice.result.now
     c.in_ok-code.code c.emit_sections.new.code c.emit_end.new.code c.program-program.ensures.same c.as_slice.ensures c.in_ok-code.ensures c.in_ok-emit_sections.ensures c.in_ok-emit_end.ensures in
     ap (λ (code : Code). length code.files) e ∙ files_counted program c.program-program.ensures.kept
+
+pub returns-clause-entries : goal.returns-clause-entries
+returns-clause-entries c =
+    let program = c.args.checked.now in
+    let e : c.emit_end.new.code ≡ code_of program =
+    code_by program c.declarations-declarations.result.now c.declarations-declarations.ensures.program c.program-program.result.now c.as_slice.result.now
+    c.in_ok-code.code c.emit_sections.new.code c.emit_end.new.code c.program-program.ensures.same c.as_slice.ensures c.in_ok-code.ensures c.in_ok-emit_sections.ensures c.in_ok-emit_end.ensures in
+    subst (λ (code : Code). entries_of code.tables code.files ≡ described.entries_of (scope program).files) (sym e) (entries_same program c.program-program.ensures.kept)
 
 pub returns-clause-verified : goal.returns-clause-verified
 returns-clause-verified c =
