@@ -1,4 +1,5 @@
 """What the tools know of the repository: its crates, what each needs, and the folders of their sources."""
+import functools
 import importlib.machinery
 import importlib.util
 import os
@@ -54,6 +55,7 @@ def find_on_path(command):
     return None
 
 
+@functools.cache
 def toolchain_library():
     """The toolchain's own reader of crates.txt, a Python module."""
     path = f"{os.path.dirname(find_on_path('rt'))}/rtlib.py"

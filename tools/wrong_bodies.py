@@ -127,13 +127,22 @@ def owners_of(functions, file, line, text):
 
 
 def put_together(folder, edits):
-    """The files that some wrong bodies change, each with its text before and after."""
-    texts = {}
+    """The files that some wrong bodies change, each with its text before and after. What one writes is no old text of another."""
+    changes = {}
     for edit in edits:
         for file, _, old, new in edit.changes:
-            before, after = texts.get(file) or [read(f"{folder}/{file}")] * 2
-            texts[file] = before, after.replace(old, new)
-    return texts
+            changes.setdefault(file, []).append((old, new))
+    return {file: (text := read(f"{folder}/{file}"), replaced(text, pairs)) for file, pairs in changes.items()}
+
+
+def replaced(text, pairs):
+    """The text with new texts in the places of old ones, each of which stands in it once."""
+    places = sorted((text.index(old), old, new) for old, new in pairs)
+    parts, end = [], 0
+    for place, old, new in places:
+        parts += [text[end:place], new]
+        end = place + len(old)
+    return "".join([*parts, text[end:]])
 
 
 # ---- what a check says
@@ -143,9 +152,14 @@ def is_proved(text):
     return bool(re.search(r"^(logic=proved|only=(\d+) proved=\2$)", text, re.M))
 
 
+def has_verdict(text):
+    """Whether a check came to a verdict: what it can't compile, it doesn't prove or refuse."""
+    return bool(re.search(r"^(logic|only)=", text, re.M))
+
+
 def judge(edit, text):
     """What a check says of a wrong body: `refused: ..`, or why it isn't."""
-    if not re.search(r"^(logic|only)=", text, re.M):
+    if not has_verdict(text):
         limit = LIMIT.search(text)
         return f"NOT KNOWN: {limit[0]}" if limit else f"DOESN'T COMPILE: {first_error(text)}"
     lines = text.split("\n")
@@ -169,6 +183,16 @@ def judge_by_test(edit, text):
     return f"NOT KNOWN: the test {edit.test} didn't run: {first_error(text)}"
 
 
+def culprits(edits, text):
+    """Those of these wrong bodies whose functions a check can't compile."""
+    places = re.findall(r"^(?:\./)?(src/\S+?):(\d+):\d+: error", text, re.M)
+    return [edit for edit in edits if any(has_line(edit, file, int(line)) for file, line in places)]
+
+
+def has_line(edit, file, line):
+    return any(one.file == file and one.first <= line <= one.last for one in edit.functions)
+
+
 def first_error(text):
     """The first line that reports an error, or an unproved function."""
     lines = [line for line in text.split("\n") if re.search(r": error|^error|not proved", line)]
@@ -178,7 +202,7 @@ def first_error(text):
 def goals_in(edit, line):
     """The goals of the wrong body's own functions that a line says are open or false."""
     if match := re.match(r"note: (src/\S+?):(\d+):\d+: it is not proved that .*?(\(`([^`]+)`\)|$)(.*)", line):
-        if any(one.file == match[1] and one.first <= int(match[2]) <= one.last for one in edit.functions):
+        if has_line(edit, match[1], int(match[2])):
             return [f"{place_of(edit, match)}: {match[4] or 'a goal'}{' is false' if 'is false' in match[5] else ' is open'}"]
     elif match := re.match(r"note: `([^`]+)` of (proofs/\S+?) may be false", line):
         if is_of_proof(edit, match[2]):
