@@ -6,11 +6,10 @@ use Rattle.source_tree.specs.Rules.{sections_rules, procedure_rules, all_permitt
 use Rattle.source_tree.specs.Setting.{scope}
 use Rattle.entry_rules.specs.Checks.{fault_of}
 use Rattle.declarations.specs.Declaring.{declaration_rules}
-use Rattle.declarations.specs.Kept.{KeepsRules}
+use Rattle.declarations.specs.Named.{Declares, IsDeclared}
 use Rattle.declarations.proofs.Firsts.{is_first_front}
 use Rattle.check_rules.proofs.Told.{told_first}
 use Rattle.check_rules.proofs.program.check.Goals as goal
-use Rattle.check_rules.proofs.program.check.Goals.{In_ok-declarations-2}
 
 pub returns-in_err-declarations-clause-exact : goal.returns-in_err-declarations-clause-exact
 returns-in_err-declarations-clause-exact c =
@@ -34,21 +33,38 @@ nothing_failed first (Err e) held other h = absurd cc
 at_ok : {A E : Type 0} {P : Type 0} (r : Result A E) (x : A) → OnOk r P → r ≡ Ok x → P
 at_ok {P} r x h e = subst (λ r. OnOk r P) e h
 
-ruled : (c : In_ok-declarations-2) → (c.in_ok-declarations-2.declarations ≡ c.in_ok-declarations.declarations) × (c.procedure_division_rules-ruled.result ≡ Ok tt)
-ruled c = nothing_failed c.in_ok-declarations.declarations c.procedure_division_rules-ruled.result c.in_ok-declarations-2.declarations tt (sym c.beside.ensures ∙ c.in_ok-declarations-2.was)
+pub new-requires-clause-kept : goal.new-requires-clause-kept
+new-requires-clause-kept c =
+    let held = nothing_failed c.in_ok-declarations.declarations c.procedure_division_rules-ruled.result c.in_ok-declarations-2.declarations tt
+    (sym c.beside.ensures ∙ c.in_ok-declarations-2.was) in
+    at_ok c.procedure_division_rules-ruled.result tt c.procedure_division_rules-ruled.ensures.kept held.1
+
+pub new-requires-clause-order : goal.new-requires-clause-order
+new-requires-clause-order c =
+    let held = nothing_failed c.in_ok-declarations.declarations c.procedure_division_rules-ruled.result c.in_ok-declarations-2.declarations tt
+    (sym c.beside.ensures ∙ c.in_ok-declarations-2.was) in
+    at_ok c.procedure_division_rules-ruled.result tt c.procedure_division_rules-ruled.ensures.order held.1
+
+pub new-requires-clause-program : goal.new-requires-clause-program
+new-requires-clause-program c =
+    let held = nothing_failed c.in_ok-declarations.declarations c.procedure_division_rules-ruled.result c.in_ok-declarations-2.declarations tt
+    (sym c.beside.ensures ∙ c.in_ok-declarations-2.was) in
+    subst (Declares c.args.program.now) (sym held.0) c.in_ok-declarations.ensures.program
+
+pub new-requires-clause-declared : goal.new-requires-clause-declared
+new-requires-clause-declared c =
+    let held = nothing_failed c.in_ok-declarations.declarations c.procedure_division_rules-ruled.result c.in_ok-declarations-2.declarations tt
+    (sym c.beside.ensures ∙ c.in_ok-declarations-2.was) in
+    subst IsDeclared (sym held.0) c.in_ok-declarations.ensures.declared
 
 pub returns-clause-kept : goal.returns-clause-kept
-returns-clause-kept c = at_ok c.procedure_division_rules-ruled.result tt c.procedure_division_rules-ruled.ensures.kept (ruled c).1
+returns-clause-kept c =
+    let held = nothing_failed c.in_ok-declarations.declarations c.procedure_division_rules-ruled.result c.in_ok-declarations-2.declarations tt
+    (sym c.beside.ensures ∙ c.in_ok-declarations-2.was) in
+    at_ok c.procedure_division_rules-ruled.result tt c.procedure_division_rules-ruled.ensures.kept held.1
 
 pub returns-clause-order : goal.returns-clause-order
-returns-clause-order c = at_ok c.procedure_division_rules-ruled.result tt c.procedure_division_rules-ruled.ensures.order (ruled c).1
-
-pub invariant_of-result : goal.invariant_of-result
-invariant_of-result c =
-    let h = ruled c in
-    subst (KeepsRules c.args.program.now) (sym h.0) (record {
-      rules = at_ok c.procedure_division_rules-ruled.result tt c.procedure_division_rules-ruled.ensures.kept h.1;
-      order = at_ok c.procedure_division_rules-ruled.result tt c.procedure_division_rules-ruled.ensures.order h.1;
-      declares = c.in_ok-declarations.ensures.program;
-      declared = c.in_ok-declarations.ensures.declared;
-    })
+returns-clause-order c =
+    let held = nothing_failed c.in_ok-declarations.declarations c.procedure_division_rules-ruled.result c.in_ok-declarations-2.declarations tt
+    (sym c.beside.ensures ∙ c.in_ok-declarations-2.was) in
+    at_ok c.procedure_division_rules-ruled.result tt c.procedure_division_rules-ruled.ensures.order held.1
