@@ -1,0 +1,32 @@
+//! Reads tables of values, computes each row by the crates that it is about, and compares what it gives with what it says.
+#![tactic(auto)]
+
+mod decimals;
+mod entry;
+mod moves;
+mod numbers;
+mod operations;
+mod pictures;
+mod table;
+mod words;
+
+use std::process::ExitCode;
+use std::{env, fs, io};
+use table::{Counts, check_table};
+
+/// The tables are the files that the words of the command name; without any, the one table is standard input.
+fn main(rt: HostRuntime) -> io::Result<ExitCode> {
+    let mut counts = Counts::default();
+    let mut named = false;
+    for path in env::args(&rt)?.skip(1) {
+        named = true;
+        let text = fs::read_to_string(&rt, path.as_str())?;
+        check_table(&rt, path.as_str(), text.as_str(), &mut counts)?;
+    }
+    if !named {
+        let text = io::read_to_string(rt.alloc(), rt.stdin())?;
+        check_table(&rt, "stdin", text.as_str(), &mut counts)?;
+    }
+    println!(rt; "{} passed, {} failed", counts.passed, counts.failed)?;
+    Ok(ExitCode::from(u8::from(counts.failed > 0)))
+}
