@@ -7,8 +7,7 @@
 //!     01 C PIC S9(3)V99.                     01 R PIC S9(3)V99.
 //!     01 B PIC Z9.9 BLANK WHEN ZERO.
 use data_instructions::{
-    DataInstruction, DataItem, DataTables, Inspection, InspectionIndex, ItemIndex, LiteralSender,
-    NumberIndex, SenderIndex, TextIndex,
+    DataInstruction, DataItem, DataTables, Inspection, ItemIndex, LiteralSender, SenderIndex,
 };
 use decimal18::Dec;
 use items::{Item, Kind, Numeric, OperationalSign, Taken, Usage};
@@ -21,12 +20,7 @@ use text_ops::{Entry, Fit, Span};
 /// `CELL (1, 1)`.
 pub const CELL: ItemIndex = ItemIndex { number: 0 };
 
-/// `NAME (1)`.
-pub const NAME: ItemIndex = ItemIndex { number: 1 };
-
 pub const I: ItemIndex = ItemIndex { number: 2 };
-
-pub const J: ItemIndex = ItemIndex { number: 3 };
 
 pub const E: ItemIndex = ItemIndex { number: 4 };
 
@@ -36,83 +30,18 @@ pub const N: ItemIndex = ItemIndex { number: 6 };
 
 pub const D: ItemIndex = ItemIndex { number: 7 };
 
-/// All of `T`.
-pub const T: ItemIndex = ItemIndex { number: 8 };
-
-pub const C: ItemIndex = ItemIndex { number: 9 };
-
-pub const R: ItemIndex = ItemIndex { number: 10 };
-
-pub const B: ItemIndex = ItemIndex { number: 11 };
-
 /// The subscript of a row.
 pub const ROW: DataInstruction = DataInstruction::Index {
     stride: 24,
     count: 3,
 };
 
-/// The subscript of a cell in its row.
-pub const COLUMN: DataInstruction = DataInstruction::Index {
-    stride: 5,
-    count: 4,
-};
-
-/// 1 and 2.
-pub const ONE: NumberIndex = NumberIndex { number: 0 };
-
-pub const TWO: NumberIndex = NumberIndex { number: 1 };
-
-/// 5, 7, -7, 20, 99, 999, 1.005, 12345.678, 999.995 and 0.
-pub const FIVE: NumberIndex = NumberIndex { number: 2 };
-
-pub const SEVEN: NumberIndex = NumberIndex { number: 3 };
-
-pub const SEVEN_LESS: NumberIndex = NumberIndex { number: 4 };
-
-pub const TWENTY: NumberIndex = NumberIndex { number: 5 };
-
-pub const NINETY_NINE: NumberIndex = NumberIndex { number: 6 };
-
-pub const MANY: NumberIndex = NumberIndex { number: 7 };
-
-pub const LITTLE_MORE: NumberIndex = NumberIndex { number: 8 };
-
-pub const LONG: NumberIndex = NumberIndex { number: 9 };
-
-pub const NEARLY: NumberIndex = NumberIndex { number: 10 };
-
-pub const NOTHING: NumberIndex = NumberIndex { number: 11 };
-
-/// `"AB"`, `-12.5`, `"123456789"` and ZERO.
+/// `"AB"` and `-12.5`.
 pub const AB: SenderIndex = SenderIndex { number: 0 };
 
 pub const TWELVE: SenderIndex = SenderIndex { number: 1 };
 
-pub const DIGITS: SenderIndex = SenderIndex { number: 2 };
-
-pub const ZERO: SenderIndex = SenderIndex { number: 3 };
-
-/// 1, 3 and 5, of a digit each.
-pub const ONE_SENT: SenderIndex = SenderIndex { number: 4 };
-
-pub const THREE_SENT: SenderIndex = SenderIndex { number: 5 };
-
-pub const FIVE_SENT: SenderIndex = SenderIndex { number: 6 };
-
-/// `"E="` and `"|"`.
-pub const LABEL: TextIndex = TextIndex { number: 0 };
-
-pub const BAR: TextIndex = TextIndex { number: 1 };
-
-/// `"WXYZ"`, of which the first and the third character are marked by the text behind it.
-pub const MARKED: TextIndex = TextIndex { number: 2 };
-
-/// `"A"` and `"XAB  Y"`.
-pub const A: TextIndex = TextIndex { number: 4 };
-
-pub const SPREAD: TextIndex = TextIndex { number: 5 };
-
-pub fn number(digits: u8, scale: u8, sign: OperationalSign) -> Kind {
+fn number(digits: u8, scale: u8, sign: OperationalSign) -> Kind {
     Kind::Numeric(Numeric {
         digits,
         scale,
@@ -242,9 +171,7 @@ fn numbers(rt: &impl Abort, alloc: Global) -> Items<Dec> {
     numbers
 }
 
-/// A text that is counted and replaced by the one behind it in the line, both of one character.
-pub const INSPECTION: InspectionIndex = InspectionIndex { number: 0 };
-
+/// A text that is counted and replaced by the one behind it, both of one character.
 fn inspections(rt: &impl Abort, alloc: Global) -> Items<Inspection> {
     let sought = Span {
         start: 0,
