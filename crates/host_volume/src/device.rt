@@ -1,7 +1,8 @@
 //! A device over a volume of the host. It counts its failures and claims nothing more.
 //!
-//! Writes to adjacent sectors are gathered, and given to the host by one call: when a write isn't adjacent, at a read, at a sync, and when
-//! the volume is asked for. So the host sees the same writes in the same order, and each of them before the sync behind it.
+//! Writes to adjacent sectors behind the roots are gathered, and given to the host by one call: when a write isn't adjacent, at a read, at
+//! a sync, and when the volume is asked for. So the host sees the same writes in the same order, and each of them before the sync behind
+//! it.
 
 ghost use Rattle.std.specs.Prelude.{◌≡◌, [], IfOk, OnOk};
 ghost use Rattle.station.specs.Failures.{CountsFailure};
@@ -14,6 +15,9 @@ use crate::volume::HostVolume;
 use station::{Device, DeviceError};
 use std::alloc::Global;
 use std::io;
+
+/// How many roots a volume has. A root is written by itself and synced, so it isn't gathered.
+const ROOTS: u32 = 2;
 
 #[derive(Drop)]
 pub struct HostDevice {
@@ -124,10 +128,9 @@ impl Device for HostDevice {
 
     fn write(&mut self, sector: u32, bytes: &[u8; 4096]) -> Result<(), DeviceError> {
         self.make_place_for(sector)?;
-        if self.gathered.add(sector, bytes).is_ok() {
+        if sector >= ROOTS && self.gathered.add(sector, bytes).is_ok() {
             return Ok(());
         }
-        // Memory has no place for it.
         self.write_gathered()?;
         let done = self.volume.write(sector, bytes);
         self.count_failure(done)
