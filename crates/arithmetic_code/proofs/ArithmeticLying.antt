@@ -22,13 +22,13 @@ module _ (items : List Placed) (whole : Code) (entries : (n : ℕ) (one : Placed
   lie_operands : (all : List Operand) → each (number_rules items) all ≡ [] → LieOperands items whole.tables all
   lie_operands [] e = tt
   lie_operands (one ∷ more) e =
-      (lies_operand items whole entries lie one (left_none (number_rules items one) (each (number_rules items) more) e), lie_operands more (right_none (number_rules items one) (each (number_rules items) more) e))
+      (lies_operand one (left_none (number_rules items one) (each (number_rules items) more) e), lie_operands more (right_none (number_rules items one) (each (number_rules items) more) e))
 
   lie_receivers : (asked : Place → Placed → List Broken) (all : List Receiver) → each (λ (one : Receiver). item_rules items asked one.item) all ≡ [] → LieReceivers items whole.tables all
   lie_receivers asked [] e = tt
   lie_receivers asked (one ∷ more) e =
       let rules = λ (one : Receiver). item_rules items asked one.item in
-      (lies_all items whole entries lie asked one.item (left_none (rules one) (each rules more) e), lie_receivers asked more (right_none (rules one) (each rules more) e))
+      (lies_all asked one.item (left_none (rules one) (each rules more) e), lie_receivers asked more (right_none (rules one) (each rules more) e))
 
   pub lies_operation : (one : Operation) → operation_rules items one ≡ [] → LiesOperation items whole.tables one
   lies_operation (Add operands receivers) e =
@@ -48,27 +48,27 @@ module _ (items : List Placed) (whole : Code) (entries : (n : ℕ) (one : Placed
       let b = number_rules items minuend in
       let c = given_rules items receivers in
       let f = left_none (a ++ b) c e in
-      (lie_operands operands (left_none a b f), lies_operand items whole entries lie minuend (right_none a b f), lie_receivers number_receiver receivers (right_none (a ++ b) c e))
+      (lie_operands operands (left_none a b f), lies_operand minuend (right_none a b f), lie_receivers number_receiver receivers (right_none (a ++ b) c e))
   lies_operation (Multiply factor receivers) e =
       let a = number_rules items factor in
       let b = updated_rules items receivers in
-      (lies_operand items whole entries lie factor (left_none a b e), lie_receivers numeric_item receivers (right_none a b e))
+      (lies_operand factor (left_none a b e), lie_receivers numeric_item receivers (right_none a b e))
   lies_operation (MultiplyGiving factor by receivers) e =
       let a = number_rules items factor in
       let b = number_rules items by in
       let c = given_rules items receivers in
       let f = left_none (a ++ b) c e in
-      (lies_operand items whole entries lie factor (left_none a b f), lies_operand items whole entries lie by (right_none a b f), lie_receivers number_receiver receivers (right_none (a ++ b) c e))
+      (lies_operand factor (left_none a b f), lies_operand by (right_none a b f), lie_receivers number_receiver receivers (right_none (a ++ b) c e))
   lies_operation (Divide divisor receivers) e =
       let a = number_rules items divisor in
       let b = updated_rules items receivers in
-      (lies_operand items whole entries lie divisor (left_none a b e), lie_receivers numeric_item receivers (right_none a b e))
+      (lies_operand divisor (left_none a b e), lie_receivers numeric_item receivers (right_none a b e))
   lies_operation (DivideGiving one order two receivers) e =
       let a = number_rules items one in
       let b = number_rules items two in
       let c = given_rules items receivers in
       let f = left_none (a ++ b) c e in
-      (lies_operand items whole entries lie one (left_none a b f), lies_operand items whole entries lie two (right_none a b f), lie_receivers number_receiver receivers (right_none (a ++ b) c e))
+      (lies_operand one (left_none a b f), lies_operand two (right_none a b f), lie_receivers number_receiver receivers (right_none (a ++ b) c e))
   lies_operation (DivideRemainder one order two quotient remainder) e =
       let a = number_rules items one in
       let b = number_rules items two in
@@ -76,5 +76,5 @@ module _ (items : List Placed) (whole : Code) (entries : (n : ℕ) (one : Placed
       let d = item_rules items number_receiver remainder in
       let f = left_none (a ++ b ++ c) d e in
       let g = left_none (a ++ b) c f in
-      (lies_operand items whole entries lie one (left_none a b g), lies_operand items whole entries lie two (right_none a b g), lies_all items whole entries lie number_receiver quotient.item (right_none (a ++ b) c f), lies_all items whole entries lie number_receiver remainder (right_none (a ++ b ++ c) d e))
+      (lies_operand one (left_none a b g), lies_operand two (right_none a b g), lies_all number_receiver quotient.item (right_none (a ++ b) c f), lies_all number_receiver remainder (right_none (a ++ b ++ c) d e))
   lies_operation (Compute receivers value) e = lie_receivers number_receiver receivers (left_none (given_rules items receivers) (expression_rules items value) e)

@@ -69,31 +69,31 @@ module _ (items : List Placed) where
     updated_straight value by receivers straight = done_straight value (updates_piece items keep by receivers) (discard ∷ []) straight (in_order_straight (update_piece items keep by) (update_straight by) receivers)
 
     operation_straight : (one : Operation) → AlwaysStraight (operation_piece items keep one)
-    operation_straight (Add operands receivers) = updated_straight (total_piece items operands) operator.Add receivers (total_straight items operands)
-    operation_straight (AddGiving operands receivers) = done_straight (total_piece items operands) (gives_piece items keep receivers) (discard ∷ []) (total_straight items operands) (gives_straight receivers)
-    operation_straight (Subtract operands receivers) = updated_straight (total_piece items operands) operator.Subtract receivers (total_straight items operands)
+    operation_straight (Add operands receivers) = updated_straight (total_piece items operands) operator.Add receivers (total_straight operands)
+    operation_straight (AddGiving operands receivers) = done_straight (total_piece items operands) (gives_piece items keep receivers) (discard ∷ []) (total_straight operands) (gives_straight receivers)
+    operation_straight (Subtract operands receivers) = updated_straight (total_piece items operands) operator.Subtract receivers (total_straight operands)
     operation_straight (SubtractGiving operands minuend receivers) =
         let all = duplicate 1 ∷ i.Calculate c.Subtract ∷ [] in
         let last = discard ∷ discard ∷ [] in
-        two_straight (total_piece items operands) (value_piece items minuend) (both (works_piece all) (both (gives_piece items keep receivers) (works_piece last))) (total_straight items operands) (value_straight items minuend)
+        two_straight (total_piece items operands) (value_piece items minuend) (both (works_piece all) (both (gives_piece items keep receivers) (works_piece last))) (total_straight operands) (value_straight minuend)
         (between_straight all (gives_piece items keep receivers) last (gives_straight receivers))
-    operation_straight (Multiply factor receivers) = updated_straight (value_piece items factor) operator.Multiply receivers (value_straight items factor)
+    operation_straight (Multiply factor receivers) = updated_straight (value_piece items factor) operator.Multiply receivers (value_straight factor)
     operation_straight (MultiplyGiving factor by receivers) =
         let all = i.Calculate c.Multiply ∷ [] in
         let last = discard ∷ [] in
-        two_straight (value_piece items factor) (value_piece items by) (both (works_piece all) (both (gives_piece items keep receivers) (works_piece last))) (value_straight items factor) (value_straight items by)
+        two_straight (value_piece items factor) (value_piece items by) (both (works_piece all) (both (gives_piece items keep receivers) (works_piece last))) (value_straight factor) (value_straight by)
         (between_straight all (gives_piece items keep receivers) last (gives_straight receivers))
-    operation_straight (Divide divisor receivers) = updated_straight (value_piece items divisor) operator.Divide receivers (value_straight items divisor)
+    operation_straight (Divide divisor receivers) = updated_straight (value_piece items divisor) operator.Divide receivers (value_straight divisor)
     operation_straight (DivideGiving one way two receivers) =
         let all = i.Calculate c.Divide ∷ [] in
         let last = discard ∷ [] in
         let inner = both (works_piece all) (both (gives_piece items keep receivers) (works_piece last)) in
-        two_straight (value_piece items one) (value_piece items two) (division_piece way inner) (value_straight items one) (value_straight items two)
+        two_straight (value_piece items one) (value_piece items two) (division_piece way inner) (value_straight one) (value_straight two)
         (division_straight way inner (between_straight all (gives_piece items keep receivers) last (gives_straight receivers)))
     operation_straight (DivideRemainder one way two quotient remainder) =
         let inner = remainder_piece items keep quotient remainder in
-        two_straight (value_piece items one) (value_piece items two) (division_piece way inner) (value_straight items one) (value_straight items two) (division_straight way inner (remainder_straight quotient remainder))
-    operation_straight (Compute receivers value) = done_straight (expression_piece items value) (gives_piece items keep receivers) (discard ∷ []) (expression_straight items value) (gives_straight receivers)
+        two_straight (value_piece items one) (value_piece items two) (division_piece way inner) (value_straight one) (value_straight two) (division_straight way inner (remainder_straight quotient remainder))
+    operation_straight (Compute receivers value) = done_straight (expression_piece items value) (gives_piece items keep receivers) (discard ∷ []) (expression_straight value) (gives_straight receivers)
 
     pub arithmetic_straight : (one : Operation) → AlwaysStraight (arithmetic_piece items keep one)
     arithmetic_straight one = both_straight (work_piece i.ClearTruth) (operation_piece items keep one) (work_straight i.ClearTruth) (operation_straight one)

@@ -61,31 +61,31 @@ module _ (items : List Placed) where
     -- two operands, and what comes behind them
     operands_blind : (first second : Operand) (inner : Piece) → Blind inner → Blind (both (value_piece items first) (both (value_piece items second) inner))
     operands_blind first second inner f =
-        both_blind (value_piece items first) (both (value_piece items second) inner) (value_blind items first) (both_blind (value_piece items second) inner (value_blind items second) f)
+        both_blind (value_piece items first) (both (value_piece items second) inner) (value_blind first) (both_blind (value_piece items second) inner (value_blind second) f)
 
     operation_blind : (one : Operation) → Blind (operation_piece items keep one)
     operation_blind (Add operands receivers) =
-        both_blind (total_piece items operands) (both (updates_piece items keep operator.Add receivers) (discard_piece items keep)) (total_blind items operands) (updated_blind operator.Add receivers)
+        both_blind (total_piece items operands) (both (updates_piece items keep operator.Add receivers) (discard_piece items keep)) (total_blind operands) (updated_blind operator.Add receivers)
     operation_blind (AddGiving operands receivers) =
-        both_blind (total_piece items operands) (both (gives_piece items keep receivers) (discard_piece items keep)) (total_blind items operands) (given_blind (discard ∷ []) receivers)
+        both_blind (total_piece items operands) (both (gives_piece items keep receivers) (discard_piece items keep)) (total_blind operands) (given_blind (discard ∷ []) receivers)
     operation_blind (Subtract operands receivers) =
-        both_blind (total_piece items operands) (both (updates_piece items keep operator.Subtract receivers) (discard_piece items keep)) (total_blind items operands)
+        both_blind (total_piece items operands) (both (updates_piece items keep operator.Subtract receivers) (discard_piece items keep)) (total_blind operands)
         (updated_blind operator.Subtract receivers)
     operation_blind (SubtractGiving operands minuend receivers) =
         let works = works_piece (duplicate 1 ∷ i.Calculate c.Subtract ∷ []) in
         let gives = both (gives_piece items keep receivers) (works_piece (discard ∷ discard ∷ [])) in
-        both_blind (total_piece items operands) (both (value_piece items minuend) (both works gives)) (total_blind items operands)
-        (both_blind (value_piece items minuend) (both works gives) (value_blind items minuend)
+        both_blind (total_piece items operands) (both (value_piece items minuend) (both works gives)) (total_blind operands)
+        (both_blind (value_piece items minuend) (both works gives) (value_blind minuend)
         (both_blind works gives (works_blind (duplicate 1 ∷ i.Calculate c.Subtract ∷ [])) (given_blind (discard ∷ discard ∷ []) receivers)))
     operation_blind (Multiply factor receivers) =
-        both_blind (value_piece items factor) (both (updates_piece items keep operator.Multiply receivers) (discard_piece items keep)) (value_blind items factor)
+        both_blind (value_piece items factor) (both (updates_piece items keep operator.Multiply receivers) (discard_piece items keep)) (value_blind factor)
         (updated_blind operator.Multiply receivers)
     operation_blind (MultiplyGiving factor by receivers) =
         let gives = both (gives_piece items keep receivers) (discard_piece items keep) in
         operands_blind factor by (both (work_piece (i.Calculate c.Multiply)) gives)
         (both_blind (work_piece (i.Calculate c.Multiply)) gives (work_blind (i.Calculate c.Multiply)) (given_blind (discard ∷ []) receivers))
     operation_blind (Divide divisor receivers) =
-        both_blind (value_piece items divisor) (both (updates_piece items keep operator.Divide receivers) (discard_piece items keep)) (value_blind items divisor)
+        both_blind (value_piece items divisor) (both (updates_piece items keep operator.Divide receivers) (discard_piece items keep)) (value_blind divisor)
         (updated_blind operator.Divide receivers)
     operation_blind (DivideGiving first order second receivers) =
         let gives = both (gives_piece items keep receivers) (discard_piece items keep) in
@@ -96,7 +96,7 @@ module _ (items : List Placed) where
         operands_blind first second (division_piece order (remainder_piece items keep quotient remainder))
         (division_blind order (remainder_piece items keep quotient remainder) (remainder_blind quotient remainder))
     operation_blind (Compute receivers value) =
-        both_blind (expression_piece items value) (both (gives_piece items keep receivers) (discard_piece items keep)) (expression_blind items value) (given_blind (discard ∷ []) receivers)
+        both_blind (expression_piece items value) (both (gives_piece items keep receivers) (discard_piece items keep)) (expression_blind value) (given_blind (discard ∷ []) receivers)
 
     pub arithmetic_blind : (one : Operation) → Blind (arithmetic_piece items keep one)
     arithmetic_blind one = both_blind (work_piece i.ClearTruth) (operation_piece items keep one) (work_blind i.ClearTruth) (operation_blind one)

@@ -61,22 +61,22 @@ module _ (items : List Placed) where
     discard_piece = works_piece (discard ∷ [])
 
     abbrev pub operation_piece : Operation → Piece
-    operation_piece (Add operands receivers) = both (total_piece items operands) (both (updates_piece operator.Add receivers) discard_piece)
-    operation_piece (AddGiving operands receivers) = both (total_piece items operands) (both (gives_piece receivers) discard_piece)
-    operation_piece (Subtract operands receivers) = both (total_piece items operands) (both (updates_piece operator.Subtract receivers) discard_piece)
+    operation_piece (Add operands receivers) = both (total_piece operands) (both (updates_piece operator.Add receivers) discard_piece)
+    operation_piece (AddGiving operands receivers) = both (total_piece operands) (both (gives_piece receivers) discard_piece)
+    operation_piece (Subtract operands receivers) = both (total_piece operands) (both (updates_piece operator.Subtract receivers) discard_piece)
     operation_piece (SubtractGiving operands minuend receivers) =
-        both (total_piece items operands) (both (value_piece items minuend)
+        both (total_piece operands) (both (value_piece minuend)
         (both (works_piece (duplicate 1 ∷ i.Calculate c.Subtract ∷ [])) (both (gives_piece receivers) (works_piece (discard ∷ discard ∷ [])))))
-    operation_piece (Multiply factor receivers) = both (value_piece items factor) (both (updates_piece operator.Multiply receivers) discard_piece)
+    operation_piece (Multiply factor receivers) = both (value_piece factor) (both (updates_piece operator.Multiply receivers) discard_piece)
     operation_piece (MultiplyGiving factor by receivers) =
-        both (value_piece items factor) (both (value_piece items by) (both (work_piece (i.Calculate c.Multiply)) (both (gives_piece receivers) discard_piece)))
-    operation_piece (Divide divisor receivers) = both (value_piece items divisor) (both (updates_piece operator.Divide receivers) discard_piece)
+        both (value_piece factor) (both (value_piece by) (both (work_piece (i.Calculate c.Multiply)) (both (gives_piece receivers) discard_piece)))
+    operation_piece (Divide divisor receivers) = both (value_piece divisor) (both (updates_piece operator.Divide receivers) discard_piece)
     operation_piece (DivideGiving first order second receivers) =
-        both (value_piece items first) (both (value_piece items second)
+        both (value_piece first) (both (value_piece second)
         (division_piece order (both (work_piece (i.Calculate c.Divide)) (both (gives_piece receivers) discard_piece))))
     operation_piece (DivideRemainder first order second quotient remainder) =
-        both (value_piece items first) (both (value_piece items second) (division_piece order (remainder_piece quotient remainder)))
-    operation_piece (Compute receivers value) = both (expression_piece items value) (both (gives_piece receivers) discard_piece)
+        both (value_piece first) (both (value_piece second) (division_piece order (remainder_piece quotient remainder)))
+    operation_piece (Compute receivers value) = both (expression_piece value) (both (gives_piece receivers) discard_piece)
 
     -- an arithmetic statement, behind its `tick` and before its phrases
     abbrev pub arithmetic_piece : Operation → Piece

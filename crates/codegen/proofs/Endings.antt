@@ -19,8 +19,8 @@ module _ (whole : Code) (kept : ℕ → Type 0) where
     ending_does ending.StopRun st =
         let part = stop_run_piece line before in
         let to = end_of (joined before part) in
-        tick_does whole kept (end_of before) to line (end_of before) to cs s (finish ending.StopRun)
+        tick_does (end_of before) to line (end_of before) to cs s (finish ending.StopRun)
         (first_stands whole before part (Tick line) (Stop ∷ []) refl st) (λ t lt.
-        stop_does whole kept (end_of before) to (end_of before + 1) to cs t (second_stands whole before part (Tick line) Stop [] refl st))
-    ending_does ending.Continue st = ticks_alone whole kept line before cs s st
-    ending_does ending.Exit st = ticks_alone whole kept line before cs s st
+        stop_does (end_of before) to (end_of before + 1) to cs t (second_stands whole before part (Tick line) Stop [] refl st))
+    ending_does ending.Continue st = ticks_alone st
+    ending_does ending.Exit st = ticks_alone st

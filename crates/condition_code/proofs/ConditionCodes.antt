@@ -246,7 +246,7 @@ module _ (items : List Placed) (whole : Code) (entries : (n : ℕ) (one : Placed
 
   name_codes : (one : Reference) → condition_name_rules items one ≡ [] → CodedBy whole (IsNameCode items whole.tables one) (condition_name_piece items one)
   name_codes one e =
-      let k = keeps_name items whole entries one e in
+      let k = keeps_name one e in
       let index = condition_item items one.item in
       let dimensions = dimensions_of (slice_get items index.number) in
       let same : dimensions ≡ k.found.item.dimensions = ap dimensions_of k.item in
@@ -360,7 +360,7 @@ module _ (items : List Placed) (whole : Code) (entries : (n : ℕ) (one : Placed
 
     lies_condition : (one : Reference) → condition_name_rules items one ≡ [] → LiesCondition items whole.tables one
     lies_condition one e = λ found is.
-        let k = keeps_name items whole entries one e in
+        let k = keeps_name one e in
         let same : k.found ≡ found = same_Some k.found found (sym (ap first k.named) ∙ is) in
         subst (λ (c : NamedCondition). LiesWhole whole.tables c.item) same (lie (condition_item items one.item).number k.found.item k.item)
 

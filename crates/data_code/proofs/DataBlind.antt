@@ -54,13 +54,13 @@ line_end_blind false = constant_blind nothing
 
 module _ (items : List Placed) where
   operand_blind : (one : Operand) → Blind (operand_piece items one)
-  operand_blind (operand.Item one) = taking_blind items i.Append one
+  operand_blind (operand.Item one) = taking_blind i.Append one
   operand_blind (operand.Literal one) = text_blind (shown_literal one.value)
 
   initialize_blind : (one : Reference) → Blind (initialize_piece items one)
   initialize_blind one =
       let pattern = pattern_of (slice_get items (item_number items one.item)) in
-      both_blind (reference_piece items one) (pattern_piece pattern) (reference_blind items one) (pattern_blind pattern)
+      both_blind (reference_piece items one) (pattern_piece pattern) (reference_blind one) (pattern_blind pattern)
 
   set_blind : (one : Reference) → Blind (set_piece items one)
   set_blind one =
@@ -69,18 +69,18 @@ module _ (items : List Placed) where
       let subscripts = subscripts_piece items dimensions one.subscripts in
       let pattern = set_of (slice_get (all_conditions items) (condition_number items one.item)) in
       both_blind (work_piece place) (both subscripts (pattern_piece pattern)) (work_blind place)
-      (both_blind subscripts (pattern_piece pattern) (subscripts_blind items dimensions one.subscripts) (pattern_blind pattern))
+      (both_blind subscripts (pattern_piece pattern) (subscripts_blind dimensions one.subscripts) (pattern_blind pattern))
 
   pub moving_blind : (one : Moving) → Blind (moving_piece items one)
   moving_blind (Move sender receivers) =
-      both_blind (sender_piece items sender) (receivers_piece items receivers) (sender_blind items sender)
-      (in_order_blind (taking_piece items i.Move) (λ one. taking_blind items i.Move one) receivers)
+      both_blind (sender_piece items sender) (receivers_piece items receivers) (sender_blind sender)
+      (in_order_blind (taking_piece items i.Move) (λ one. taking_blind i.Move one) receivers)
   moving_blind (Initialize receivers) = in_order_blind (initialize_piece items) (λ one. initialize_blind one) receivers
   moving_blind (Set conditions) = in_order_blind (set_piece items) (λ one. set_blind one) conditions
 
   taken_blind : (one : Taking) → Blind (taken_piece items one)
-  taken_blind (layout.Counter one) = reference_blind items one
-  taken_blind (layout.Text (layout.Bytes one)) = taking_blind items (i.Gather g.Sized) one
+  taken_blind (layout.Counter one) = reference_blind one
+  taken_blind (layout.Text (layout.Bytes one)) = taking_blind (i.Gather g.Sized) one
   taken_blind (layout.Text (layout.Characters text)) = text_blind text
 
   inspect_blind : (one : Inspecting) → Blind (inspect_piece items one)
@@ -88,7 +88,7 @@ module _ (items : List Placed) where
       let subject = reference_piece items one.subject in
       let parts = takings_piece items (takings items one) in
       let last = inspection_piece (inspection_entry items one) in
-      both_blind subject (both parts last) (reference_blind items one.subject)
+      both_blind subject (both parts last) (reference_blind one.subject)
       (both_blind parts last (in_order_blind (taken_piece items) (λ one. taken_blind one) (takings items one)) (inspection_blind (inspection_entry items one)))
 
   pub texts_blind : (one : Text) → Blind (texts_piece items one)
@@ -97,7 +97,7 @@ module _ (items : List Placed) where
       (both_blind (operands_piece items operands) (line_end_piece advancing) (in_order_blind (operand_piece items) (λ one. operand_blind one) operands) (line_end_blind advancing))
       (constant_blind (plain (instruction.Show ∷ [])))
   texts_blind (Accept receiver) =
-      both_blind (reference_piece items receiver) (λ before. plain (instruction.Accept ∷ [])) (reference_blind items receiver) (constant_blind (plain (instruction.Accept ∷ [])))
+      both_blind (reference_piece items receiver) (λ before. plain (instruction.Accept ∷ [])) (reference_blind receiver) (constant_blind (plain (instruction.Accept ∷ [])))
   texts_blind (AcceptDate receiver) =
-      both_blind (reference_piece items receiver) (λ before. plain (instruction.Date ∷ [])) (reference_blind items receiver) (constant_blind (plain (instruction.Date ∷ [])))
+      both_blind (reference_piece items receiver) (λ before. plain (instruction.Date ∷ [])) (reference_blind receiver) (constant_blind (plain (instruction.Date ∷ [])))
   texts_blind (Inspect one) = inspect_blind one

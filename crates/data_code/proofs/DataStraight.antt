@@ -27,7 +27,7 @@ module _ (items : List Placed) where
   initialize_straight : (one : Reference) → AlwaysStraight (initialize_piece items one)
   initialize_straight one =
       let pattern = pattern_of (slice_get items (item_number items one.item)) in
-      both_straight (reference_piece items one) (pattern_piece pattern) (reference_straight items one) (pattern_straight pattern)
+      both_straight (reference_piece items one) (pattern_piece pattern) (reference_straight one) (pattern_straight pattern)
 
   set_straight : (one : Reference) → AlwaysStraight (set_piece items one)
   set_straight one =
@@ -36,11 +36,11 @@ module _ (items : List Placed) where
       let subscripts = subscripts_piece items dimensions one.subscripts in
       let pattern = set_of (slice_get (all_conditions items) (condition_number items one.item)) in
       both_straight (work_piece place) (both subscripts (pattern_piece pattern)) (work_straight place)
-      (both_straight subscripts (pattern_piece pattern) (subscripts_straight items dimensions one.subscripts) (pattern_straight pattern))
+      (both_straight subscripts (pattern_piece pattern) (subscripts_straight dimensions one.subscripts) (pattern_straight pattern))
 
   pub moving_straight : (one : Moving) → moving_rules items one ≡ [] → AlwaysStraight (moving_piece items one)
   moving_straight (Move sender receivers) e =
       both_straight (sender_piece items sender) (receivers_piece items receivers)
-      (sender_straight items sender (left_none (operand_rules items sender) (each (item_rules items (receives (sent_by items sender))) receivers) e)) (in_order_straight (taking_piece items i.Move) (taking_straight items i.Move) receivers)
+      (sender_straight sender (left_none (operand_rules items sender) (each (item_rules items (receives (sent_by items sender))) receivers) e)) (in_order_straight (taking_piece items i.Move) (taking_straight i.Move) receivers)
   moving_straight (Initialize receivers) e = in_order_straight (initialize_piece items) initialize_straight receivers
   moving_straight (Set conditions) e = in_order_straight (set_piece items) set_straight conditions
