@@ -20,15 +20,14 @@ use Rattle.data_instructions.specs.declared.instruction.DataInstruction.TheVaria
 use Rattle.file_tables.specs.declared.class.StatusClass.{StatusClass}
 use Rattle.file_tables.specs.declared.class.StatusClass.TheVariants as class
 use Rattle.code_image.specs.declared.instruction.Instruction.TheVariants.{File, TestStatus, Unheard}
-use Rattle.code_builder.specs.Pieces.{Piece, both, plain}
-use Rattle.code_builder.specs.Meeting.{either_piece, nothing_piece}
-use Rattle.code_builder.specs.DataCode.{works_piece, taking_piece, receivers_piece}
-use Rattle.file_code.specs.FileCode.{sent_index, file_piece, test_piece, unheard_piece, on_file_piece, into_piece, from_piece, on_record_piece}
+use Rattle.codegen.specs.Pieces.{Piece, both, plain}
+use Rattle.codegen.specs.Meeting.{either_piece, nothing_piece}
+use Rattle.codegen.specs.DataCode.{works_piece, taking_piece, receivers_piece}
+use Rattle.codegen.specs.FileCode.{sent_index, file_piece, test_piece, unheard_piece, on_file_piece, into_piece, from_piece, on_record_piece}
 use Rattle.codegen.specs.Layout.{phrase_piece, taken_piece, success_piece, class_piece, failure_piece, status_piece, statement_on_piece, alone_piece, open_piece, close_piece, record_piece, filing_piece}
-use Rattle.code_builder.proofs.Blind.{Blind, constant_blind, both_blind, in_order_blind, works_blind, taking_blind}
-use Rattle.data_code.proofs.DataBlind.{moving_blind}
-use Rattle.condition_code.proofs.ConditionBlind.{nothing_blind}
-use Rattle.code_builder.proofs.Either.{either_blind}
+use Rattle.codegen.proofs.Blind.{Blind, constant_blind, both_blind, in_order_blind, works_blind, taking_blind, moving_blind}
+use Rattle.codegen.proofs.ConditionBlind.{nothing_blind}
+use Rattle.codegen.proofs.Either.{either_blind}
 
 test_blind : (one : StatusClass) → Blind (test_piece one)
 test_blind one = constant_blind (plain (TestStatus one ∷ []))

@@ -27,23 +27,21 @@ use Rattle.source_tree.specs.Setting.{Scope}
 use Rattle.data_instructions.specs.declared.instruction.DataInstruction.TheVariants as i
 use Rattle.code_image.specs.declared.code.Code.{Code}
 use Rattle.code_image.specs.declared.instruction.Instruction.TheVariants.{Tick, Stop, Count, CountNumber}
-use Rattle.code_builder.specs.Pieces.{Piece, nothing, joined, both, in_order, plain, tick_piece}
-use Rattle.code_builder.specs.DataCode.{taking_piece}
-use Rattle.arithmetic_code.specs.ArithmeticCode.{arithmetic_piece}
-use Rattle.code_builder.specs.Meeting.{either_piece, nothing_piece}
-use Rattle.condition_code.specs.ConditionCode.{condition_piece}
-use Rattle.data_code.specs.StringCode.{string_piece}
-use Rattle.condition_code.specs.SubjectCode.{first_object, look, look_piece, subject_piece, is_asked_first, taken_from, subjects_piece}
-use Rattle.codegen.specs.UntilCode.{until_piece}
-use Rattle.codegen.specs.Layout.{ending_piece, loop_begin, count_begin, turn_end, counted_turn, times_piece, counted_piece, turns_piece, range_piece, turn_piece, phrase_piece, phrases_from, selecting_piece, evaluate_piece, branching_piece, filing_piece, verb_piece, statement_piece}
-use Rattle.data_code.specs.StatementCode.{moving_piece, texts_piece}
-use Rattle.code_builder.proofs.Blind.{Blind, blind_as, constant_blind, count_blind, both_blind, in_order_blind, taking_blind}
-use Rattle.data_code.proofs.DataBlind.{moving_blind, texts_blind}
-use Rattle.arithmetic_code.proofs.BlindArithmetic.{arithmetic_blind}
+use Rattle.codegen.specs.Pieces.{Piece, nothing, joined, both, in_order, plain}
+use Rattle.codegen.specs.DataCode.{taking_piece}
+use Rattle.codegen.specs.ArithmeticCode.{arithmetic_piece}
+use Rattle.codegen.specs.Meeting.{either_piece, nothing_piece}
+use Rattle.codegen.specs.ConditionCode.{condition_piece}
+use Rattle.codegen.specs.StringCode.{string_piece}
+use Rattle.codegen.specs.SubjectCode.{first_object, look, look_piece, subject_piece, is_asked_first, taken_from, subjects_piece}
+use Rattle.codegen.specs.UntilCode.{tick_piece, until_piece}
+use Rattle.codegen.specs.Layout.{ending_piece, loop_begin, count_begin, turn_end, counted_turn, times_piece, counted_piece, turns_piece, moving_piece, texts_piece, range_piece, turn_piece, phrase_piece, phrases_from, selecting_piece, evaluate_piece, branching_piece, filing_piece, verb_piece, statement_piece}
+use Rattle.codegen.proofs.Blind.{Blind, blind_as, constant_blind, count_blind, both_blind, in_order_blind, taking_blind, moving_blind, texts_blind}
+use Rattle.codegen.proofs.BlindArithmetic.{arithmetic_blind}
 use Rattle.codegen.proofs.BlindFiling.{filing_blind}
-use Rattle.data_code.proofs.BlindStrings.{string_blind}
-use Rattle.condition_code.proofs.ConditionBlind.{nothing_blind, condition_blind}
-use Rattle.code_builder.proofs.Either.{either_blind}
+use Rattle.codegen.proofs.BlindStrings.{string_blind}
+use Rattle.codegen.proofs.ConditionBlind.{nothing_blind, condition_blind}
+use Rattle.codegen.proofs.Either.{either_blind}
 use Rattle.codegen.proofs.Layers.{verb_map, rolled_is}
 use Rattle.codegen.proofs.UntilBlind.{tick_blind, until_blind}
 

@@ -25,17 +25,17 @@ use Rattle.file_tables.specs.declared.class.StatusClass.{StatusClass}
 use Rattle.file_tables.specs.declared.class.StatusClass.TheVariants as class
 use Rattle.code_image.specs.declared.code.Code.{Code}
 use Rattle.code_image.specs.declared.instruction.Instruction.TheVariants.{File, TestStatus, Unheard}
-use Rattle.code_builder.specs.Pieces.{Piece, joined, both, in_order}
-use Rattle.code_builder.specs.Meeting.{either_piece, nothing_piece}
-use Rattle.code_builder.specs.DataCode.{works_piece, sender_piece, taking_piece, receivers_piece}
-use Rattle.file_code.specs.FileCode.{sent_index, file_piece, test_piece, unheard_piece, on_file_piece, into_piece, from_piece, on_record_piece}
+use Rattle.codegen.specs.Pieces.{Piece, joined, both, in_order}
+use Rattle.codegen.specs.Meeting.{either_piece, nothing_piece}
+use Rattle.codegen.specs.DataCode.{works_piece, sender_piece, taking_piece, receivers_piece}
+use Rattle.codegen.specs.FileCode.{sent_index, file_piece, test_piece, unheard_piece, on_file_piece, into_piece, from_piece, on_record_piece}
 use Rattle.codegen.specs.Layout.{phrase_piece, taken_piece, success_piece, class_piece, failure_piece, status_piece, statement_on_piece, alone_piece, open_piece, close_piece, record_piece, filing_piece}
-use Rattle.code_builder.proofs.Blind.{Blind, both_blind}
+use Rattle.codegen.proofs.Blind.{Blind, both_blind}
 use Rattle.codegen.proofs.BlindFiling.{unheard_blind, into_blind, taken_blind, success_blind, failure_blind}
-use Rattle.condition_code.proofs.ConditionBlind.{nothing_blind}
-use Rattle.file_code.proofs.HasFiles.{first_so, IsNumbered, IsSuited, suited}
-use Rattle.code_builder.proofs.Leading.{plain_names, Asks, Meets, both_meet, nothing_meets, straight_meets, either_meets}
-use Rattle.code_builder.proofs.Straight.{AlwaysStraight, both_straight, nothing_straight, in_order_straight, works_straight, taking_straight}
+use Rattle.codegen.proofs.ConditionBlind.{nothing_blind}
+use Rattle.codegen.proofs.HasFiles.{first_so, IsNumbered, IsSuited, suited}
+use Rattle.codegen.proofs.Leading.{plain_names, Asks, Meets, both_meet, nothing_meets, straight_meets, either_meets}
+use Rattle.codegen.proofs.Straight.{AlwaysStraight, both_straight, nothing_straight, in_order_straight, works_straight, taking_straight}
 
 module _ (items : List Placed) where
   receivers_straight : (all : List Reference) → AlwaysStraight (receivers_piece items all)

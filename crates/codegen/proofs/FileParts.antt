@@ -6,14 +6,14 @@ use Rattle.source_tree.specs.ProgramFiles.{ProgramFile}
 use Rattle.source_tree.specs.Setting.{Scope}
 use Rattle.file_tables.specs.declared.class.StatusClass.TheVariants.{Successful}
 use Rattle.code_image.specs.declared.code.Code.{Code}
-use Rattle.code_builder.specs.Pieces.{Piece, joined, both}
-use Rattle.code_builder.specs.Meeting.{branch_code, jump_code, either_piece, nothing_piece}
-use Rattle.file_code.specs.FileCode.{file_piece, test_piece, unheard_piece}
+use Rattle.codegen.specs.Pieces.{Piece, joined, both}
+use Rattle.codegen.specs.Meeting.{branch_code, jump_code, either_piece, nothing_piece}
+use Rattle.codegen.specs.FileCode.{file_piece, test_piece, unheard_piece}
 use Rattle.codegen.specs.Layout.{alone_piece}
-use Rattle.code_builder.specs.Phrases.{met}
-use Rattle.code_builder.proofs.Pieces.{joined_nothing}
-use Rattle.code_builder.proofs.Meeting.{meeting}
-use Rattle.code_builder.proofs.Sequences.{then_piece}
+use Rattle.codegen.specs.Phrases.{met}
+use Rattle.codegen.proofs.Pieces.{joined_nothing}
+use Rattle.codegen.proofs.Meeting.{meeting}
+use Rattle.codegen.proofs.Sequences.{then_piece}
 
 pub alone_made : (scope : Scope) {S : Type 0} (inside : S → Piece) (verb : on_files.Verb) (file : ProgramFile) (old filed tested begun middle behind end : Code) (branch other : ℕ)
     → filed ≡ joined old (file_piece verb file old) → tested ≡ joined filed (test_piece Successful filed) → begun ≡ joined tested (branch_code 0)

@@ -34,21 +34,20 @@ use Rattle.file_tables.specs.declared.class.StatusClass.TheVariants as class
 use Rattle.file_tables.specs.Classes.{is_of, has_class}
 use Rattle.code_image.specs.declared.code.Code.{Code}
 use Rattle.code_image.specs.Points.{Own}
-use Rattle.code_builder.specs.Pieces.{Piece, joined, both}
-use Rattle.code_builder.specs.Meeting.{either_piece, nothing_piece}
-use Rattle.file_code.specs.FileCode.{file_piece, test_piece, unheard_piece, on_file_piece, into_piece, from_piece, on_name_piece, on_record_piece}
+use Rattle.codegen.specs.Pieces.{Piece, joined, both}
+use Rattle.codegen.specs.Meeting.{either_piece, nothing_piece}
+use Rattle.codegen.specs.FileCode.{file_piece, test_piece, unheard_piece, on_file_piece, into_piece, from_piece, on_name_piece, on_record_piece}
 use Rattle.codegen.specs.Layout.{phrase_piece, taken_piece, success_piece, class_piece, failure_piece, status_piece, statement_on_piece, alone_piece, open_piece, close_piece, record_piece, filing_piece}
-use Rattle.code_builder.proofs.Blind.{Blind, both_blind}
+use Rattle.codegen.proofs.Blind.{Blind, both_blind}
 use Rattle.codegen.proofs.BlindFiling.{unheard_blind, into_blind, taken_blind, success_blind, failure_blind}
-use Rattle.condition_code.proofs.ConditionBlind.{nothing_blind}
-use Rattle.code_builder.proofs.Codes.{left_none, right_none}
-use Rattle.code_builder.proofs.Standing.{Stands}
-use Rattle.code_builder.proofs.Branching.{either_at, either_does}
-use Rattle.code_builder.proofs.Doing.{end_of, PartDoes, Sits, front_sits, back_sits, IsRoom, parts_do, nothing_does, Follows, in_order_does, Repeats}
-use Rattle.file_code.proofs.FileDoing.{ended, tested, test_then, unheard_does, file_then}
-use Rattle.file_code.proofs.HasFiles.{IsFiled, HasFiles, first_so}
-use Rattle.code_builder.proofs.MoveDoing.{move_does}
-use Rattle.file_code.proofs.IntoDoing.{into_does}
+use Rattle.codegen.proofs.ConditionBlind.{nothing_blind}
+use Rattle.codegen.proofs.Codes.{left_none, right_none}
+use Rattle.codegen.proofs.Standing.{Stands}
+use Rattle.codegen.proofs.Branching.{either_at, either_does}
+use Rattle.codegen.proofs.Doing.{end_of, PartDoes, Sits, front_sits, back_sits, IsRoom, parts_do, nothing_does, Follows, in_order_does, Repeats}
+use Rattle.codegen.proofs.FileDoing.{ended, tested, test_then, unheard_does, file_then}
+use Rattle.codegen.proofs.HasFiles.{IsFiled, HasFiles, first_so}
+use Rattle.codegen.proofs.MoveDoing.{move_does, into_does}
 
 -- what is asked of the first that is named
 pub first_asked : {A : Type 0} (place : Place) (asked : A → List Broken) (all : List A) (one : A) → named place asked all ≡ [] → first all ≡ Some one

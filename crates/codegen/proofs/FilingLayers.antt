@@ -19,11 +19,11 @@ use Rattle.file_tables.specs.declared.class.StatusClass.{StatusClass}
 use Rattle.file_tables.specs.declared.class.StatusClass.TheVariants as class
 use Rattle.code_image.specs.declared.code.Code.{Code}
 use Rattle.declarations.proofs.FilingLayers.{mapped_phrases, mapped_filing}
-use Rattle.code_builder.specs.Pieces.{Piece, joined, both, in_order}
-use Rattle.code_builder.specs.Meeting.{either_piece, nothing_piece}
-use Rattle.file_code.specs.FileCode.{file_piece, test_piece, unheard_piece, on_file_piece, into_piece, from_piece}
+use Rattle.codegen.specs.Pieces.{Piece, joined, both, in_order}
+use Rattle.codegen.specs.Meeting.{either_piece, nothing_piece}
+use Rattle.codegen.specs.FileCode.{file_piece, test_piece, unheard_piece, on_file_piece, into_piece, from_piece}
 use Rattle.codegen.specs.Layout.{phrase_piece, taken_piece, success_piece, class_piece, failure_piece, status_piece, statement_on_piece, alone_piece, record_piece, filing_piece}
-use Rattle.code_builder.proofs.Either.{either_map}
+use Rattle.codegen.proofs.Either.{either_map}
 
 module _ (scope : Scope) {A B : Type 0} (f : A → B) (g : B → Piece) where
   abbrev h : A → Piece

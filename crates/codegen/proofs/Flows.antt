@@ -66,35 +66,33 @@ use Rattle.code_image.specs.declared.instruction.Instruction.{Instruction}
 use Rattle.code_image.specs.declared.instruction.Instruction.TheVariants as instruction
 use Rattle.code_image.specs.Known.{known_after, known_along}
 use Rattle.declarations.proofs.RuleLayers.{mapped_rules}
-use Rattle.code_builder.specs.Pieces.{Piece, joined, both, in_order, plain, tick_piece}
-use Rattle.code_builder.specs.Meeting.{branch_code, either_piece, nothing_piece}
-use Rattle.code_builder.specs.DataCode.{work_piece, taking_piece, reference_piece, operands_piece, line_end_piece, show_piece}
-use Rattle.arithmetic_code.specs.ArithmeticCode.{arithmetic_piece}
-use Rattle.condition_code.specs.ConditionCode.{condition_piece}
-use Rattle.data_code.specs.StringCode.{string_piece}
-use Rattle.codegen.specs.UntilCode.{turning_piece, until_before_piece, until_after_piece, until_from_piece, vary_begin_piece, vary_on_piece, until_piece}
-use Rattle.condition_code.specs.SubjectCode.{first_object, look, look_piece, subject_piece, is_asked_first, taken_from, subjects_piece}
-use Rattle.codegen.specs.Layout.{loop_begin, count_begin, turn_end, counted_turn, times_piece, counted_piece, turns_piece, range_piece, turn_piece, phrase_piece, phrases_from, phrases_piece, selecting_piece, evaluate_piece, branching_piece, filing_piece, verb_piece, statement_piece, sentence_piece, start_piece, back_piece, paragraph_piece}
-use Rattle.data_code.specs.StatementCode.{moving_piece, texts_piece}
-use Rattle.code_builder.proofs.Codes.{left_none, right_none, taking_coded, move_coded, display_coded, accept_coded, date_coded}
-use Rattle.arithmetic_code.proofs.ArithmeticCodes.{arithmetic_coded}
-use Rattle.data_code.proofs.PatternCodes.{initializes_codes, sets_codes, lie_each, lie_conditions}
-use Rattle.data_code.proofs.StringCodes.{string_codes, lies_string}
-use Rattle.data_code.proofs.InspectCodes.{inspect_codes, lies_inspect}
-use Rattle.code_builder.proofs.Lying.{lies_all, shows_all, sends, receives_one, receive_each}
-use Rattle.arithmetic_code.proofs.ArithmeticLying.{lies_operation}
+use Rattle.codegen.specs.Pieces.{Piece, joined, both, in_order, plain}
+use Rattle.codegen.specs.Meeting.{branch_code, either_piece, nothing_piece}
+use Rattle.codegen.specs.DataCode.{work_piece, taking_piece, reference_piece, operands_piece, line_end_piece, show_piece}
+use Rattle.codegen.specs.ArithmeticCode.{arithmetic_piece}
+use Rattle.codegen.specs.ConditionCode.{condition_piece}
+use Rattle.codegen.specs.StringCode.{string_piece}
+use Rattle.codegen.specs.UntilCode.{tick_piece, turning_piece, until_before_piece, until_after_piece, until_from_piece, vary_begin_piece, vary_on_piece, until_piece}
+use Rattle.codegen.specs.SubjectCode.{first_object, look, look_piece, subject_piece, is_asked_first, taken_from, subjects_piece}
+use Rattle.codegen.specs.Layout.{loop_begin, count_begin, turn_end, counted_turn, times_piece, counted_piece, turns_piece, range_piece, turn_piece, moving_piece, texts_piece, phrase_piece, phrases_from, phrases_piece, selecting_piece, evaluate_piece, branching_piece, filing_piece, verb_piece, statement_piece, sentence_piece, start_piece, back_piece, paragraph_piece}
+use Rattle.codegen.proofs.Codes.{left_none, right_none, taking_coded, move_coded, display_coded, accept_coded, date_coded}
+use Rattle.codegen.proofs.ArithmeticCodes.{arithmetic_coded}
+use Rattle.codegen.proofs.PatternCodes.{initializes_codes, sets_codes, lie_each, lie_conditions}
+use Rattle.codegen.proofs.StringCodes.{string_codes, lies_string}
+use Rattle.codegen.proofs.InspectCodes.{inspect_codes, lies_inspect}
+use Rattle.codegen.proofs.Lying.{lies_all, shows_all, sends, receives_one, receive_each, lies_operation}
 use Rattle.codegen.proofs.Layers.{verb_map, rolled_is}
-use Rattle.code_builder.proofs.Standing.{Stands, front, back}
-use Rattle.code_builder.proofs.Pieces.{joined_assoc}
-use Rattle.code_builder.proofs.Blind.{Blind, in_order_blind}
+use Rattle.codegen.proofs.Standing.{Stands, front, back}
+use Rattle.codegen.proofs.Pieces.{joined_assoc}
+use Rattle.codegen.proofs.Blind.{Blind, in_order_blind}
 use Rattle.codegen.proofs.FilingFlows.{filing_flows}
-use Rattle.file_code.proofs.HasFiles.{HasFiles}
-use Rattle.code_builder.proofs.Flowing.{rest, along_append, along_data, only_one, Flows, both_flow, nothing_flows, branch_flows, AllFlow, in_order_flows, BodyFlows, either_flows}
-use Rattle.condition_code.proofs.ConditionBlind.{nothing_blind, condition_blind}
-use Rattle.condition_code.proofs.ConditionFlows.{condition_flows}
+use Rattle.codegen.proofs.HasFiles.{HasFiles}
+use Rattle.codegen.proofs.Flowing.{rest, along_append, along_data, only_one, Flows, both_flow, nothing_flows, branch_flows, AllFlow, in_order_flows, BodyFlows, either_flows}
+use Rattle.codegen.proofs.ConditionBlind.{nothing_blind, condition_blind}
+use Rattle.codegen.proofs.ConditionFlows.{condition_flows}
 use Rattle.codegen.proofs.UntilBlind.{turn_before_blind, onward_blind, vary_on_blind}
-use Rattle.condition_code.proofs.SubjectLooks.{look_rules, look_kept}
-use Rattle.condition_code.proofs.EvaluateKept.{statements_of, selected_kept, first_group, other_groups, subjects_of, groups_of, other_of}
+use Rattle.codegen.proofs.SubjectLooks.{look_rules, look_kept}
+use Rattle.codegen.proofs.EvaluateKept.{statements_of, selected_kept, first_group, other_groups, subjects_of, groups_of, other_of}
 use Rattle.codegen.proofs.BlindStatements.{counted_turn_blind, turn_blind, phrase_blind, selecting_blind, statement_blind}
 
 module _ (tables : DataTables) where

@@ -21,8 +21,8 @@ use Rattle.source_tree.specs.Performing.{turns_of}
 use Rattle.source_tree.specs.Places.{Placed}
 use Rattle.source_tree.specs.Setting.{Scope}
 use Rattle.declarations.proofs.FilingLayers.{filing_mapped}
-use Rattle.code_builder.specs.Pieces.{Piece, joined, both, in_order, tick_piece}
-use Rattle.arithmetic_code.specs.ArithmeticCode.{arithmetic_piece}
+use Rattle.codegen.specs.Pieces.{Piece, joined, both, in_order}
+use Rattle.codegen.specs.ArithmeticCode.{arithmetic_piece}
 use Rattle.source_tree.specs.declared.branching.Branching.{Branching}
 use Rattle.source_tree.specs.declared.branching.Branching.TheVariants as branch
 use Rattle.source_tree.specs.declared.evaluate.Subject.{Subject}
@@ -33,14 +33,14 @@ use Rattle.source_tree.specs.declared.until.TestTime.{TestTime}
 use Rattle.source_tree.specs.declared.until.TestTime.TheVariants.{Before, After}
 use Rattle.source_tree.specs.declared.until.Until as until
 use Rattle.data_instructions.specs.declared.instruction.DataInstruction.TheVariants as i
-use Rattle.code_builder.specs.Meeting.{branch_code, either_piece, nothing_piece}
-use Rattle.code_builder.specs.DataCode.{work_piece, taking_piece}
-use Rattle.condition_code.specs.ConditionCode.{condition_piece}
-use Rattle.data_code.specs.StringCode.{string_piece}
-use Rattle.codegen.specs.UntilCode.{turning_piece, until_from_piece, vary_begin_piece, vary_on_piece, until_piece}
-use Rattle.condition_code.specs.SubjectCode.{first_object, subjects_piece}
+use Rattle.codegen.specs.Meeting.{branch_code, either_piece, nothing_piece}
+use Rattle.codegen.specs.DataCode.{work_piece, taking_piece}
+use Rattle.codegen.specs.ConditionCode.{condition_piece}
+use Rattle.codegen.specs.StringCode.{string_piece}
+use Rattle.codegen.specs.UntilCode.{tick_piece, turning_piece, until_from_piece, vary_begin_piece, vary_on_piece, until_piece}
+use Rattle.codegen.specs.SubjectCode.{first_object, subjects_piece}
 use Rattle.codegen.specs.Layout.{loop_begin, count_begin, turn_end, counted_turn, times_piece, counted_piece, turns_piece, turn_piece, phrase_piece, phrases_from, selecting_piece, verb_piece, statement_layer, statement_piece}
-use Rattle.code_builder.proofs.Either.{either_map}
+use Rattle.codegen.proofs.Either.{either_map}
 use Rattle.codegen.proofs.FilingLayers.{filing_same}
 
 -- turns of pieces that are the same

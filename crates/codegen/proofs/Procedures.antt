@@ -10,11 +10,11 @@ use Rattle.source_tree.specs.Setting.{Scope}
 use Rattle.code_image.specs.declared.code.Code.{Code}
 use Rattle.code_image.specs.declared.instruction.Instruction.{Instruction}
 use Rattle.code_image.specs.declared.instruction.Instruction.TheVariants.{Stop}
-use Rattle.code_builder.specs.Pieces.{Piece, nothing, joined, in_order}
+use Rattle.codegen.specs.Pieces.{Piece, nothing, joined, in_order}
 use Rattle.codegen.specs.Layout.{start_piece, sentence_piece, paragraph_piece, end_piece}
-use Rattle.code_builder.proofs.Doing.{end_of}
-use Rattle.code_builder.proofs.Pieces.{joined_assoc}
-use Rattle.code_builder.proofs.Standing.{Stands, front, back, first_stands, start_stands}
+use Rattle.codegen.proofs.Doing.{end_of}
+use Rattle.codegen.proofs.Pieces.{joined_assoc}
+use Rattle.codegen.proofs.Standing.{Stands, front, back, first_stands, start_stands}
 
 -- ---- pieces in order, by their numbers
 

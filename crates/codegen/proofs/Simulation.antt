@@ -75,46 +75,44 @@ use Rattle.code_image.specs.declared.instruction.Instruction.TheVariants.{Show, 
 use Rattle.code_image.specs.Points.{Own, scratch_of, state_with, own_with}
 use Rattle.code_image.specs.Table.{data_from, exec_code}
 use Rattle.initial_storage.proofs.Pictures.{some_bytes}
-use Rattle.code_builder.specs.Pieces.{Piece, nothing, joined, both, in_order, plain, tick_piece}
-use Rattle.code_builder.specs.DataCode.{reference_piece, taking_piece, move_piece, operands_piece, line_end_piece, show_piece}
-use Rattle.arithmetic_code.specs.ArithmeticCode.{arithmetic_piece}
-use Rattle.data_code.specs.PatternCode.{initializes_piece, sets_piece}
-use Rattle.data_code.specs.InspectCode.{inspect_piece}
-use Rattle.data_code.specs.StringCode.{string_piece}
-use Rattle.code_builder.specs.Meeting.{either_piece}
-use Rattle.condition_code.specs.ConditionCode.{condition_piece}
-use Rattle.codegen.specs.UntilCode.{until_from_piece, vary_begin_piece, vary_on_piece, until_piece}
-use Rattle.condition_code.specs.SubjectCode.{first_object, is_asked_first, subjects_piece}
-use Rattle.data_code.specs.StatementCode.{moving_piece, texts_piece}
-use Rattle.codegen.specs.Layout.{times_piece, counted_piece, turns_piece, range_piece, turn_piece, phrase_piece, phrases_from, phrases_piece, selecting_piece, evaluate_piece, branching_piece, filing_piece, verb_piece}
-use Rattle.code_builder.proofs.Pieces.{joined_assoc}
-use Rattle.code_builder.proofs.Blind.{Blind, in_order_blind}
-use Rattle.condition_code.proofs.ConditionBlind.{condition_blind}
+use Rattle.codegen.specs.Pieces.{Piece, nothing, joined, both, in_order, plain}
+use Rattle.codegen.specs.DataCode.{reference_piece, taking_piece, move_piece, operands_piece, line_end_piece, show_piece}
+use Rattle.codegen.specs.ArithmeticCode.{arithmetic_piece}
+use Rattle.codegen.specs.PatternCode.{initializes_piece, sets_piece}
+use Rattle.codegen.specs.InspectCode.{inspect_piece}
+use Rattle.codegen.specs.StringCode.{string_piece}
+use Rattle.codegen.specs.Meeting.{either_piece}
+use Rattle.codegen.specs.ConditionCode.{condition_piece}
+use Rattle.codegen.specs.UntilCode.{tick_piece, until_from_piece, vary_begin_piece, vary_on_piece, until_piece}
+use Rattle.codegen.specs.SubjectCode.{first_object, is_asked_first, subjects_piece}
+use Rattle.codegen.specs.Layout.{moving_piece, texts_piece, times_piece, counted_piece, turns_piece, range_piece, turn_piece, phrase_piece, phrases_from, phrases_piece, selecting_piece, evaluate_piece, branching_piece, filing_piece, verb_piece}
+use Rattle.codegen.proofs.Pieces.{joined_assoc}
+use Rattle.codegen.proofs.Blind.{Blind, in_order_blind}
+use Rattle.codegen.proofs.ConditionBlind.{condition_blind}
 use Rattle.codegen.proofs.UntilBlind.{vary_on_blind}
-use Rattle.condition_code.proofs.EvaluateKept.{statements_of, selected_kept, first_group, other_groups, subjects_of, groups_of, other_of}
+use Rattle.codegen.proofs.EvaluateKept.{statements_of, selected_kept, first_group, other_groups, subjects_of, groups_of, other_of}
 use Rattle.codegen.proofs.BlindStatements.{turn_blind, phrase_blind, selecting_blind}
-use Rattle.code_builder.proofs.Standing.{Stands, front, back, first_stands, code_stands}
-use Rattle.code_builder.proofs.Running.{at, one_step, WorksFrom, works_from}
-use Rattle.code_builder.proofs.Codes.{left_none, right_none, Coded, display_coded, accept_coded, date_coded}
-use Rattle.arithmetic_code.proofs.ArithmeticCodes.{arithmetic_coded}
-use Rattle.data_code.proofs.PatternCodes.{initializes_codes, sets_codes}
-use Rattle.data_code.proofs.InspectCodes.{inspect_codes}
-use Rattle.data_code.proofs.StringCodes.{string_codes}
-use Rattle.code_builder.proofs.Doing.{end_of, Does, PartDoes, Sits, front_sits, back_sits, IsRoom, still_room, moved, stays, behind, parts_do, tick_part, ticks_alone, nothing_does, Follows, in_order_does, Repeats, fewer_does}
-use Rattle.codegen.proofs.Endings.{ending_does}
+use Rattle.codegen.proofs.Standing.{Stands, front, back, first_stands, code_stands}
+use Rattle.codegen.proofs.Running.{at, one_step, WorksFrom, works_from}
+use Rattle.codegen.proofs.Codes.{left_none, right_none, Coded, display_coded, accept_coded, date_coded}
+use Rattle.codegen.proofs.ArithmeticCodes.{arithmetic_coded}
+use Rattle.codegen.proofs.PatternCodes.{initializes_codes, sets_codes}
+use Rattle.codegen.proofs.InspectCodes.{inspect_codes}
+use Rattle.codegen.proofs.StringCodes.{string_codes}
+use Rattle.codegen.proofs.Doing.{end_of, Does, PartDoes, Sits, front_sits, back_sits, IsRoom, still_room, moved, stays, behind, parts_do, tick_part, ticks_alone, ending_does, nothing_does, Follows, in_order_does, Repeats, fewer_does}
 use Rattle.codegen.proofs.FilingDoes.{filing_does}
-use Rattle.file_code.proofs.HasFiles.{HasFiles}
-use Rattle.code_builder.proofs.MoveDoing.{move_does}
+use Rattle.codegen.proofs.HasFiles.{HasFiles}
+use Rattle.codegen.proofs.MoveDoing.{move_does}
 use Rattle.codegen.proofs.Turning.{times_does}
 use Rattle.codegen.proofs.Counting.{said_does}
-use Rattle.data_code.proofs.TextDoing.{changed_does, strung_does}
-use Rattle.condition_code.proofs.ConditionDoes.{condition_does}
-use Rattle.code_builder.proofs.Evaluating.{evaluated_does}
-use Rattle.condition_code.proofs.SubjectLooks.{looks_value, looks_are}
-use Rattle.condition_code.proofs.SubjectsDo.{taking, taking_then, subjects_do}
+use Rattle.codegen.proofs.TextDoing.{changed_does, strung_does}
+use Rattle.codegen.proofs.ConditionDoes.{condition_does}
+use Rattle.codegen.proofs.Evaluating.{evaluated_does}
+use Rattle.codegen.proofs.SubjectLooks.{looks_value, looks_are}
+use Rattle.codegen.proofs.SubjectsDo.{taking, taking_then, subjects_do}
 use Rattle.codegen.proofs.UntilTurns.{Tests, until_from_does}
-use Rattle.code_builder.proofs.Branching.{either_does}
-use Rattle.code_builder.proofs.DataDoing.{behind_code, shown_does, calculated_does, taken_does, accepted_faultless}
+use Rattle.codegen.proofs.Branching.{either_does}
+use Rattle.codegen.proofs.DataDoing.{behind_code, shown_does, calculated_does, taken_does, accepted_faultless}
 
 -- a rule that isn't broken
 not_broken : (test : Bool) (rule : ℕ) (place : Place) → where_so test rule place ≡ [] → test ≡ false

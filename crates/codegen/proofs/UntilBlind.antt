@@ -10,16 +10,15 @@ use Rattle.source_tree.specs.Until.{vary_operation}
 use Rattle.data_instructions.specs.declared.instruction.DataInstruction.TheVariants as i
 use Rattle.code_image.specs.declared.code.Code.{Code}
 use Rattle.code_image.specs.declared.instruction.Instruction.TheVariants.{Tick}
-use Rattle.code_builder.specs.Pieces.{Piece, joined, both, plain, tick_piece}
-use Rattle.code_builder.specs.Meeting.{branch_code, either_piece, nothing_piece}
-use Rattle.code_builder.specs.DataCode.{work_piece}
-use Rattle.condition_code.specs.ConditionCode.{condition_piece}
-use Rattle.codegen.specs.UntilCode.{turning_piece, until_before_piece, until_after_piece, until_from_piece, vary_begin_piece, vary_on_piece, until_piece}
-use Rattle.code_builder.proofs.Blind.{Blind, constant_blind, both_blind, work_blind}
-use Rattle.data_code.proofs.DataBlind.{moving_blind}
-use Rattle.arithmetic_code.proofs.BlindArithmetic.{arithmetic_blind}
-use Rattle.code_builder.proofs.Either.{either_blind}
-use Rattle.condition_code.proofs.ConditionBlind.{nothing_blind, condition_blind}
+use Rattle.codegen.specs.Pieces.{Piece, joined, both, plain}
+use Rattle.codegen.specs.Meeting.{branch_code, either_piece, nothing_piece}
+use Rattle.codegen.specs.DataCode.{work_piece}
+use Rattle.codegen.specs.ConditionCode.{condition_piece}
+use Rattle.codegen.specs.UntilCode.{tick_piece, turning_piece, until_before_piece, until_after_piece, until_from_piece, vary_begin_piece, vary_on_piece, until_piece}
+use Rattle.codegen.proofs.Blind.{Blind, constant_blind, both_blind, work_blind, moving_blind}
+use Rattle.codegen.proofs.BlindArithmetic.{arithmetic_blind}
+use Rattle.codegen.proofs.Either.{either_blind}
+use Rattle.codegen.proofs.ConditionBlind.{nothing_blind, condition_blind}
 
 pub tick_blind : (line : ℕ) → Blind (tick_piece line)
 tick_blind line = constant_blind (plain (Tick line ∷ []))

@@ -13,13 +13,12 @@ use Rattle.source_tree.specs.Places.{Placed}
 use Rattle.data_instructions.specs.declared.instruction.DataInstruction.TheVariants as i
 use Rattle.data_instructions.specs.ArithmeticCodes.{discard}
 use Rattle.code_image.specs.declared.code.Code.{Code}
-use Rattle.code_builder.specs.Pieces.{Piece, joined, both}
-use Rattle.code_builder.specs.DataCode.{work_piece, works_piece}
-use Rattle.code_builder.specs.ExpressionCode.{value_piece, total_piece}
-use Rattle.arithmetic_code.specs.ArithmeticCode.{update_piece, updates_piece}
+use Rattle.codegen.specs.Pieces.{Piece, joined, both}
+use Rattle.codegen.specs.DataCode.{work_piece, works_piece}
+use Rattle.codegen.specs.ArithmeticCode.{value_piece, total_piece, update_piece, updates_piece}
 use Rattle.codegen.specs.UntilCode.{vary_on_piece}
-use Rattle.code_builder.proofs.Kept.{front_kept, back_kept, item_kept}
-use Rattle.code_builder.proofs.Pieces.{joined_nothing}
+use Rattle.codegen.proofs.Kept.{front_kept, back_kept, item_kept}
+use Rattle.codegen.proofs.Pieces.{joined_nothing}
 
 both_same : (first second third fourth : Piece) → ((b : Code) → first b ≡ third b) → ((b : Code) → second b ≡ fourth b) → (b : Code) → both first second b ≡ both third fourth b
 both_same first second third fourth p q b = ap (λ (c : Code). joined c (second (joined b c))) (p b) ∙ ap (joined (third b)) (q (joined b (third b)))

@@ -1,7 +1,9 @@
 -- The layout of a program's code (own choice).
-use Rattle.std.specs.Prelude.{ℕ, zero, suc, List, [], ◌∷◌, length, Option, Some, None}
+use Rattle.std.specs.Prelude.{ℕ, zero, suc, List, [], ◌∷◌, ◌++◌, length, map, Option, Some, None}
 use Rattle.source_tree.specs.declared.moving.Moving.{Moving}
+use Rattle.source_tree.specs.declared.moving.Moving.TheVariants.{Move, Initialize, Set}
 use Rattle.source_tree.specs.declared.text.Text.{Text}
+use Rattle.source_tree.specs.declared.text.Text.TheVariants.{Display, Accept, AcceptDate, Inspect}
 use Rattle.records.specs.declared.verb.Verb as on_files
 use Rattle.records.specs.declared.verb.Verb.TheVariants as file_verb
 use Rattle.source_tree.specs.declared.name.Name.{Name}
@@ -35,6 +37,7 @@ use Rattle.source_tree.specs.declared.program.Sentence.{Sentence}
 use Rattle.source_tree.specs.declared.program.Paragraph.{Paragraph}
 use Rattle.source_tree.specs.declared.program.Section.{Section}
 use Rattle.source_tree.specs.declared.program.Program.{Program}
+use Rattle.source_tree.specs.declared.select.Select.{Select}
 use Rattle.source_tree.specs.Evaluate.{selected_asked}
 use Rattle.source_tree.specs.Performing.{turns_of}
 use Rattle.source_tree.specs.Places.{Placed}
@@ -45,23 +48,25 @@ use Rattle.source_tree.specs.ProgramFiles.{ProgramFile}
 use Rattle.source_tree.specs.References.{ItemPlace}
 use Rattle.source_tree.specs.Filing.{read_verb, start_verb}
 use Rattle.data_instructions.specs.declared.tables.DataTables.{DataTables}
+use Rattle.data_instructions.specs.declared.tables.DataItem.{DataItem}
+use Rattle.data_instructions.specs.Codes.{data_item}
 use Rattle.file_tables.specs.declared.class.StatusClass.{StatusClass}
 use Rattle.file_tables.specs.declared.class.StatusClass.TheVariants.{Successful, AtEnd, InvalidKey}
 use Rattle.code_image.specs.declared.code.Code.{Code}
 use Rattle.code_image.specs.declared.instruction.Instruction.TheVariants.{Tick, Stop, Count, CountNumber, Turn, Perform, Back}
 use Rattle.data_instructions.specs.declared.instruction.DataInstruction.TheVariants as i
-use Rattle.code_builder.specs.Pieces.{Piece, no_tables, nothing, joined, both, in_order, plain, tick_piece}
-use Rattle.code_builder.specs.Meeting.{either_piece, nothing_piece}
+use Rattle.codegen.specs.Pieces.{Piece, no_tables, nothing, joined, both, in_order, plain}
+use Rattle.codegen.specs.Meeting.{either_piece, nothing_piece}
 use Rattle.source_tree.specs.Arithmetic.{is_there}
-use Rattle.code_builder.specs.DataCode.{taking_piece}
-use Rattle.arithmetic_code.specs.ArithmeticCode.{arithmetic_piece}
-use Rattle.condition_code.specs.ConditionCode.{condition_piece}
-use Rattle.data_code.specs.StringCode.{string_piece}
-use Rattle.condition_code.specs.SubjectCode.{first_object, subjects_piece}
-use Rattle.codegen.specs.UntilCode.{until_piece}
-use Rattle.file_code.specs.FileCode.{file_piece, test_piece, unheard_piece, into_piece, from_piece, on_name_piece, on_record_piece}
-use Rattle.data_code.specs.StatementCode.{moving_piece, texts_piece}
-use Rattle.file_code.specs.StorageCode.{storage_with, tables_with}
+use Rattle.codegen.specs.DataCode.{taking_piece, move_piece, display_piece, accept_piece, date_piece}
+use Rattle.codegen.specs.ArithmeticCode.{arithmetic_piece}
+use Rattle.codegen.specs.ConditionCode.{condition_piece}
+use Rattle.codegen.specs.PatternCode.{initializes_piece, sets_piece}
+use Rattle.codegen.specs.StringCode.{string_piece}
+use Rattle.codegen.specs.InspectCode.{inspect_piece}
+use Rattle.codegen.specs.SubjectCode.{first_object, subjects_piece}
+use Rattle.codegen.specs.UntilCode.{tick_piece, until_piece}
+use Rattle.codegen.specs.FileCode.{code_files, sent_entry, file_piece, test_piece, unheard_piece, into_piece, from_piece, on_name_piece, on_record_piece}
 
 abbrev pub stop_run_piece : ℕ → Piece
 stop_run_piece line before = plain (Tick line ∷ Stop ∷ [])
@@ -108,6 +113,17 @@ turns_piece items line (Until one) turn = both (tick_piece line) (until_piece it
 abbrev pub range_piece : ℕ → Option Range → Piece
 range_piece line None before = plain (Tick line ∷ [])
 range_piece line (Some range) before = plain (Perform line (record { number = range.first }) (record { number = range.last }) ∷ [])
+
+abbrev pub moving_piece : List Placed → Moving → Piece
+moving_piece items (Move sender receivers) = move_piece items sender receivers
+moving_piece items (Initialize receivers) = initializes_piece items receivers
+moving_piece items (Set conditions) = sets_piece items conditions
+
+abbrev pub texts_piece : List Placed → Text → Piece
+texts_piece items (Display operands advancing) = display_piece items operands advancing
+texts_piece items (Accept receiver) = accept_piece items receiver
+texts_piece items (AcceptDate receiver) = date_piece items receiver
+texts_piece items (Inspect one) = inspect_piece items one
 
 -- Statements that hold statements; `inside` is the code of those.
 module _ (scope : Scope) {S : Type 0} (inside : S → Piece) where
@@ -257,6 +273,17 @@ module _ (scope : Scope) where
 -- the end of the last paragraph
 abbrev pub end_piece : Code
 end_piece = plain (Stop ∷ [])
+
+-- the bytes of all areas at the start, and the items; behind these what READ INTO sends of each file
+abbrev pub storage_items : List Placed → List ProgramFile → List DataItem
+storage_items items files = map data_item items ++ map (sent_entry items) files
+
+-- the tables before the first statement, by these
+abbrev pub tables_with : List (List ℕ) → List Placed → List ProgramFile → DataTables
+tables_with areas items files = record no_tables { areas = areas; items = storage_items items files }
+
+abbrev pub storage_with : List (List ℕ) → List Placed → List Select → List ProgramFile → Code
+storage_with areas items selects files = record nothing { tables = tables_with areas items files; files = code_files items selects files }
 
 abbrev pub storage_tables : Program → DataTables
 storage_tables program = tables_with (program_areas program) (scope program).items (scope program).files

@@ -1,5 +1,5 @@
 -- The code of turns up to where a condition is true (own choice).
-use Rattle.std.specs.Prelude.{false, List, [], ◌∷◌, length, Option, Some, None}
+use Rattle.std.specs.Prelude.{ℕ, false, List, [], ◌∷◌, length, Option, Some, None}
 use Rattle.source_tree.specs.declared.until.TestTime.{TestTime}
 use Rattle.source_tree.specs.declared.until.TestTime.TheVariants.{Before, After}
 use Rattle.source_tree.specs.declared.until.Varying.{Varying}
@@ -7,11 +7,16 @@ use Rattle.source_tree.specs.declared.until.Until.{Until}
 use Rattle.source_tree.specs.Places.{Placed}
 use Rattle.source_tree.specs.Until.{vary_operation}
 use Rattle.data_instructions.specs.declared.instruction.DataInstruction.TheVariants as i
-use Rattle.code_builder.specs.Pieces.{Piece, both}
-use Rattle.code_builder.specs.Meeting.{branch_code, either_piece, nothing_piece}
-use Rattle.code_builder.specs.DataCode.{work_piece, move_piece}
-use Rattle.arithmetic_code.specs.ArithmeticCode.{arithmetic_piece}
-use Rattle.condition_code.specs.ConditionCode.{condition_piece}
+use Rattle.code_image.specs.declared.instruction.Instruction.TheVariants.{Tick}
+use Rattle.codegen.specs.Pieces.{Piece, both, plain}
+use Rattle.codegen.specs.Meeting.{branch_code, either_piece, nothing_piece}
+use Rattle.codegen.specs.DataCode.{work_piece, move_piece}
+use Rattle.codegen.specs.ArithmeticCode.{arithmetic_piece}
+use Rattle.codegen.specs.ConditionCode.{condition_piece}
+
+-- one of the budget, and nothing else
+abbrev pub tick_piece : ℕ → Piece
+tick_piece line before = plain (Tick line ∷ [])
 
 -- A turn, which begins with what uses one of the budget, and what comes behind it; where the truth is false then, the next turn begins.
 abbrev pub turning_piece : Piece → Piece → Piece

@@ -1,2 +1,0 @@
-pub mod ArithmeticCode
-pub mod Operations

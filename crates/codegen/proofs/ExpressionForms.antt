@@ -1,0 +1,47 @@
+-- The code of an expression by its form, and that of the expressions in it.
+use Rattle.std.proofs.Common.{◌≡◌, List, [], ◌∷◌, refl, sym, ap, ◌∙◌}
+use Rattle.std.specs.Prelude.{map}
+use Rattle.source_tree.specs.declared.expression.Operand.{Operand}
+use Rattle.source_tree.specs.declared.expression.Operator.{Operator}
+use Rattle.source_tree.specs.declared.expression.Expression.{Expression, roll-Expression}
+use Rattle.source_tree.specs.declared.expression.Expression.TheVariants as expression
+use Rattle.source_tree.specs.declared.expression.Expression.TheVariants.{rolls-Operand, rolls-Negated, rolls-Chain}
+use Rattle.source_tree.specs.declared.expression.Expression.TheOpen.{Expression-F}
+use Rattle.source_tree.specs.declared.expression.Expression.TheFolds.{map-Expression, fold-roll-Expression}
+use Rattle.source_tree.specs.Places.{Placed}
+use Rattle.data_instructions.specs.declared.calculation.Calculation.TheVariants as c
+use Rattle.data_instructions.specs.declared.instruction.DataInstruction.TheVariants as i
+use Rattle.code_image.specs.declared.code.Code.{Code}
+use Rattle.codegen.specs.Pieces.{Piece, joined, both, in_order}
+use Rattle.codegen.specs.DataCode.{work_piece}
+use Rattle.codegen.specs.ArithmeticCode.{value_piece, chain_piece, expression_layer_piece, expression_piece}
+
+module _ (items : List Placed) where
+  -- what stands behind the first operand of a chain
+  abbrev pub link_piece : Operator × Expression → Piece
+  link_piece one = chain_piece items (one.0, expression_piece items one.1)
+
+  links_map : (all : List (Operator × Expression)) (before : Code)
+      → in_order (chain_piece items) (map (λ (one : Operator × Expression). (one.0, expression_piece items one.1)) all) before ≡ in_order link_piece all before
+  links_map [] before = refl
+  links_map (one ∷ more) before = ap (joined (link_piece one before)) (links_map more (joined before (link_piece one before)))
+
+  rolled_is : (one : Expression-F Expression) (before : Code)
+      → expression_piece items (roll-Expression one) before ≡ expression_layer_piece items (map-Expression Expression Piece (expression_piece items) one) before
+  unfolding expression_piece
+  rolled_is one before = ap (λ (p : Piece). p before) (fold-roll-Expression Piece (expression_layer_piece items) one)
+
+  pub operand_is : (one : Operand) (before : Code) → expression_piece items (expression.Operand one) before ≡ value_piece items one before
+  operand_is one before = ap (λ (e : Expression). expression_piece items e before) (sym (rolls-Operand one)) ∙ rolled_is (Expression-F.Operand one) before
+
+  pub negated_is : (inner : Expression) (before : Code)
+      → expression_piece items (expression.Negated inner) before ≡ both (expression_piece items inner) (work_piece (i.Calculate c.Negate)) before
+  negated_is inner before = ap (λ (e : Expression). expression_piece items e before) (sym (rolls-Negated inner)) ∙ rolled_is (Expression-F.Negated inner) before
+
+  pub chain_is : (one : Expression) (more : List (Operator × Expression)) (before : Code)
+      → expression_piece items (expression.Chain one more) before ≡ both (expression_piece items one) (in_order link_piece more) before
+  chain_is one more before =
+      let first = expression_piece items one before in
+      ap (λ (e : Expression). expression_piece items e before) (sym (rolls-Chain one more))
+      ∙ rolled_is (Expression-F.Chain one more) before
+      ∙ ap (joined first) (links_map more (joined before first))

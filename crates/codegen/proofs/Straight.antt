@@ -1,0 +1,202 @@
+-- The code of references and of statements on data is straight: it counts nothing and leads nowhere.
+use Rattle.std.proofs.Common.{◌≡◌, List, [], ◌∷◌, ◌++◌, map, true, false, Bool, refl, ap, ◌∙◌}
+use Rattle.std.specs.Prelude.{ℕ, pos, slice_get, not}
+use Rattle.std.specs.List.{AllByRecursion}
+use Rattle.decimal18.specs.Fraction.{Fraction}
+use Rattle.items.specs.Items.{IsTaken}
+use Rattle.source_tree.specs.declared.expression.Operand.{Operand}
+use Rattle.source_tree.specs.declared.expression.Operand.TheVariants as operand
+use Rattle.source_tree.specs.declared.reference.Adjustment.{Adjustment}
+use Rattle.source_tree.specs.declared.reference.Adjustment.TheVariants as adjustment
+use Rattle.source_tree.specs.declared.reference.Subscript as written
+use Rattle.source_tree.specs.declared.reference.Subscript.TheVariants as subscript
+use Rattle.source_tree.specs.declared.reference.Reference.{Reference}
+use Rattle.source_tree.specs.declared.table.Dimension.{Dimension}
+use Rattle.source_tree.specs.declared.moving.Moving.{Moving}
+use Rattle.source_tree.specs.declared.moving.Moving.TheVariants.{Move, Initialize, Set}
+use Rattle.source_tree.specs.declared.text.Text.{Text}
+use Rattle.source_tree.specs.declared.text.Text.TheVariants.{Display, Accept, AcceptDate}
+use Rattle.source_tree.specs.Broken.{each}
+use Rattle.source_tree.specs.Display.{shown_literal, line_end}
+use Rattle.source_tree.specs.Integers.{number_of}
+use Rattle.source_tree.specs.MoveRules.{sent_by, receives}
+use Rattle.source_tree.specs.NameRules.{item_rules, operand_rules, form_rule}
+use Rattle.source_tree.specs.Places.{Placed}
+use Rattle.source_tree.specs.Initializing.{Pattern}
+use Rattle.source_tree.specs.LookUp.{all_conditions}
+use Rattle.source_tree.specs.Rules.{moving_rules}
+use Rattle.source_tree.specs.ValueRules.{has_form}
+use Rattle.literals.proofs.Forms.{sender_formed}
+use Rattle.data_instructions.specs.declared.tables.LiteralSender.{LiteralSender}
+use Rattle.data_instructions.specs.Tables.{IsInspection}
+use Rattle.data_instructions.specs.declared.calculation.Calculation.TheVariants as c
+use Rattle.data_instructions.specs.declared.instruction.DataInstruction.{DataInstruction}
+use Rattle.data_instructions.specs.declared.instruction.DataInstruction.TheVariants as i
+use Rattle.data_instructions.specs.Codes.{integer, index_code}
+use Rattle.data_instructions.specs.TextCodes.{new_byte, new_mark}
+use Rattle.code_image.specs.declared.code.Code.{Code}
+use Rattle.code_image.specs.declared.instruction.Instruction.{Instruction}
+use Rattle.code_image.specs.declared.instruction.Instruction.TheVariants as instruction
+use Rattle.codegen.specs.Pieces.{Piece, nothing, joined, both, in_order, plain}
+use Rattle.codegen.specs.DataCode.{item_index, item_number, dimensions_of, work_piece, works_piece, number_piece, integer_piece, adjustment_piece, text_piece, line_end_piece, show_piece, subscript_piece, subscripts_piece, reference_piece, taking_piece, sender_piece, receivers_piece, operand_piece, operands_piece}
+use Rattle.codegen.specs.ConditionCode.{condition_number, condition_item}
+use Rattle.codegen.specs.PatternCode.{pattern_piece, pattern_of, set_of, initialize_piece, set_piece}
+use Rattle.codegen.specs.Layout.{moving_piece, texts_piece}
+use Rattle.codegen.proofs.Codes.{left_none}
+use Rattle.codegen.proofs.Integers.{kept, not_false}
+
+pub all_both : {A : Type 0} (P : A → Type 0) (xs ys : List A) → AllByRecursion P xs → AllByRecursion P ys → AllByRecursion P (xs ++ ys)
+all_both P [] ys a b = b
+all_both P (x ∷ xs) ys a b = (a.0, all_both P xs ys a.1 b)
+
+-- a sender has the bytes of what it counts as
+abbrev pub IsSent : LiteralSender → Type 0
+IsSent one = IsTaken one.taken one.bytes
+
+abbrev pub IsStraight : Instruction → Type 0
+IsStraight (instruction.Data one) = Unit {0}
+IsStraight instruction.Show = Unit {0}
+IsStraight instruction.Accept = Unit {0}
+IsStraight instruction.Date = Unit {0}
+IsStraight (instruction.Tick line) = ⊥
+IsStraight instruction.Stop = ⊥
+IsStraight (instruction.Count counter turns) = ⊥
+IsStraight (instruction.CountNumber counter) = ⊥
+IsStraight (instruction.Turn counter to) = ⊥
+IsStraight (instruction.Branch to) = ⊥
+IsStraight (instruction.Jump to) = ⊥
+IsStraight instruction.Join = ⊥
+IsStraight (instruction.Perform line first last) = ⊥
+IsStraight (instruction.Back paragraph) = ⊥
+IsStraight (instruction.File file verb) = ⊥
+IsStraight (instruction.TestStatus class) = ⊥
+IsStraight instruction.Unheard = ⊥
+
+-- A part of such instructions, without areas, items, files and starts of its own. Its senders have their bytes, and its inspections their texts.
+pub record Straight (part : Code) : Type 0 where
+  pub instructions : AllByRecursion IsStraight part.instructions
+  pub starts : part.starts ≡ []
+  pub files : part.files ≡ []
+  pub areas : part.tables.areas ≡ []
+  pub items : part.tables.items ≡ []
+  pub senders : AllByRecursion IsSent part.tables.senders
+  pub inspections : AllByRecursion IsInspection part.tables.inspections
+
+-- a piece, behind whatever code
+abbrev pub AlwaysStraight : Piece → Type 0
+AlwaysStraight piece = (before : Code) → Straight (piece before)
+
+pub joined_straight : (a b : Code) → Straight a → Straight b → Straight (joined a b)
+joined_straight a b f s = record {
+  instructions = all_both IsStraight a.instructions b.instructions f.instructions s.instructions;
+  starts = ap (λ l. l ++ b.starts) f.starts ∙ s.starts;
+  files = ap (λ l. l ++ b.files) f.files ∙ s.files;
+  areas = ap (λ l. l ++ b.tables.areas) f.areas ∙ s.areas;
+  items = ap (λ l. l ++ b.tables.items) f.items ∙ s.items;
+  senders = all_both IsSent a.tables.senders b.tables.senders f.senders s.senders;
+  inspections = all_both IsInspection a.tables.inspections b.tables.inspections f.inspections s.inspections;
+}
+
+pub both_straight : (first second : Piece) → AlwaysStraight first → AlwaysStraight second → AlwaysStraight (both first second)
+both_straight first second f s before = joined_straight (first before) (second (joined before (first before))) (f before) (s (joined before (first before)))
+
+pub nothing_straight : Straight nothing
+nothing_straight = record { instructions = tt; starts = refl; files = refl; areas = refl; items = refl; senders = tt; inspections = tt }
+
+pub in_order_straight : {A : Type 0} (piece : A → Piece) → ((one : A) → AlwaysStraight (piece one)) → (all : List A) → AlwaysStraight (in_order piece all)
+in_order_straight piece straight [] before = nothing_straight
+in_order_straight piece straight (one ∷ more) before =
+    joined_straight (piece one before) (in_order piece more (joined before (piece one before))) (straight one before) (in_order_straight piece straight more (joined before (piece one before)))
+
+data_straight : (all : List DataInstruction) → AllByRecursion IsStraight (map instruction.Data all)
+data_straight [] = tt
+data_straight (one ∷ more) = (tt, data_straight more)
+
+pub works_straight : (all : List DataInstruction) → AlwaysStraight (works_piece all)
+works_straight all before = record { instructions = data_straight all; starts = refl; files = refl; areas = refl; items = refl; senders = tt; inspections = tt }
+
+pub work_straight : (one : DataInstruction) → AlwaysStraight (work_piece one)
+work_straight one = works_straight (one ∷ [])
+
+pub number_straight : (x : Fraction) → AlwaysStraight (number_piece x)
+number_straight x before = record { instructions = (tt, tt); starts = refl; files = refl; areas = refl; items = refl; senders = tt; inspections = tt }
+
+adjustment_straight : (one : Adjustment) → AlwaysStraight (adjustment_piece one)
+adjustment_straight adjustment.Nothing before = nothing_straight
+adjustment_straight (adjustment.Plus n) before = both_straight (integer_piece (number_of n)) (work_piece (i.Calculate c.Add)) (number_straight (integer (pos (number_of n)))) (work_straight (i.Calculate c.Add)) before
+adjustment_straight (adjustment.Minus n) before = both_straight (integer_piece (number_of n)) (work_piece (i.Calculate c.Subtract)) (number_straight (integer (pos (number_of n)))) (work_straight (i.Calculate c.Subtract)) before
+
+pub text_straight : (bytes : List ℕ) → AlwaysStraight (text_piece bytes)
+text_straight bytes before = record { instructions = (tt, tt); starts = refl; files = refl; areas = refl; items = refl; senders = tt; inspections = tt }
+
+pattern_straight : (pattern : Pattern) → AlwaysStraight (pattern_piece pattern)
+pattern_straight pattern before = record { instructions = (tt, tt); starts = refl; files = refl; areas = refl; items = refl; senders = tt; inspections = tt }
+
+pub line_end_straight : (advancing : Bool) → AlwaysStraight (line_end_piece advancing)
+line_end_straight true before = text_straight (line_end true) before
+line_end_straight false before = nothing_straight
+
+-- one instruction
+pub one_straight : (one : Instruction) → IsStraight one → AlwaysStraight (λ before. plain (one ∷ []))
+one_straight one h before = record { instructions = (h, tt); starts = refl; files = refl; areas = refl; items = refl; senders = tt; inspections = tt }
+
+module _ (items : List Placed) where
+  subscript_straight : (one : written.Subscript) → AlwaysStraight (subscript_piece items one)
+  subscript_straight (subscript.Literal n) = number_straight (integer (pos (number_of n)))
+  subscript_straight (subscript.Item name adjusting) =
+      both_straight (work_piece (i.Place (item_index items name))) (both (work_piece i.Push) (adjustment_piece adjusting)) (work_straight (i.Place (item_index items name)))
+      (both_straight (work_piece i.Push) (adjustment_piece adjusting) (work_straight i.Push) (adjustment_straight adjusting))
+
+  pub subscripts_straight : (dimensions : List Dimension) (all : List written.Subscript) → AlwaysStraight (subscripts_piece items dimensions all)
+  subscripts_straight [] all before = nothing_straight
+  subscripts_straight (one ∷ more) [] before = nothing_straight
+  subscripts_straight (one ∷ more) (written ∷ others) before =
+      both_straight (both (subscript_piece items written) (work_piece (index_code one))) (subscripts_piece items more others)
+      (both_straight (subscript_piece items written) (work_piece (index_code one)) (subscript_straight written) (work_straight (index_code one))) (subscripts_straight more others) before
+
+  pub reference_straight : (one : Reference) → AlwaysStraight (reference_piece items one)
+  reference_straight one =
+      let dimensions = dimensions_of (slice_get items (item_number items one.item)) in
+      both_straight (work_piece (i.Place (item_index items one.item))) (subscripts_piece items dimensions one.subscripts) (work_straight (i.Place (item_index items one.item))) (subscripts_straight dimensions one.subscripts)
+
+  pub taking_straight : (taking : DataInstruction) (one : Reference) → AlwaysStraight (taking_piece items taking one)
+  taking_straight taking one = both_straight (reference_piece items one) (work_piece taking) (reference_straight one) (work_straight taking)
+
+  -- ---- MOVE, DISPLAY and ACCEPT
+
+  pub sender_straight : (one : Operand) → operand_rules items one ≡ [] → AlwaysStraight (sender_piece items one)
+  sender_straight (operand.Item one) e before = taking_straight i.Take one before
+  sender_straight (operand.Literal one) e before = record {
+    instructions = (tt, tt);
+    starts = refl;
+    files = refl;
+    areas = refl;
+    items = refl;
+    senders = (sender_formed one.value (not_false (has_form one.value) (kept (not (has_form one.value)) (form_rule one.value) one.place e)), tt);
+    inspections = tt;
+  }
+
+  pub operand_straight : (one : Operand) → AlwaysStraight (operand_piece items one)
+  operand_straight (operand.Item one) = taking_straight i.Append one
+  operand_straight (operand.Literal one) = text_straight (shown_literal one.value)
+
+  initialize_straight : (one : Reference) → AlwaysStraight (initialize_piece items one)
+  initialize_straight one =
+      let pattern = pattern_of (slice_get items (item_number items one.item)) in
+      both_straight (reference_piece items one) (pattern_piece pattern) (reference_straight one) (pattern_straight pattern)
+
+  set_straight : (one : Reference) → AlwaysStraight (set_piece items one)
+  set_straight one =
+      let place = i.Place (condition_item items one.item) in
+      let dimensions = dimensions_of (slice_get items (condition_item items one.item).number) in
+      let subscripts = subscripts_piece items dimensions one.subscripts in
+      let pattern = set_of (slice_get (all_conditions items) (condition_number items one.item)) in
+      both_straight (work_piece place) (both subscripts (pattern_piece pattern)) (work_straight place)
+      (both_straight subscripts (pattern_piece pattern) (subscripts_straight dimensions one.subscripts) (pattern_straight pattern))
+
+  pub moving_straight : (one : Moving) → moving_rules items one ≡ [] → AlwaysStraight (moving_piece items one)
+  moving_straight (Move sender receivers) e =
+      both_straight (sender_piece items sender) (receivers_piece items receivers)
+      (sender_straight sender (left_none (operand_rules items sender) (each (item_rules items (receives (sent_by items sender))) receivers) e)) (in_order_straight (taking_piece items i.Move) (taking_straight i.Move) receivers)
+  moving_straight (Initialize receivers) e = in_order_straight (initialize_piece items) initialize_straight receivers
+  moving_straight (Set conditions) e = in_order_straight (set_piece items) set_straight conditions

@@ -1,0 +1,38 @@
+use Rattle.std.proofs.Common.{◌≡◌, sym, ap, ◌∙◌}
+use Rattle.std.specs.Prelude.{not}
+use Rattle.source_tree.specs.declared.condition.Condition.TheVariants.{Name}
+use Rattle.source_tree.specs.ConditionRules.{condition_rules}
+use Rattle.data_instructions.specs.ConditionCodes.{negation}
+use Rattle.declarations.specs.declared.looked.AskedCondition.{AskedCondition}
+use Rattle.declarations.specs.Looking.{condition_meant}
+use Rattle.declarations.specs.Named.{items_in}
+use Rattle.codegen.specs.Pieces.{Piece, joined, both}
+use Rattle.codegen.specs.DataCode.{works_piece}
+use Rattle.codegen.specs.ConditionCode.{condition_piece}
+use Rattle.codegen.proofs.ConditionLayers.{name_is, name_rules}
+use Rattle.codegen.proofs.Questions.{unless_is, told_rules}
+use Rattle.codegen.proofs.Sequences.{is_so, ends_so}
+use Rattle.codegen.proofs.emitter.Emitter.emit_asked_condition.Goals as goal
+
+pub emit_condition_name-requires-clause-rules : goal.emit_condition_name-requires-clause-rules
+emit_condition_name-requires-clause-rules c =
+    let items = items_in c.args.self.now.declarations.now in
+    let named = c.in-Name.reference.now in
+    sym (name_rules items named) ∙ sym (told_rules items (not c.in-Name.negated) (Name named))
+    ∙ sym (ap (λ (one : AskedCondition). condition_rules items (condition_meant one)) c.in-Name.is) ∙ c.requires.rules
+
+pub returns-in_ok-emit_condition_name-in-Name : goal.returns-in_ok-emit_condition_name-in-Name
+returns-in_ok-emit_condition_name-in-Name c =
+    let items = items_in c.args.self.now.declarations.now in
+    let old = c.args.code.now in
+    let result = c.emit_negation.result in
+    let new = c.emit_negation.new.code in
+    let named = c.in-Name.reference.now in
+    let test = condition_piece items (Name named) in
+    let behind = works_piece (negation c.in-Name.negated) in
+    let begun : c.emit_condition_name.new.code ≡ joined old (test old) =
+    c.in_ok-emit_condition_name-in-Name.ensures ∙ ap (λ (p : Piece). joined old (p old)) (sym (name_is items named)) in
+    is_so result new (joined old (both test behind old)) (joined old (condition_piece items (condition_meant c.args.one) old))
+    (ends_so result test behind old c.emit_condition_name.new.code new begun c.emit_negation.ensures)
+    (ap (joined old) (unless_is items (Name named) c.in-Name.negated old)
+    ∙ sym (ap (λ (one : AskedCondition). joined old (condition_piece items (condition_meant one) old)) c.in-Name.is))

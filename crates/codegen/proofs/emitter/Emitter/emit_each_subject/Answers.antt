@@ -1,0 +1,22 @@
+use Rattle.std.proofs.Common.{ap, ◌∙◌}
+use Rattle.source_tree.specs.declared.evaluate.Subject.{Subject}
+use Rattle.source_tree.specs.EvaluateRules.{subject_rules}
+use Rattle.declarations.specs.Named.{items_in}
+use Rattle.codegen.specs.Pieces.{joined, in_order}
+use Rattle.codegen.specs.SubjectCode.{subject_piece}
+use Rattle.codegen.proofs.Kept.{one_kept}
+use Rattle.codegen.proofs.Pieces.{goes_on}
+use Rattle.codegen.proofs.emitter.Emitter.emit_each_subject.Goals as goal
+
+pub emit_subject-requires-clause-rules : goal.emit_subject-requires-clause-rules
+emit_subject-requires-clause-rules c =
+    let kept = subject_rules (items_in c.args.self.now.declarations.now) in
+    ap kept c.one-item.is ∙ one_kept kept c.args.all.now c.loop-one.one-index c.one-item.result c.loop-one-test.true c.requires.rules
+
+pub loop-one-preserved : goal.loop-one-preserved
+loop-one-preserved c =
+    let piece = subject_piece (items_in c.args.self.now.declarations.now) in
+    let old = c.loop-one.code in
+    goes_on piece c.args.all.now c.loop-one.one-index c.one-item.result old c.emit_subject.new.code
+    (joined c.args.code.now (in_order piece c.args.all.now c.args.code.now)) c.loop-one-test.true
+    (c.in_ok-emit_subject.ensures ∙ ap (λ (one : Subject). joined old (piece one old)) c.one-item.is) c.loop-one.invariant

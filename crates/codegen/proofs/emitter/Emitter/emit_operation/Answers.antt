@@ -1,0 +1,27 @@
+use Rattle.std.proofs.Common.{sym, ap}
+use Rattle.declarations.specs.Named.{items_in}
+use Rattle.codegen.specs.Pieces.{joined, both}
+use Rattle.codegen.specs.ArithmeticCode.{operation_piece}
+use Rattle.codegen.specs.Operations.{values_piece, results_piece}
+use Rattle.codegen.proofs.Operations.{operation_parts, values_kept, results_kept}
+use Rattle.codegen.proofs.Sequences.{is_so, ends_so}
+use Rattle.codegen.proofs.emitter.Emitter.emit_operation.Goals as goal
+
+pub emit_values-requires-clause-rules : goal.emit_values-requires-clause-rules
+emit_values-requires-clause-rules c = values_kept (items_in c.args.self.now.declarations.now) c.args.one.now c.requires.rules
+
+pub emit_results-requires-clause-rules : goal.emit_results-requires-clause-rules
+emit_results-requires-clause-rules c = results_kept (items_in c.args.self.now.declarations.now) c.args.one.now c.requires.rules
+
+pub returns : goal.returns
+returns c =
+    let items = items_in c.args.self.now.declarations.now in
+    let one = c.args.one.now in
+    let old = c.args.code.now in
+    let result = c.emit_results.result in
+    let new = c.emit_results.new.code in
+    let values = values_piece items one in
+    let results = results_piece items c.args.keep one in
+    is_so result new (joined old (both values results old)) (joined old (operation_piece items c.args.keep one old))
+    (ends_so result values results old c.emit_values.new.code new c.in_ok-emit_values.ensures c.emit_results.ensures)
+    (ap (joined old) (sym (operation_parts items c.args.keep one old)))

@@ -1,0 +1,108 @@
+-- The code that takes the subjects of EVALUATE (own choice). It looks at each that can have a fault by a condition, whose truth isn't used.
+use Rattle.std.specs.Prelude.{◌==◌, ◌&&◌, Bool, true, false, not, if◌then◌else◌, List, [], ◌∷◌, length, Option, Some, None, slice_get}
+use Rattle.source_tree.specs.declared.literal.Figurative.TheVariants as figurative
+use Rattle.source_tree.specs.declared.literal.LiteralValue.TheVariants as literal
+use Rattle.source_tree.specs.declared.expression.Operand.{Operand}
+use Rattle.source_tree.specs.declared.expression.Operand.TheVariants as operand
+use Rattle.source_tree.specs.declared.condition.Relation.TheVariants.{Equal}
+use Rattle.source_tree.specs.declared.condition.Side.{Side}
+use Rattle.source_tree.specs.declared.condition.Side.TheVariants as side
+use Rattle.source_tree.specs.declared.condition.Condition.{Condition}
+use Rattle.source_tree.specs.declared.condition.Condition.TheVariants.{Relation}
+use Rattle.source_tree.specs.declared.evaluate.Subject.{Subject}
+use Rattle.source_tree.specs.declared.evaluate.Object.{Object}
+use Rattle.source_tree.specs.declared.evaluate.When.{When}
+use Rattle.source_tree.specs.declared.evaluate.Selected.{Selected}
+use Rattle.source_tree.specs.ArithmeticRules.{is_numeric_kind}
+use Rattle.source_tree.specs.Conditions.{alone_side}
+use Rattle.source_tree.specs.Evaluate.{Wanted, Looked, Value, Truth, Asking, looked_subject}
+use Rattle.source_tree.specs.LookUp.{first}
+use Rattle.source_tree.specs.Places.{Placed}
+use Rattle.declarations.specs.Looking.{choice_looked}
+use Rattle.codegen.specs.Pieces.{Piece, in_order}
+use Rattle.codegen.specs.Meeting.{nothing_piece}
+use Rattle.codegen.specs.DataCode.{item_number}
+use Rattle.codegen.specs.ConditionCode.{condition_piece}
+
+-- ZERO, with which each value may be compared
+abbrev pub zero_side : Side
+zero_side = side.Literal (record { value = literal.Figurative figurative.Zero; place = record { line = 0; column = 0 } })
+
+-- an item without subscripts
+abbrev pub is_single : Option Placed → Bool
+is_single None = false
+is_single (Some one) = length one.dimensions == 0
+
+abbrev pub is_numeric : Option Placed → Bool
+is_numeric None = false
+is_numeric (Some one) = is_numeric_kind one.item.kind
+
+-- the first object of a group of WHENs, and of all groups
+abbrev pub object_of_when : Option When → Option Object
+object_of_when None = None
+object_of_when (Some one) = slice_get one.objects 0
+
+abbrev pub object_of_group : {S : Type 0} → Option (Selected S) → Option Object
+object_of_group None = None
+object_of_group (Some one) = object_of_when (slice_get one.whens 0)
+
+abbrev pub first_object : {S : Type 0} → List (Selected S) → Option Object
+first_object selected = object_of_group (slice_get selected 0)
+
+-- `items` are those of the table of items, in order.
+module _ (items : List Placed) where
+  -- a literal, or an item without subscripts: no fault but that of bytes that are no number
+  abbrev pub is_at_hand : Option Operand → Bool
+  is_at_hand (Some (operand.Item one)) = is_single (slice_get items (item_number items one.item))
+  is_at_hand (Some (operand.Literal one)) = true
+  is_at_hand None = false
+
+  -- a literal, or an item without subscripts that isn't numeric: no fault at all
+  abbrev pub is_faultless : Option Operand → Bool
+  is_faultless (Some (operand.Item one)) =
+      is_single (slice_get items (item_number items one.item)) && not (is_numeric (slice_get items (item_number items one.item)))
+  is_faultless (Some (operand.Literal one)) = true
+  is_faultless None = false
+
+  -- ---- a subject
+
+  -- the condition by which a value is taken
+  abbrev pub value_look : Side → Option Condition
+  value_look value = if is_faultless (alone_side value) then None else Some (Relation value Equal zero_side)
+
+  -- TRUE and FALSE are there.
+  abbrev pub look : Looked Side → Option Condition
+  look (Value one) = value_look one
+  look (Truth one) = None
+  look (Asking one) = Some one
+
+  abbrev pub look_piece : Option Condition → Piece
+  look_piece None = nothing_piece
+  look_piece (Some one) = condition_piece items one
+
+  abbrev pub subject_piece : Subject → Piece
+  subject_piece one = look_piece (look (looked_subject items one))
+
+  abbrev pub each_subject_piece : List Subject → Piece
+  each_subject_piece = in_order subject_piece
+
+  -- ---- where the first object does it
+
+  -- The object asks for its subject first of all, for a value beside one that is at hand: what is a fault is the same one.
+  abbrev pub asks_at_once : Looked Side → Option (Looked Wanted) → Bool
+  asks_at_once (Value one) (Some (Value wanted)) = is_at_hand (alone_side wanted.first)
+  asks_at_once (Asking one) (Some (Truth truth)) = true
+  asks_at_once (Asking one) (Some (Asking other)) = true
+  asks_at_once _ _ = false
+
+  abbrev pub is_asked_first : List Subject → Option Object → Bool
+  is_asked_first (one ∷ []) (Some object) = asks_at_once (looked_subject items one) (choice_looked items object.choice)
+  is_asked_first _ _ = false
+
+  abbrev pub taken_from : Bool → List Subject → Piece
+  taken_from true subjects = nothing_piece
+  taken_from false subjects = each_subject_piece subjects
+
+  -- The subjects before the first WHEN. One alone for which its first object asks at once is taken there.
+  abbrev pub subjects_piece : List Subject → Option Object → Piece
+  subjects_piece subjects object = taken_from (is_asked_first subjects object) subjects

@@ -1,0 +1,387 @@
+//! The code of arithmetic statements, without their phrases (COBOL-85, Nucleus, "Arithmetic statements").
+
+ghost use Rattle.std.specs.Prelude.{◌≡◌, [], ◌∷◌, ◌++◌, OnOk};
+ghost use Rattle.source_tree.specs.Broken.{each};
+ghost use Rattle.source_tree.specs.NameRules.{subscript_rules, item_rules};
+ghost use Rattle.source_tree.specs.ArithmeticRules.{number_receiver, number_rules, updated_rules, given_rules, operation_rules};
+ghost use Rattle.data_instructions.specs.ArithmeticCodes as codes;
+ghost use Rattle.data_instructions.specs.declared.calculation.Calculation.TheVariants as c;
+ghost use Rattle.data_instructions.specs.declared.instruction.DataInstruction.TheVariants as i;
+ghost use Rattle.declarations.specs.Named.{IsDeclared, items_in};
+ghost use Rattle.codegen.specs.Pieces.{joined, both};
+ghost use Rattle.codegen.specs.DataCode.{work_piece, works_piece};
+ghost use Rattle.codegen.specs.ArithmeticCode as spec;
+ghost use Rattle.codegen.specs.Operations as parts;
+
+use crate::emitter::Emitter;
+use crate::expression::operator_code;
+use crate::references::{emit_work, emit_works};
+use code_image::Code;
+use data_instructions::{Calculation, DataInstruction};
+use source_tree::{DivisionOrder, Operand, Operation, Operator, Receiver, Reference};
+use sqlite_items::Items;
+use std::alloc::AllocError;
+
+/// A number of the stack again, so many below the newest one.
+fn duplicate(depth: u32) -> DataInstruction
+    ensures { result ≡ codes.duplicate depth }
+{
+    DataInstruction::Calculate(Calculation::Duplicate { depth })
+}
+
+/// The newest number isn't wanted any more.
+pub(crate) fn discard() -> DataInstruction
+    ensures { result ≡ codes.discard }
+{
+    DataInstruction::Calculate(Calculation::Discard)
+}
+
+/// From a dividend, a divisor and their quotient the remainder. Where the quotient was kept there is none.
+fn emit_subtracted(code: &mut Code, scale: u8, keep: bool) -> Result<(), AllocError>
+    ensures { OnOk result (code.new ≡ joined code.old (works_piece (i.Calculate (c.Truncate scale) ∷ i.Calculate c.Multiply ∷ i.Calculate c.Subtract ∷ spec.void_code keep) code.old)) }
+{
+    emit_work(
+        code,
+        DataInstruction::Calculate(Calculation::Truncate { scale }),
+    )?;
+    emit_work(code, operator_code(Operator::Multiply))?;
+    emit_work(code, operator_code(Operator::Subtract))?;
+    if keep {
+        emit_work(code, DataInstruction::VoidIfTrue)?;
+    }
+    Ok(())
+}
+
+impl<'a> Emitter<'a> {
+    /// The newest number, stored. `keep`: there is an ON SIZE ERROR phrase.
+    fn emit_store(
+        &self,
+        code: &mut Code,
+        keep: bool,
+        rounded: bool,
+        item: &Reference,
+    ) -> Result<(), AllocError>
+        requires declared { IsDeclared self.now.declarations.now }
+        requires rules { each (subscript_rules (items_in self.now.declarations.now)) item.now.subscripts ≡ [] }
+        ensures { OnOk result (code.new ≡ joined code.old (spec.store_piece (items_in self.now.declarations.now) keep (record { item = item.now; rounded = rounded }) code.old)) }
+    {
+        self.emit_taking(code, DataInstruction::Store { rounded, keep }, item)
+    }
+
+    /// A receiver becomes what it holds, with the newest number on the right of an operator.
+    pub(crate) fn emit_update(
+        &self,
+        code: &mut Code,
+        keep: bool,
+        operator: Operator,
+        rounded: bool,
+        item: &Reference,
+    ) -> Result<(), AllocError>
+        requires declared { IsDeclared self.now.declarations.now }
+        requires rules { each (subscript_rules (items_in self.now.declarations.now)) item.now.subscripts ≡ [] }
+        ensures { OnOk result (code.new ≡ joined code.old (spec.update_piece (items_in self.now.declarations.now) keep operator (record { item = item.now; rounded = rounded }) code.old)) }
+    {
+        self.emit_taking(code, DataInstruction::Push, item)?;
+        emit_works(code, &[duplicate(1), operator_code(operator)])?;
+        self.emit_store(code, keep, rounded, item)
+    }
+
+    fn emit_updates(
+        &self,
+        code: &mut Code,
+        keep: bool,
+        operator: Operator,
+        all: &[Receiver],
+    ) -> Result<(), AllocError>
+        requires declared { IsDeclared self.now.declarations.now }
+        requires rules { updated_rules (items_in self.now.declarations.now) all.now ≡ [] }
+        ensures { OnOk result (code.new ≡ joined code.old (spec.updates_piece (items_in self.now.declarations.now) keep operator all.now code.old)) }
+    {
+        for one in all {
+            self.emit_update(code, keep, operator, one.rounded, &one.item)?;
+        }
+        Ok(())
+    }
+
+    /// Receivers become what they hold, with the newest number, which is taken.
+    fn emit_updating(
+        &self,
+        code: &mut Code,
+        keep: bool,
+        operator: Operator,
+        all: &Items<Receiver>,
+    ) -> Result<(), AllocError>
+        requires declared { IsDeclared self.now.declarations.now }
+        requires rules { updated_rules (items_in self.now.declarations.now) all.now ≡ [] }
+        ensures { OnOk result (code.new ≡ joined code.old (both (spec.updates_piece (items_in self.now.declarations.now) keep operator all.now) parts.discard_piece code.old)) }
+    {
+        self.emit_updates(code, keep, operator, all.as_slice())?;
+        emit_work(code, discard())
+    }
+
+    /// A receiver becomes the newest number, which stays.
+    fn emit_give(&self, code: &mut Code, keep: bool, one: &Receiver) -> Result<(), AllocError>
+        requires declared { IsDeclared self.now.declarations.now }
+        requires rules { each (subscript_rules (items_in self.now.declarations.now)) one.now.item.subscripts ≡ [] }
+        ensures { OnOk result (code.new ≡ joined code.old (spec.give_piece (items_in self.now.declarations.now) keep one.now code.old)) }
+    {
+        emit_work(code, duplicate(0))?;
+        self.emit_store(code, keep, one.rounded, &one.item)
+    }
+
+    fn emit_gives(&self, code: &mut Code, keep: bool, all: &[Receiver]) -> Result<(), AllocError>
+        requires declared { IsDeclared self.now.declarations.now }
+        requires rules { given_rules (items_in self.now.declarations.now) all.now ≡ [] }
+        ensures { OnOk result (code.new ≡ joined code.old (spec.gives_piece (items_in self.now.declarations.now) keep all.now code.old)) }
+    {
+        for one in all {
+            self.emit_give(code, keep, one)?;
+        }
+        Ok(())
+    }
+
+    /// Receivers become the newest number, which is taken.
+    fn emit_giving(
+        &self,
+        code: &mut Code,
+        keep: bool,
+        all: &Items<Receiver>,
+    ) -> Result<(), AllocError>
+        requires declared { IsDeclared self.now.declarations.now }
+        requires rules { given_rules (items_in self.now.declarations.now) all.now ≡ [] }
+        ensures { OnOk result (code.new ≡ joined code.old (both (spec.gives_piece (items_in self.now.declarations.now) keep all.now) parts.discard_piece code.old)) }
+    {
+        self.emit_gives(code, keep, all.as_slice())?;
+        emit_work(code, discard())
+    }
+
+    /// Receivers become the newest number without the one below; both are taken.
+    fn emit_difference(
+        &self,
+        code: &mut Code,
+        keep: bool,
+        all: &Items<Receiver>,
+    ) -> Result<(), AllocError>
+        requires declared { IsDeclared self.now.declarations.now }
+        requires rules { given_rules (items_in self.now.declarations.now) all.now ≡ [] }
+        ensures { OnOk result (code.new ≡ joined code.old (both (works_piece (codes.duplicate 1 ∷ i.Calculate c.Subtract ∷ [])) (both (spec.gives_piece (items_in self.now.declarations.now) keep all.now) (works_piece (codes.discard ∷ codes.discard ∷ []))) code.old)) }
+    {
+        emit_works(code, &[duplicate(1), operator_code(Operator::Subtract)])?;
+        self.emit_gives(code, keep, all.as_slice())?;
+        emit_works(code, &[discard(), discard()])
+    }
+
+    /// Receivers become the product of the two newest numbers, which are taken.
+    fn emit_product(
+        &self,
+        code: &mut Code,
+        keep: bool,
+        all: &Items<Receiver>,
+    ) -> Result<(), AllocError>
+        requires declared { IsDeclared self.now.declarations.now }
+        requires rules { given_rules (items_in self.now.declarations.now) all.now ≡ [] }
+        ensures { OnOk result (code.new ≡ joined code.old (both (work_piece (i.Calculate c.Multiply)) (both (spec.gives_piece (items_in self.now.declarations.now) keep all.now) parts.discard_piece) code.old)) }
+    {
+        emit_work(code, operator_code(Operator::Multiply))?;
+        self.emit_giving(code, keep, all)
+    }
+
+    /// Receivers become the quotient of the two newest numbers, which are taken.
+    fn emit_quotient(
+        &self,
+        code: &mut Code,
+        keep: bool,
+        all: &Items<Receiver>,
+    ) -> Result<(), AllocError>
+        requires declared { IsDeclared self.now.declarations.now }
+        requires rules { given_rules (items_in self.now.declarations.now) all.now ≡ [] }
+        ensures { OnOk result (code.new ≡ joined code.old (both (work_piece (i.Calculate c.Divide)) (both (spec.gives_piece (items_in self.now.declarations.now) keep all.now) parts.discard_piece) code.old)) }
+    {
+        emit_work(code, operator_code(Operator::Divide))?;
+        self.emit_giving(code, keep, all)
+    }
+
+    /// What DIVIDE with GIVING does with its operands.
+    fn emit_quotient_giving(
+        &self,
+        code: &mut Code,
+        keep: bool,
+        order: DivisionOrder,
+        all: &Items<Receiver>,
+    ) -> Result<(), AllocError>
+        requires declared { IsDeclared self.now.declarations.now }
+        requires rules { given_rules (items_in self.now.declarations.now) all.now ≡ [] }
+        ensures { OnOk result (code.new ≡ joined code.old (spec.division_piece order (both (work_piece (i.Calculate c.Divide)) (both (spec.gives_piece (items_in self.now.declarations.now) keep all.now) parts.discard_piece)) code.old)) }
+    {
+        match order {
+            DivisionOrder::By => self.emit_quotient(code, keep, all),
+            DivisionOrder::Into => {
+                emit_work(code, duplicate(1))?;
+                self.emit_quotient(code, keep, all)?;
+                emit_work(code, discard())
+            }
+        }
+    }
+
+    /// The quotient and the remainder of the two newest numbers, which are taken.
+    fn emit_remainder(
+        &self,
+        code: &mut Code,
+        keep: bool,
+        quotient: &Receiver,
+        remainder: &Reference,
+    ) -> Result<(), AllocError>
+        requires declared { IsDeclared self.now.declarations.now }
+        requires rules { item_rules (items_in self.now.declarations.now) number_receiver quotient.now.item ++ item_rules (items_in self.now.declarations.now) number_receiver remainder.now ≡ [] }
+        ensures { OnOk result (code.new ≡ joined code.old (spec.remainder_piece (items_in self.now.declarations.now) keep quotient.now remainder.now code.old)) }
+    {
+        emit_works(
+            code,
+            &[duplicate(1), duplicate(1), operator_code(Operator::Divide)],
+        )?;
+        self.emit_give(code, keep, quotient)?;
+        emit_subtracted(code, self.scale_kept(&quotient.item.item), keep)?;
+        let rounded = false;
+        self.emit_taking(code, DataInstruction::Store { rounded, keep }, remainder)
+    }
+
+    /// What DIVIDE with REMAINDER does with its operands.
+    fn emit_remainder_giving(
+        &self,
+        code: &mut Code,
+        keep: bool,
+        order: DivisionOrder,
+        quotient: &Receiver,
+        remainder: &Reference,
+    ) -> Result<(), AllocError>
+        requires declared { IsDeclared self.now.declarations.now }
+        requires rules { item_rules (items_in self.now.declarations.now) number_receiver quotient.now.item ++ item_rules (items_in self.now.declarations.now) number_receiver remainder.now ≡ [] }
+        ensures { OnOk result (code.new ≡ joined code.old (spec.division_piece order (spec.remainder_piece (items_in self.now.declarations.now) keep quotient.now remainder.now) code.old)) }
+    {
+        match order {
+            DivisionOrder::By => self.emit_remainder(code, keep, quotient, remainder),
+            DivisionOrder::Into => {
+                emit_work(code, duplicate(1))?;
+                self.emit_remainder(code, keep, quotient, remainder)?;
+                emit_work(code, discard())
+            }
+        }
+    }
+
+    fn emit_pair(
+        &self,
+        code: &mut Code,
+        first: &Operand,
+        second: &Operand,
+    ) -> Result<(), AllocError>
+        requires declared { IsDeclared self.now.declarations.now }
+        requires rules { number_rules (items_in self.now.declarations.now) first.now ++ number_rules (items_in self.now.declarations.now) second.now ≡ [] }
+        ensures { OnOk result (code.new ≡ joined code.old (both (spec.value_piece (items_in self.now.declarations.now) first.now) (spec.value_piece (items_in self.now.declarations.now) second.now) code.old)) }
+    {
+        self.emit_value(code, first)?;
+        self.emit_value(code, second)
+    }
+
+    fn emit_total_and(
+        &self,
+        code: &mut Code,
+        all: &[Operand],
+        minuend: &Operand,
+    ) -> Result<(), AllocError>
+        requires declared { IsDeclared self.now.declarations.now }
+        requires rules { each (number_rules (items_in self.now.declarations.now)) all.now ++ number_rules (items_in self.now.declarations.now) minuend.now ≡ [] }
+        ensures { OnOk result (code.new ≡ joined code.old (both (spec.total_piece (items_in self.now.declarations.now) all.now) (spec.value_piece (items_in self.now.declarations.now) minuend.now) code.old)) }
+    {
+        self.emit_total(code, all)?;
+        self.emit_value(code, minuend)
+    }
+
+    /// The values that an operation begins with, on the stack of numbers.
+    fn emit_values(&self, code: &mut Code, one: &Operation) -> Result<(), AllocError>
+        requires declared { IsDeclared self.now.declarations.now }
+        requires rules { parts.values_rules (items_in self.now.declarations.now) one.now ≡ [] }
+        ensures { OnOk result (code.new ≡ joined code.old (parts.values_piece (items_in self.now.declarations.now) one.now code.old)) }
+    {
+        match one {
+            Operation::Add { operands, .. } => self.emit_total(code, operands.as_slice()),
+            Operation::AddGiving { operands, .. } => self.emit_total(code, operands.as_slice()),
+            Operation::Subtract { operands, .. } => self.emit_total(code, operands.as_slice()),
+            Operation::SubtractGiving {
+                operands,
+                minuend,
+                ..
+            } => self.emit_total_and(code, operands.as_slice(), minuend),
+            Operation::Multiply { factor, .. } => self.emit_value(code, factor),
+            Operation::MultiplyGiving { factor, by, .. } => self.emit_pair(code, factor, by),
+            Operation::Divide { divisor, .. } => self.emit_value(code, divisor),
+            Operation::DivideGiving { first, second, .. } => self.emit_pair(code, first, second),
+            Operation::DivideRemainder { first, second, .. } => self.emit_pair(code, first, second),
+            Operation::Compute { value, .. } => self.emit_expression(code, value),
+        }
+    }
+
+    /// What comes of those values, which are taken.
+    fn emit_results(&self, code: &mut Code, keep: bool, one: &Operation) -> Result<(), AllocError>
+        requires declared { IsDeclared self.now.declarations.now }
+        requires rules { parts.results_rules (items_in self.now.declarations.now) one.now ≡ [] }
+        ensures { OnOk result (code.new ≡ joined code.old (parts.results_piece (items_in self.now.declarations.now) keep one.now code.old)) }
+    {
+        match one {
+            Operation::Add { receivers, .. } => {
+                self.emit_updating(code, keep, Operator::Add, receivers)
+            }
+            Operation::AddGiving { receivers, .. } => self.emit_giving(code, keep, receivers),
+            Operation::Subtract { receivers, .. } => {
+                self.emit_updating(code, keep, Operator::Subtract, receivers)
+            }
+            Operation::SubtractGiving { receivers, .. } => {
+                self.emit_difference(code, keep, receivers)
+            }
+            Operation::Multiply { receivers, .. } => {
+                self.emit_updating(code, keep, Operator::Multiply, receivers)
+            }
+            Operation::MultiplyGiving { receivers, .. } => self.emit_product(code, keep, receivers),
+            Operation::Divide { receivers, .. } => {
+                self.emit_updating(code, keep, Operator::Divide, receivers)
+            }
+            Operation::DivideGiving {
+                order,
+                receivers,
+                ..
+            } => self.emit_quotient_giving(code, keep, *order, receivers),
+            Operation::DivideRemainder {
+                order,
+                quotient,
+                remainder,
+                ..
+            } => self.emit_remainder_giving(code, keep, *order, quotient, remainder),
+            Operation::Compute { receivers, .. } => self.emit_giving(code, keep, receivers),
+        }
+    }
+
+    /// What an operation computes and stores.
+    #[tactic(auto, using(crate::proofs::Operations::operation_parts))]
+    fn emit_operation(&self, code: &mut Code, keep: bool, one: &Operation) -> Result<(), AllocError>
+        requires declared { IsDeclared self.now.declarations.now }
+        requires rules { operation_rules (items_in self.now.declarations.now) one.now ≡ [] }
+        ensures { OnOk result (code.new ≡ joined code.old (spec.operation_piece (items_in self.now.declarations.now) keep one.now code.old)) }
+    {
+        self.emit_values(code, one)?;
+        self.emit_results(code, keep, one)
+    }
+
+    /// An arithmetic statement, behind its `tick` and before its phrases. `keep`: there is an ON SIZE ERROR phrase.
+    pub(crate) fn emit_arithmetic(
+        &self,
+        code: &mut Code,
+        keep: bool,
+        one: &Operation,
+    ) -> Result<(), AllocError>
+        requires declared { IsDeclared self.now.declarations.now }
+        requires rules { operation_rules (items_in self.now.declarations.now) one.now ≡ [] }
+        ensures { OnOk result (code.new ≡ joined code.old (spec.arithmetic_piece (items_in self.now.declarations.now) keep one.now code.old)) }
+    {
+        emit_work(code, DataInstruction::ClearTruth)?;
+        self.emit_operation(code, keep, one)
+    }
+}

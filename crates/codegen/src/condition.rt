@@ -1,0 +1,366 @@
+//! The code of conditions, which sets the truth (COBOL-85, Nucleus, "Conditional expressions").
+
+ghost use Rattle.std.specs.Prelude.{◌≡◌, [], map, true, OnOk};
+ghost use Rattle.std.specs.Option.{option_map};
+ghost use Rattle.source_tree.specs.declared.condition.Condition.{Condition};
+ghost use Rattle.source_tree.specs.declared.expression.Operand.TheVariants as operand;
+ghost use Rattle.source_tree.specs.Broken.{each};
+ghost use Rattle.source_tree.specs.Conditions as meaning;
+ghost use Rattle.source_tree.specs.EntryRules.{entry_rules};
+ghost use Rattle.source_tree.specs.NameRules.{any_item, item_rules, operand_rules};
+ghost use Rattle.source_tree.specs.ArithmeticRules.{expression_rules};
+ghost use Rattle.source_tree.specs.ConditionRules.{side_rules, relation_rules, condition_rules};
+ghost use Rattle.source_tree.specs.ValueRules.{has_form};
+ghost use Rattle.data_instructions.specs.ConditionCodes.{negation};
+ghost use Rattle.data_instructions.specs.declared.test.Test.TheVariants as t;
+ghost use Rattle.data_instructions.specs.declared.instruction.DataInstruction.TheVariants as i;
+ghost use Rattle.declarations.specs.Named.{IsDeclared, items_in};
+ghost use Rattle.codegen.specs.Pieces.{joined, both, in_order};
+ghost use Rattle.codegen.specs.DataCode.{sender_piece, work_piece, works_piece, number_piece, taking_piece};
+ghost use Rattle.codegen.specs.ArithmeticCode.{zero_number, value_piece, expression_piece};
+ghost use Rattle.codegen.specs.ConditionCode as spec;
+ghost use Rattle.codegen.specs.Sides.{operand_of};
+
+use crate::emitter::Emitter;
+use crate::moving::{emit_literal, put_sender};
+use crate::number::number_of_literal;
+use crate::phrases::{emit_branch, emit_jump, emit_meeting};
+use crate::references::{emit_number, emit_work, emit_works};
+use code_image::Code;
+use data_instructions::{DataInstruction, Test};
+use decimal18::Dec;
+use source_tree::{
+    Class, Condition, Expression, Literal, Operand, Reference, Relation, Side, SignTest,
+};
+use std::alloc::AllocError;
+
+/// An operand that is a side of a relation by itself.
+#[derive(Clone, Copy)]
+pub(crate) enum Alone<'a> {
+    Item(&'a Reference),
+    Literal(&'a Literal),
+}
+
+/// The operand that a side is.
+pub(crate) fn alone_side<'a>(side: &'a Side) -> Option<Alone<'a>>
+    ensures { option_map operand_of result ≡ meaning.alone_side side.now }
+{
+    match side {
+        Side::Literal(literal) => Some(Alone::Literal(literal)),
+        Side::Expression(Expression::Operand(Operand::Item(reference))) => {
+            Some(Alone::Item(reference))
+        }
+        Side::Expression(Expression::Operand(Operand::Literal(literal))) => {
+            Some(Alone::Literal(literal))
+        }
+        Side::Expression(Expression::Negated(_) | Expression::Chain { .. }) => None,
+    }
+}
+
+/// The relation to zero that a sign is; NOT gives the opposite one.
+fn sign_relation(one: SignTest, negated: bool) -> Relation
+    ensures { result ≡ meaning.sign_relation one negated }
+{
+    match (one, negated) {
+        (SignTest::Positive, false) => Relation::Greater,
+        (SignTest::Positive, true) => Relation::LessOrEqual,
+        (SignTest::Negative, false) => Relation::Less,
+        (SignTest::Negative, true) => Relation::GreaterOrEqual,
+        (SignTest::Zero, false) => Relation::Equal,
+        (SignTest::Zero, true) => Relation::NotEqual,
+    }
+}
+
+/// NOT behind a test.
+pub(crate) fn emit_negation(code: &mut Code, negated: bool) -> Result<(), AllocError>
+    ensures { OnOk result (code.new ≡ joined code.old (works_piece (negation negated) code.old)) }
+{
+    if !negated {
+        return Ok(());
+    }
+    emit_work(code, DataInstruction::Test(Test::Invert))
+}
+
+impl<'a> Emitter<'a> {
+    /// The sender compared with a literal.
+    fn emit_compared_literal(
+        &self,
+        code: &mut Code,
+        relation: Relation,
+        one: &Literal,
+    ) -> Result<(), AllocError>
+        requires { has_form one.now.value ≡ true }
+        ensures { OnOk result (code.new ≡ joined code.old (spec.compared_piece (items_in self.now.declarations.now) relation (operand.Literal one.now) code.old)) }
+    {
+        let literal = put_sender(self.alloc, code, &one.value)?;
+        emit_work(
+            code,
+            DataInstruction::Test(Test::CompareLiteral { relation, literal }),
+        )
+    }
+
+    /// An operand alone, taken as the sender.
+    fn emit_taken(&self, code: &mut Code, one: Alone<'_>) -> Result<(), AllocError>
+        requires declared { IsDeclared self.now.declarations.now }
+        requires rules { operand_rules (items_in self.now.declarations.now) (operand_of one) ≡ [] }
+        ensures { OnOk result (code.new ≡ joined code.old (sender_piece (items_in self.now.declarations.now) (operand_of one.entry) code.old)) }
+    {
+        match one {
+            Alone::Item(reference) => self.emit_taking(code, DataInstruction::Take, reference),
+            Alone::Literal(literal) => emit_literal(self.alloc, code, &literal.value),
+        }
+    }
+
+    /// The sender compared with an operand alone.
+    fn emit_compared(
+        &self,
+        code: &mut Code,
+        relation: Relation,
+        one: Alone<'_>,
+    ) -> Result<(), AllocError>
+        requires declared { IsDeclared self.now.declarations.now }
+        requires rules { operand_rules (items_in self.now.declarations.now) (operand_of one) ≡ [] }
+        ensures { OnOk result (code.new ≡ joined code.old (spec.compared_piece (items_in self.now.declarations.now) relation (operand_of one.entry) code.old)) }
+    {
+        match one {
+            Alone::Item(reference) => {
+                let test = DataInstruction::Test(Test::Compare { relation });
+                self.emit_taking(code, test, reference)
+            }
+            Alone::Literal(literal) => self.emit_compared_literal(code, relation, literal),
+        }
+    }
+
+    /// The number of an operand alone.
+    fn emit_number_alone(&self, code: &mut Code, one: Alone<'_>) -> Result<(), AllocError>
+        requires declared { IsDeclared self.now.declarations.now }
+        requires rules { operand_rules (items_in self.now.declarations.now) (operand_of one) ≡ [] }
+        ensures { OnOk result (code.new ≡ joined code.old (value_piece (items_in self.now.declarations.now) (operand_of one.entry) code.old)) }
+    {
+        match one {
+            Alone::Item(reference) => self.emit_taking(code, DataInstruction::Push, reference),
+            Alone::Literal(literal) => emit_number(code, number_of_literal(&literal.value)),
+        }
+    }
+
+    /// A side as a number.
+    fn emit_side(&self, code: &mut Code, side: &Side) -> Result<(), AllocError>
+        requires declared { IsDeclared self.now.declarations.now }
+        requires rules { side_rules (items_in self.now.declarations.now) side.now ≡ [] }
+        ensures { OnOk result (code.new ≡ joined code.old (spec.side_piece (items_in self.now.declarations.now) side.now code.old)) }
+    {
+        if let Some(one) = alone_side(side) {
+            return self.emit_number_alone(code, one);
+        }
+        match side {
+            Side::Expression(one) => self.emit_expression(code, one),
+            Side::Literal(one) => emit_number(code, number_of_literal(&one.value)),
+        }
+    }
+
+    /// Two sides compared as numbers.
+    fn emit_numbers_compared(
+        &self,
+        code: &mut Code,
+        left: &Side,
+        relation: Relation,
+        right: &Side,
+    ) -> Result<(), AllocError>
+        requires declared { IsDeclared self.now.declarations.now }
+        requires left { side_rules (items_in self.now.declarations.now) left.now ≡ [] }
+        requires right { side_rules (items_in self.now.declarations.now) right.now ≡ [] }
+        ensures { OnOk result (code.new ≡ joined code.old (both (spec.side_piece (items_in self.now.declarations.now) left.now) (both (spec.side_piece (items_in self.now.declarations.now) right.now) (work_piece (i.Test (t.CompareNumbers relation)))) code.old)) }
+    {
+        self.emit_side(code, left)?;
+        self.emit_side(code, right)?;
+        emit_work(
+            code,
+            DataInstruction::Test(Test::CompareNumbers { relation }),
+        )
+    }
+
+    /// A relation: two operands alone are compared as what they are, others as numbers.
+    pub(crate) fn emit_relation(
+        &self,
+        code: &mut Code,
+        left: &Side,
+        relation: Relation,
+        right: &Side,
+    ) -> Result<(), AllocError>
+        requires declared { IsDeclared self.now.declarations.now }
+        requires rules { relation_rules (items_in self.now.declarations.now) left.now right.now ≡ [] }
+        ensures { OnOk result (code.new ≡ joined code.old (spec.relation_piece (items_in self.now.declarations.now) left.now relation right.now code.old)) }
+    {
+        let Some(one) = alone_side(left) else {
+            return self.emit_numbers_compared(code, left, relation, right);
+        };
+        let Some(other) = alone_side(right) else {
+            return self.emit_numbers_compared(code, left, relation, right);
+        };
+        self.emit_taken(code, one)?;
+        self.emit_compared(code, relation, other)
+    }
+
+    /// A sign condition.
+    fn emit_sign(
+        &self,
+        code: &mut Code,
+        value: &Expression,
+        negated: bool,
+        sign: SignTest,
+    ) -> Result<(), AllocError>
+        requires declared { IsDeclared self.now.declarations.now }
+        requires rules { expression_rules (items_in self.now.declarations.now) value.now ≡ [] }
+        ensures { OnOk result (code.new ≡ joined code.old (both (expression_piece (items_in self.now.declarations.now) value.now) (both (number_piece zero_number) (work_piece (i.Test (t.CompareNumbers (meaning.sign_relation sign negated))))) code.old)) }
+    {
+        self.emit_expression(code, value)?;
+        emit_number(code, Dec::short(0, 0))?;
+        let relation = sign_relation(sign, negated);
+        emit_work(
+            code,
+            DataInstruction::Test(Test::CompareNumbers { relation }),
+        )
+    }
+
+    /// A class condition.
+    fn emit_class(
+        &self,
+        code: &mut Code,
+        item: &Reference,
+        negated: bool,
+        class: Class,
+    ) -> Result<(), AllocError>
+        requires declared { IsDeclared self.now.declarations.now }
+        requires rules { item_rules (items_in self.now.declarations.now) any_item item.now ≡ [] }
+        ensures { OnOk result (code.new ≡ joined code.old (both (taking_piece (items_in self.now.declarations.now) (i.Test (t.Class class)) item.now) (works_piece (negation negated)) code.old)) }
+    {
+        self.emit_taking(code, DataInstruction::Test(Test::Class { class }), item)?;
+        emit_negation(code, negated)
+    }
+
+    /// A condition, with those in it.
+    #[cycle(condition)]
+    pub(crate) fn emit_condition(&self, code: &mut Code, one: &Condition) -> Result<(), AllocError>
+        requires declared { IsDeclared self.now.declarations.now }
+        requires entries { entry_rules self.now.declarations.now.storage.now ≡ [] }
+        requires rules { condition_rules (items_in self.now.declarations.now) one.now ≡ [] }
+        ensures { OnOk result (code.new ≡ joined code.old (spec.condition_piece (items_in self.now.declarations.now) one.now code.old)) }
+    {
+        match one {
+            Condition::Name(reference) => self.emit_condition_name(code, reference),
+            Condition::Relation {
+                left,
+                relation,
+                right,
+            } => self.emit_relation(code, left, *relation, right),
+            Condition::Sign {
+                value,
+                negated,
+                sign,
+            } => self.emit_sign(code, value, *negated, *sign),
+            Condition::Class {
+                item,
+                negated,
+                class,
+            } => self.emit_class(code, item, *negated, *class),
+            Condition::Not(inner) => {
+                self.emit_condition(code, inner.get())?;
+                emit_work(code, DataInstruction::Test(Test::Invert))
+            }
+            Condition::All(parts) => self.emit_all(code, parts.as_slice()),
+            Condition::Any(parts) => self.emit_any(code, parts.as_slice()),
+        }
+    }
+
+    /// Conditions with AND between.
+    #[cycle(condition)]
+    fn emit_all(&self, code: &mut Code, parts: &[Condition]) -> Result<(), AllocError>
+        requires declared { IsDeclared self.now.declarations.now }
+        requires entries { entry_rules self.now.declarations.now.storage.now ≡ [] }
+        requires rules { each (condition_rules (items_in self.now.declarations.now)) parts.now ≡ [] }
+        ensures { OnOk result (code.new ≡ joined code.old (spec.all_piece (map (spec.condition_piece (items_in self.now.declarations.now)) parts.now) code.old)) }
+    {
+        let Some((first, more)) = parts.split_first() else {
+            return emit_works(
+                code,
+                &[
+                    DataInstruction::ClearTruth,
+                    DataInstruction::Test(Test::Invert),
+                ],
+            );
+        };
+        self.emit_condition(code, first)?;
+        self.emit_each_and(code, more)
+    }
+
+    /// Conditions with OR between.
+    #[cycle(condition)]
+    fn emit_any(&self, code: &mut Code, parts: &[Condition]) -> Result<(), AllocError>
+        requires declared { IsDeclared self.now.declarations.now }
+        requires entries { entry_rules self.now.declarations.now.storage.now ≡ [] }
+        requires rules { each (condition_rules (items_in self.now.declarations.now)) parts.now ≡ [] }
+        ensures { OnOk result (code.new ≡ joined code.old (spec.any_piece (map (spec.condition_piece (items_in self.now.declarations.now)) parts.now) code.old)) }
+    {
+        let Some((first, more)) = parts.split_first() else {
+            return emit_works(code, &[DataInstruction::ClearTruth]);
+        };
+        self.emit_condition(code, first)?;
+        self.emit_each_or(code, more)
+    }
+
+    /// The further conditions behind AND.
+    #[cycle(condition)]
+    fn emit_each_and(&self, code: &mut Code, more: &[Condition]) -> Result<(), AllocError>
+        requires declared { IsDeclared self.now.declarations.now }
+        requires entries { entry_rules self.now.declarations.now.storage.now ≡ [] }
+        requires rules { each (condition_rules (items_in self.now.declarations.now)) more.now ≡ [] }
+        ensures { OnOk result (code.new ≡ joined code.old (in_order (λ (one : Condition). spec.and_piece (spec.condition_piece (items_in self.now.declarations.now) one)) more.now code.old)) }
+    {
+        for one in more {
+            self.emit_and(code, one)?;
+        }
+        Ok(())
+    }
+
+    /// The further conditions behind OR.
+    #[cycle(condition)]
+    fn emit_each_or(&self, code: &mut Code, more: &[Condition]) -> Result<(), AllocError>
+        requires declared { IsDeclared self.now.declarations.now }
+        requires entries { entry_rules self.now.declarations.now.storage.now ≡ [] }
+        requires rules { each (condition_rules (items_in self.now.declarations.now)) more.now ≡ [] }
+        ensures { OnOk result (code.new ≡ joined code.old (in_order (λ (one : Condition). spec.or_piece (spec.condition_piece (items_in self.now.declarations.now) one)) more.now code.old)) }
+    {
+        for one in more {
+            self.emit_or(code, one)?;
+        }
+        Ok(())
+    }
+
+    /// A condition behind AND: it is asked where the truth is true so far.
+    #[cycle(condition)]
+    fn emit_and(&self, code: &mut Code, one: &Condition) -> Result<(), AllocError>
+        requires declared { IsDeclared self.now.declarations.now }
+        requires entries { entry_rules self.now.declarations.now.storage.now ≡ [] }
+        requires rules { condition_rules (items_in self.now.declarations.now) one.now ≡ [] }
+        ensures { OnOk result (code.new ≡ joined code.old (spec.and_piece (spec.condition_piece (items_in self.now.declarations.now) one.now) code.old)) }
+    {
+        let branch = emit_branch(code)?;
+        self.emit_condition(code, one)?;
+        let other = emit_jump(code)?;
+        emit_meeting(code, branch, other)
+    }
+
+    /// A condition behind OR: it is asked where the truth is false so far.
+    #[cycle(condition)]
+    fn emit_or(&self, code: &mut Code, one: &Condition) -> Result<(), AllocError>
+        requires declared { IsDeclared self.now.declarations.now }
+        requires entries { entry_rules self.now.declarations.now.storage.now ≡ [] }
+        requires rules { condition_rules (items_in self.now.declarations.now) one.now ≡ [] }
+        ensures { OnOk result (code.new ≡ joined code.old (spec.or_piece (spec.condition_piece (items_in self.now.declarations.now) one.now) code.old)) }
+    {
+        let branch = emit_branch(code)?;
+        let other = emit_jump(code)?;
+        self.emit_condition(code, one)?;
+        emit_meeting(code, branch, other)
+    }
+}

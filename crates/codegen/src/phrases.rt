@@ -1,0 +1,81 @@
+//! The code of two ways that meet, one of which is taken by the truth.
+
+ghost use Rattle.std.specs.Prelude.{◌≡◌, ◌+◌, ◌<◌, ◌≤◌, ◌||◌, length, OnOk, IfOk};
+ghost use Rattle.source_tree.specs.Arithmetic.{is_there};
+ghost use Rattle.codegen.specs.Pieces.{joined};
+ghost use Rattle.codegen.specs.Meeting.{branch_code, jump_code};
+ghost use Rattle.std.specs.List.{AllByRecursion};
+ghost use Rattle.codegen.specs.Phrases.{IsWay, met, met_all};
+
+use code_image::{Code, Instruction};
+use source_tree::{Phrases, Statement};
+use std::alloc::AllocError;
+
+/// Where one of two ways isn't known yet: the address of the branch, and that at which the other way begins.
+#[derive(Clone, Copy, Drop)]
+pub(crate) struct Way {
+    pub(crate) branch: usize,
+    pub(crate) other: usize,
+}
+
+/// A phrase stands.
+pub(crate) fn has_phrase(one: &Phrases<Statement>) -> bool
+    ensures { result ≡ (is_there one.now.arose || is_there one.now.did_not) }
+{
+    one.arose.is_some() || one.did_not.is_some()
+}
+
+/// Where the truth is false, on to an address that isn't known yet. Answers its own address.
+pub(crate) fn emit_branch(code: &mut Code) -> Result<usize, AllocError>
+    ensures code { OnOk result (code.new ≡ joined code.old (branch_code 0)) }
+    ensures address { IfOk result (λ address. address ≡ length code.old.instructions) }
+{
+    let address = code.instructions.len();
+    code.instructions.push(Instruction::Branch { to: 0 })?;
+    Ok(address)
+}
+
+/// Where the truth is false, back to an address.
+pub(crate) fn emit_way_back(code: &mut Code, to: usize) -> Result<(), AllocError>
+    ensures { OnOk result (code.new ≡ joined code.old (branch_code to)) }
+{
+    code.instructions.push(Instruction::Branch { to })?;
+    Ok(())
+}
+
+/// On to an address that isn't known yet, and the end of the first way. Answers the address at which the other one begins.
+pub(crate) fn emit_jump(code: &mut Code) -> Result<usize, AllocError>
+    ensures code { OnOk result (code.new ≡ joined code.old (jump_code 0)) }
+    ensures other { IfOk result (λ other. other ≡ length code.old.instructions + 2) }
+{
+    code.instructions.push(Instruction::Jump { to: 0 })?;
+    code.instructions.push(Instruction::Join)?;
+    Ok(code.instructions.len())
+}
+
+/// Both ways meet: the branch, and the jump in front of the other way, lead where they have to.
+pub(crate) fn emit_meeting(code: &mut Code, branch: usize, other: usize) -> Result<(), AllocError>
+    requires branch { branch < length code.old.instructions }
+    requires jump { 2 ≤ other }
+    requires other { other ≤ length code.old.instructions }
+    ensures { OnOk result (code.new ≡ met branch other code.old) }
+{
+    code.instructions.push(Instruction::Join)?;
+    let end = code.instructions.len();
+    code.instructions
+        .set(branch, Instruction::Branch { to: other });
+    code.instructions
+        .set(other - 2, Instruction::Jump { to: end });
+    Ok(())
+}
+
+/// All ways meet, the last ones first.
+pub(crate) fn emit_meetings(code: &mut Code, mut ways: Vec<Way>) -> Result<(), AllocError>
+    requires { AllByRecursion (IsWay (length code.old.instructions)) ways.items }
+    ensures { OnOk result (code.new ≡ met_all ways.items code.old) }
+{
+    'ways: while let Some(way) = ways.pop() {
+        emit_meeting(code, way.branch, way.other)?;
+    }
+    Ok(())
+}

@@ -1,0 +1,181 @@
+//! The code that takes the subjects of EVALUATE, for the sake of their faults (COBOL-85, Nucleus, "The EVALUATE statement").
+
+ghost use Rattle.std.specs.Prelude.{◌≡◌, [], OnOk, slice_get};
+ghost use Rattle.std.specs.Option.{option_copied};
+ghost use Rattle.source_tree.specs.Broken.{each};
+ghost use Rattle.source_tree.specs.Conditions as conditions;
+ghost use Rattle.source_tree.specs.ConditionRules.{side_rules};
+ghost use Rattle.source_tree.specs.EntryRules.{entry_rules};
+ghost use Rattle.source_tree.specs.Evaluate as tree;
+ghost use Rattle.source_tree.specs.EvaluateRules.{subject_rules};
+ghost use Rattle.declarations.specs.Named.{IsDeclared, items_in};
+ghost use Rattle.declarations.specs.Looking.{choice_looked};
+ghost use Rattle.codegen.specs.Pieces.{joined};
+ghost use Rattle.codegen.specs.DataCode.{item_number};
+ghost use Rattle.codegen.specs.SubjectCode as spec;
+
+use crate::condition::{Alone, alone_side};
+use crate::emitter::Emitter;
+use code_image::Code;
+use declarations::{LookedObject, LookedSubject};
+use items::Kind;
+use source_tree::{
+    Choice, Evaluate, Figurative, Literal, LiteralValue, Object, Place, QualifiedName, Relation,
+    Selected, Side, Statement, Subject,
+};
+use std::alloc::AllocError;
+
+/// ZERO, with which each value may be compared.
+fn zero_side() -> Side
+    ensures { result ≡ spec.zero_side }
+{
+    Side::Literal(Literal {
+        value: LiteralValue::Figurative(Figurative::Zero),
+        place: Place { line: 0, column: 0 },
+    })
+}
+
+/// The first object of the first WHEN.
+fn first_object(selected: &[Selected<Statement>]) -> Option<&Object>
+    ensures { option_copied result ≡ spec.first_object selected.now }
+{
+    let group = selected.first()?;
+    let when = group.whens.as_slice().first()?;
+    when.objects.as_slice().first()
+}
+
+impl<'a> Emitter<'a> {
+    /// The item that a name names has no subscripts.
+    fn is_single(&self, name: &QualifiedName) -> bool
+        requires { IsDeclared self.now.declarations.now }
+        ensures { result ≡ spec.is_single (slice_get (items_in self.now.declarations.now) (item_number (items_in self.now.declarations.now) name.now)) }
+    {
+        match self.declarations.layout.items.get(self.item_number(name)) {
+            Some(found) => found.dimensions.as_slice().is_empty(),
+            None => false,
+        }
+    }
+
+    /// The item that a name names is numeric.
+    fn is_numeric(&self, name: &QualifiedName) -> bool
+        requires { IsDeclared self.now.declarations.now }
+        ensures { result ≡ spec.is_numeric (slice_get (items_in self.now.declarations.now) (item_number (items_in self.now.declarations.now) name.now)) }
+    {
+        match self.declarations.layout.items.get(self.item_number(name)) {
+            Some(found) => matches!(found.item.kind, Kind::Numeric(_)),
+            None => false,
+        }
+    }
+
+    /// A value is a literal, or an item without subscripts.
+    fn is_at_hand(&self, value: &Side) -> bool
+        requires { IsDeclared self.now.declarations.now }
+        ensures { result ≡ spec.is_at_hand (items_in self.now.declarations.now) (conditions.alone_side value.now) }
+    {
+        match alone_side(value) {
+            Some(Alone::Item(reference)) => self.is_single(&reference.item),
+            Some(Alone::Literal(_)) => true,
+            None => false,
+        }
+    }
+
+    /// A value has no fault: it is a literal, or an item that has no subscripts and isn't numeric.
+    fn is_faultless(&self, value: &Side) -> bool
+        requires { IsDeclared self.now.declarations.now }
+        ensures { result ≡ spec.is_faultless (items_in self.now.declarations.now) (conditions.alone_side value.now) }
+    {
+        match alone_side(value) {
+            Some(Alone::Item(reference)) => {
+                self.is_single(&reference.item) && !self.is_numeric(&reference.item)
+            }
+            Some(Alone::Literal(_)) => true,
+            None => false,
+        }
+    }
+
+    /// An object asks for its subject before it can have a fault of its own that is another one.
+    fn asks_at_once(&self, subject: &Subject, choice: &Choice) -> bool
+        requires { IsDeclared self.now.declarations.now }
+        ensures { result ≡ spec.asks_at_once (items_in self.now.declarations.now) (tree.looked_subject (items_in self.now.declarations.now) subject.now) (choice_looked (items_in self.now.declarations.now) choice.now) }
+    {
+        match (
+            self.declarations.looked_subject(subject),
+            self.declarations.looked_object(choice),
+        ) {
+            (LookedSubject::Value(_), LookedObject::Value(wanted)) => self.is_at_hand(wanted.first),
+            (LookedSubject::Condition(_), LookedObject::Truth(_) | LookedObject::Condition(_)) => {
+                true
+            }
+            _ => false,
+        }
+    }
+
+    /// The only subject is asked for at once.
+    fn is_asked_first(&self, subjects: &[Subject], object: Option<&Object>) -> bool
+        requires { IsDeclared self.now.declarations.now }
+        ensures { result ≡ spec.is_asked_first (items_in self.now.declarations.now) subjects.now (option_copied object.entry) }
+    {
+        match (subjects, object) {
+            ([subject], Some(object)) => self.asks_at_once(subject, &object.choice),
+            _ => false,
+        }
+    }
+
+    /// A value is compared with ZERO, if it can have a fault.
+    fn emit_value_look(&self, code: &mut Code, value: &Side) -> Result<(), AllocError>
+        requires declared { IsDeclared self.now.declarations.now }
+        requires rules { side_rules (items_in self.now.declarations.now) value.now ≡ [] }
+        ensures { OnOk result (code.new ≡ joined code.old (spec.look_piece (items_in self.now.declarations.now) (spec.value_look (items_in self.now.declarations.now) value.now) code.old)) }
+    {
+        if self.is_faultless(value) {
+            return Ok(());
+        }
+        let zero = zero_side();
+        self.emit_relation(code, value, Relation::Equal, &zero)
+    }
+
+    /// A subject is taken.
+    fn emit_subject(&self, code: &mut Code, one: &Subject) -> Result<(), AllocError>
+        requires declared { IsDeclared self.now.declarations.now }
+        requires entries { entry_rules self.now.declarations.now.storage.now ≡ [] }
+        requires rules { subject_rules (items_in self.now.declarations.now) one.now ≡ [] }
+        ensures { OnOk result (code.new ≡ joined code.old (spec.subject_piece (items_in self.now.declarations.now) one.now code.old)) }
+    {
+        match self.declarations.looked_subject(one) {
+            LookedSubject::Value(value) => self.emit_value_look(code, value),
+            LookedSubject::Truth(_) => Ok(()),
+            LookedSubject::Condition(condition) => self.emit_asked_condition(code, condition),
+        }
+    }
+
+    /// Subjects are taken, in order.
+    fn emit_each_subject(&self, code: &mut Code, all: &[Subject]) -> Result<(), AllocError>
+        requires declared { IsDeclared self.now.declarations.now }
+        requires entries { entry_rules self.now.declarations.now.storage.now ≡ [] }
+        requires rules { each (subject_rules (items_in self.now.declarations.now)) all.now ≡ [] }
+        ensures { OnOk result (code.new ≡ joined code.old (spec.each_subject_piece (items_in self.now.declarations.now) all.now code.old)) }
+    {
+        for one in all {
+            self.emit_subject(code, one)?;
+        }
+        Ok(())
+    }
+
+    /// The subjects of EVALUATE are taken, where that isn't done by the first WHEN.
+    pub(crate) fn emit_subjects(
+        &self,
+        code: &mut Code,
+        one: &Evaluate<Statement>,
+    ) -> Result<(), AllocError>
+        requires declared { IsDeclared self.now.declarations.now }
+        requires entries { entry_rules self.now.declarations.now.storage.now ≡ [] }
+        requires rules { each (subject_rules (items_in self.now.declarations.now)) one.now.subjects ≡ [] }
+        ensures { OnOk result (code.new ≡ joined code.old (spec.subjects_piece (items_in self.now.declarations.now) one.now.subjects (spec.first_object one.now.selected) code.old)) }
+    {
+        let subjects = one.subjects.as_slice();
+        if self.is_asked_first(subjects, first_object(one.selected.as_slice())) {
+            return Ok(());
+        }
+        self.emit_each_subject(code, subjects)
+    }
+}

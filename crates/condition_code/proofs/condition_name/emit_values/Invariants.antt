@@ -1,8 +1,0 @@
-use Rattle.std.proofs.Common.{◌≡◌, drop}
-use Rattle.code_builder.specs.Pieces.{joined, in_order}
-use Rattle.condition_code.specs.ConditionCode.{value_range_piece}
-use Rattle.condition_code.proofs.condition_name.emit_values.Given as goal
-
--- what is there, and what is still to come, are the whole
-abbrev pub invariant-loop-one : goal.invariant-loop-one
-invariant-loop-one l = joined l.code (in_order value_range_piece (drop l.one-index l.all) l.code) ≡ joined l.initial.code (in_order value_range_piece l.all l.initial.code)

@@ -1,3 +1,0 @@
-pub mod ConditionCode
-pub mod SubjectCode
-pub mod Sides

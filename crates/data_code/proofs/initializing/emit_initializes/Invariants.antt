@@ -1,9 +1,0 @@
-use Rattle.std.proofs.Common.{◌≡◌, drop}
-use Rattle.data_code.specs.PatternCode.{initialize_piece}
-use Rattle.declarations.specs.Named.{items_in}
-use Rattle.code_builder.specs.Pieces.{joined, in_order}
-use Rattle.data_code.proofs.initializing.emit_initializes.Given as goal
-
--- what is there, and what is still to come, are the whole
-abbrev pub invariant-loop-one : goal.invariant-loop-one
-invariant-loop-one l = joined l.code (in_order (initialize_piece (items_in l.emitter.declarations.now)) (drop l.one-index l.all) l.code) ≡ joined l.initial.code (in_order (initialize_piece (items_in l.emitter.declarations.now)) l.all l.initial.code)

@@ -1,4 +1,0 @@
-pub mod PatternCode
-pub mod StringCode
-pub mod InspectCode
-pub mod StatementCode

@@ -1,4 +1,0 @@
-pub mod FileCode
-pub mod Sent
-pub mod Filed
-pub mod StorageCode
