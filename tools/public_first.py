@@ -1,0 +1,105 @@
+"""The order of items in a source file: public types and functions first."""
+import re
+
+from repository import ROOT  # noqa: F401
+
+HEAD = re.compile(r"(?:pub(?:\([^)]*\))? )?(?:mod|use|extern crate) |ghost use |macro_rules!|#!\[|//!")
+ITEM = re.compile(r"(?:pub(?:\([^)]*\))? )?(?:const |unsafe )?(fn|struct|enum|trait|impl|const|static|type)\b")
+
+
+class Item:
+    """An item with the comments and attributes above it."""
+
+    def __init__(self, lines):
+        self.lines = lines
+        self.line = next((line for line in lines if not line.startswith(("//", "#[", "    ", ")", "]"))), "")
+        found = ITEM.match(self.line)
+        self.kind = found[1] if found else None
+        self.is_public = self.line.startswith("pub ") or self.line.startswith("pub(")
+
+    def name(self):
+        """The type that an item declares, or that an implementation is of."""
+        if self.kind == "impl":
+            head = re.sub(r"<[^<>]*(?:<[^<>]*>[^<>]*)*>", "", self.line)
+            head = head.split(" for ")[-1] if " for " in head else head[len("impl"):]
+            return re.findall(r"\w+", head)[0]
+        found = re.search(r"\b(?:struct|enum|trait|fn|const|static|type) (\w+)", self.line)
+        return found[1] if found else None
+
+
+def items_of(text):
+    """The lines before the first item, and the items. Every line of a file belongs to one of them."""
+    lines = text.rstrip("\n").split("\n")
+    groups, current, depth_line = [], [], False
+    for line in lines:
+        begins = bool(line) and not line[0].isspace() and line[0] not in "{)}]" and not (current and open_item(current))
+        if begins and not depth_line:
+            if current and not only_above(current):
+                groups.append(current)
+                current = []
+        current.append(line)
+    groups.append(current)
+    groups = [[line for line in trimmed(group)] for group in groups if trimmed(group)]
+    begin = next((n for n, group in enumerate(groups) if not is_head(group)), len(groups))
+    return groups[:begin], [Item(group) for group in groups[begin:]]
+
+
+def trimmed(lines):
+    while lines and not lines[0]:
+        lines = lines[1:]
+    while lines and not lines[-1]:
+        lines = lines[:-1]
+    return lines
+
+
+def only_above(lines):
+    """Whether these are only the comments and attributes of an item that follows right away."""
+    last = [line for line in lines if line]
+    return bool(last) and lines[-1] != "" and all(line.startswith(("///", "//", "#[", " ", ")", "]")) and not line.startswith("//!") for line in last)
+
+
+def open_item(lines):
+    """Whether an item goes on: its contract stands between its head and its body."""
+    return False
+
+
+def is_head(group):
+    line = next((line for line in group if not line.startswith(("///", "#["))), "")
+    return bool(HEAD.match(line))
+
+
+def ordered(items):
+    """Public types with their implementations, public functions, and then the rest; in each part the order stays."""
+    public = {item.name() for item in items if item.is_public and item.kind in ("struct", "enum", "trait", "type")}
+    def rank(item):
+        if item.kind == "impl":
+            return 0 if item.name() in public else 2
+        return 0 if item.is_public and item.kind != "fn" else 1 if item.is_public else 2
+    return [item for wanted in (0, 1, 2) for item in items if rank(item) == wanted]
+
+
+def put_public_first(path):
+    """Orders the items of a file; the exit status."""
+    with open(path, encoding="utf-8") as text:
+        before = text.read()
+    head, items = items_of(before)
+    constants = [item for item in items if item.kind in ("const", "static") or item.kind is None]
+    rest = ordered([item for item in items if item not in constants])
+    parts = ["\n".join(group) for group in head]
+    text = join_head(head, before) + "\n\n".join("\n".join(item.lines) for item in constants + rest) + "\n"
+    if sorted(text.split("\n")) != sorted(before.split("\n")) and sorted(l for l in text.split("\n") if l) != sorted(l for l in before.split("\n") if l):
+        print(f"{path}: its items can't be told apart")
+        return 1
+    if text != before:
+        with open(path, "w", encoding="utf-8") as out:
+            out.write(text)
+    return 0
+
+
+def join_head(head, before):
+    """The text before the first item, as it is."""
+    if not head:
+        return ""
+    last = head[-1][-1]
+    at = before.rindex(last, 0, before.index("\n".join(head[-1])) + len("\n".join(head[-1])) + 1) + len(last)
+    return before[:at] + "\n\n"
