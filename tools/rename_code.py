@@ -187,7 +187,7 @@ class Items:
                 wanted[(f"{module}.{item.owner}.TheVariants", item.old)] = item.new
             elif item.kind == "fn":
                 begin = ".".join(("Rattle", item.crate, "proofs") + item.module)
-                folders[f"{begin}.{item.old}"] = f"{begin}.{item.new}"
+                folders.update({f"{begin}.{mark}{item.old}": f"{begin}.{mark}{item.new}" for mark in ("", "+")})
         Terms(self.renaming, wanted).rename()
         replace_modules(self.renaming, folders)
 
@@ -208,8 +208,8 @@ class Items:
 
     def move_proofs(self, item):
         folder = "/".join(("crates", item.crate, "proofs") + item.module)
-        if item.kind in ("fn", "type") and os.path.isdir(f"{ROOT}/{folder}/{item.old}"):
-            self.renaming.moves.append((f"{folder}/{item.old}", f"{folder}/{item.new}"))
+        if item.kind in ("fn", "type"):
+            self.renaming.moves += [(f"{folder}/{mark}{item.old}", f"{folder}/{mark}{item.new}") for mark in ("", "+")]
         elif item.kind == "method":
             for old in glob.glob(f"{ROOT}/crates/{item.crate}/proofs/**/{item.old}/", recursive=True):
                 old = os.path.relpath(old, ROOT)
