@@ -25,8 +25,8 @@ EndsBy finished no_room no_memory old (Refused Memory) now = no_memory
 
 -- A run from a state to another, by this end: each moment is one of the run, the first one too, and its end is
 -- one of the run's.
-pub record TakesCourse (moment : State → Type 0) (ends : Ended → State → Type 0) (past : List State)
+pub record TakesCourse (moment : State → Type 0) (ending : Ended → State → Type 0) (past : List State)
     (old : State) (ended : Ended) (later : List State) (new : State) : Type 0 where
   pub first : moment old
   pub moments : Through past later new moment
-  pub ends : ends ended new
+  pub ends : ending ended new
