@@ -1,0 +1,56 @@
+//! Rows that are repeated: those between `repeat COUNT NAME=START+STEP%BOUND ..` and `end` come COUNT times, with the value of each
+//! counter in place of `{NAME}`, in four digits. A counter begins at START and grows by STEP, below BOUND.
+use crate::counters::{Counter, read_counters, replace_counters};
+use crate::fault::Fault;
+use crate::words::Words;
+use std::alloc::Global;
+
+/// A row, and the number of its line.
+#[derive(Drop)]
+pub struct Row {
+    pub line: u32,
+    pub text: Vec<u8>,
+}
+
+/// The count and the counters of a row `repeat`.
+fn read_repeat(alloc: Global, row: &[u8]) -> Result<(u64, Vec<Counter>), Fault> {
+    let mut words = Words::of(row);
+    words.word();
+    match words.number() {
+        Some(count) => Ok((count.min(1_000_000), read_counters(alloc, words)?)),
+        None => Err(Fault::Spelling("this is no repetition")),
+    }
+}
+
+/// The rows of one turn.
+fn put_turn(
+    alloc: Global,
+    body: &[Row],
+    counters: &[Counter],
+    rows: &mut Vec<Row>,
+) -> Result<(), Fault> {
+    for row in body.iter() {
+        rows.push(Row {
+            line: row.line,
+            text: replace_counters(alloc, &row.text, counters)?,
+        })?;
+    }
+    Ok(())
+}
+
+/// Puts the rows of a repetition behind others.
+pub fn put_repeated(
+    alloc: Global,
+    head: &[u8],
+    body: &[Row],
+    rows: &mut Vec<Row>,
+) -> Result<(), Fault> {
+    let (count, mut counters) = read_repeat(alloc, head)?;
+    for _turn in 0..count {
+        put_turn(alloc, body, &counters, rows)?;
+        for counter in counters.iter_mut() {
+            counter.go_on();
+        }
+    }
+    Ok(())
+}

@@ -1,0 +1,72 @@
+//! Text between quotation marks.
+use crate::fault::Fault;
+use std::alloc::{AllocError, Global};
+
+fn digit(byte: Option<&u8>) -> Option<u8> {
+    match byte {
+        Some(byte @ b'0'..=b'9') => Some(byte.wrapping_sub(b'0')),
+        Some(byte @ b'a'..=b'f') => Some(byte.wrapping_sub(b'a').wrapping_add(10)),
+        _ => None,
+    }
+}
+
+/// The byte of `\xNN` at a place.
+fn escaped(text: &[u8], at: usize) -> Option<u8> {
+    if text.get(at) != Some(&b'\\') || text.get(at.wrapping_add(1)) != Some(&b'x') {
+        return None;
+    }
+    let high = digit(text.get(at.wrapping_add(2)))?;
+    let low = digit(text.get(at.wrapping_add(3)))?;
+    Some(high.wrapping_mul(16).wrapping_add(low))
+}
+
+/// The bytes that a text stands for: `\xNN` is a byte by its two hexadecimal digits, and each other byte is itself.
+pub fn unescape(alloc: Global, text: &[u8]) -> Result<Vec<u8>, AllocError> {
+    let mut bytes = Vec::new(alloc);
+    let mut skipped = 0usize;
+    for (i, byte) in text.iter().enumerate() {
+        if skipped > 0 {
+            skipped -= 1;
+        } else if let Some(escaped) = escaped(text, i) {
+            bytes.push(escaped)?;
+            skipped = 3;
+        } else {
+            bytes.push(*byte)?;
+        }
+    }
+    Ok(bytes)
+}
+
+fn digit_of(value: u8) -> u8 {
+    if value < 10 {
+        b'0'.wrapping_add(value)
+    } else {
+        b'a'.wrapping_add(value.wrapping_sub(10))
+    }
+}
+
+fn is_plain(byte: u8) -> bool {
+    0x20 <= byte && byte <= 0x7E && byte != b'\\' && byte != b'"'
+}
+
+/// Writes bytes as such a text.
+pub fn escape(bytes: &[u8], text: &mut Vec<u8>) -> Result<(), AllocError> {
+    for byte in bytes.iter() {
+        if is_plain(*byte) {
+            text.push(*byte)?;
+        } else {
+            text.extend_from_slice(b"\\x")?;
+            text.push(digit_of(*byte / 16))?;
+            text.push(digit_of(*byte % 16))?;
+        }
+    }
+    Ok(())
+}
+
+/// What is between the quotation marks of a word.
+pub fn quoted(alloc: Global, word: &[u8]) -> Result<Vec<u8>, Fault> {
+    match word {
+        [b'"', text @ .., b'"'] => Ok(unescape(alloc, text)?),
+        _ => Err(Fault::Spelling("a text between quotation marks belongs here")),
+    }
+}

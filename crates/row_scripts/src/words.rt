@@ -1,0 +1,92 @@
+//! The words of a row.
+
+/// The words that are left of a row. A word ends at a space that isn't between quotation marks.
+#[derive(Clone, Copy, Drop)]
+pub struct Words<'a> {
+    rest: &'a [u8],
+}
+
+/// Where a word ends.
+fn word_end(bytes: &[u8]) -> usize {
+    let mut is_quoted = false;
+    for (i, byte) in bytes.iter().enumerate() {
+        if *byte == b'"' {
+            is_quoted = !is_quoted;
+        }
+        if *byte == b' ' && !is_quoted {
+            return i;
+        }
+    }
+    bytes.len()
+}
+
+fn after(bytes: &[u8], count: usize) -> &[u8] {
+    match bytes.get(count..) {
+        Some(rest) => rest,
+        None => &bytes[..0],
+    }
+}
+
+impl<'a> Words<'a> {
+    /// All words of a row.
+    pub fn of(row: &'a [u8]) -> Words<'a> {
+        Words { rest: row }
+    }
+
+    /// The next word; nothing at the end.
+    pub fn word(&mut self) -> Option<&'a [u8]> {
+        let spaces = self.rest.iter().take_while(|byte| **byte == b' ').count();
+        let rest = after(self.rest, spaces);
+        let end = word_end(rest);
+        self.rest = after(rest, end);
+        match rest.get(..end) {
+            Some(word) if end > 0 => Some(word),
+            _ => None,
+        }
+    }
+
+    /// The next word, without taking it.
+    pub fn ahead(&self) -> Option<&'a [u8]> {
+        let mut words = *self;
+        words.word()
+    }
+
+    /// Takes the next word if it is this one.
+    pub fn takes(&mut self, word: &[u8]) -> bool {
+        let is_there = self.ahead() == Some(word);
+        if is_there {
+            self.word();
+        }
+        is_there
+    }
+
+    /// The next word as a number.
+    pub fn number(&mut self) -> Option<u64> {
+        let word = self.word()?;
+        number_of(word)
+    }
+
+    /// What is left of the row.
+    pub fn rest(&self) -> &'a [u8] {
+        self.rest
+    }
+
+    /// Whether no word is left.
+    pub fn is_done(&self) -> bool {
+        self.ahead().is_none()
+    }
+}
+
+/// The number that digits spell.
+pub fn number_of(word: &[u8]) -> Option<u64> {
+    let mut number = 0u64;
+    for byte in word.iter() {
+        if !byte.is_ascii_digit() {
+            return None;
+        }
+        number = number
+            .wrapping_mul(10)
+            .wrapping_add(u64::from(byte.wrapping_sub(b'0')));
+    }
+    if word.is_empty() { None } else { Some(number) }
+}

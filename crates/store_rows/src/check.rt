@@ -1,0 +1,99 @@
+//! A case over each of its volumes.
+use crate::case::Case;
+use crate::connectors::Kind;
+use crate::disturbed::Disturbed;
+use crate::rows::Run;
+use crate::statement::is_statement;
+use row_scripts::{Difference, Fault, Row, Tally};
+use std::alloc::{AllocError, Global};
+use std::io;
+
+/// Does the row at a place, disturbed at each of its calls if it is behind the row `disturbed`, whose place is told.
+fn do_row(
+    run: &mut Run<'_>,
+    kind: Kind,
+    place: usize,
+    row: &Row,
+    start: Option<usize>,
+) -> Result<(), Fault> {
+    let start = match start {
+        Some(start) if is_statement(&row.text) => start,
+        _ => return run.row(&row.text),
+    };
+    run.volume.rest();
+    let before = run.volume.files()?;
+    run.row(&row.text)?;
+    run.volume.rest();
+    let after = run.volume.files()?;
+    let disturbed = Disturbed {
+        alloc: run.alloc,
+        case: run.case,
+        kind,
+        sectors: run.kept(),
+        start,
+        place,
+        row: &row.text,
+        before,
+        after,
+    };
+    disturbed.at_each_call()
+}
+
+/// Does the rows up to the first that differs.
+fn do_rows(
+    alloc: Global,
+    case: &Case,
+    kind: Kind,
+    tally: &mut Tally,
+) -> Result<Option<Difference>, AllocError> {
+    let mut run = match Run::new(alloc, case, kind) {
+        Ok(run) => run,
+        Err(fault) => return Ok(Some(Difference::at(alloc, 0, fault)?)),
+    };
+    let mut start = None;
+    for (place, row) in case.rows.iter().enumerate() {
+        if row.text.starts_with(b"disturbed") {
+            start = Some(place.saturating_add(1));
+        }
+        if let Err(fault) = do_row(&mut run, kind, place, row, start) {
+            return Ok(Some(Difference::at(alloc, row.line, fault)?));
+        }
+        tally.pass();
+    }
+    Ok(None)
+}
+
+fn name_of(alloc: Global, kind: Kind) -> Result<String, AllocError> {
+    match kind {
+        Kind::Halves => "halves".to_string(alloc),
+        Kind::Trees(cached) => format!(in alloc; "trees {cached}"),
+    }
+}
+
+/// Runs a case over each of its volumes, and prints the first row that differs over each.
+pub fn check_case<R: Print + AllocGlobal>(
+    rt: &R,
+    script: &str,
+    rows: row_scripts::Case,
+    tally: &mut Tally,
+) -> io::Result<()> {
+    let alloc = rt.alloc();
+    if let Some(line) = rows.wrong {
+        let wrong = Difference::at(alloc, line, Fault::Spelling("this is no row"))?;
+        tally.fail(rt, script, "any volume", &wrong)?;
+    }
+    let case = match Case::of(alloc, rows.into_rows()) {
+        Ok(case) => case,
+        Err(fault) => {
+            let wrong = Difference::at(alloc, 0, fault)?;
+            return tally.fail(rt, script, "any volume", &wrong);
+        }
+    };
+    for kind in case.kinds().iter() {
+        if let Some(difference) = do_rows(alloc, &case, *kind, tally)? {
+            let over = name_of(alloc, *kind)?;
+            tally.fail(rt, script, over.as_str(), &difference)?;
+        }
+    }
+    Ok(())
+}

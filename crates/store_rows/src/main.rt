@@ -1,0 +1,33 @@
+//! Runs scripts of file statements over both stores, and prints each row that differs from what its script says.
+#![tactic(auto)]
+
+mod answer;
+mod case;
+mod check;
+mod connectors;
+mod disturbed;
+mod images;
+mod listing;
+mod record;
+mod rows;
+mod select;
+mod statement;
+mod volume;
+
+use check::check_case;
+use row_scripts::{Tally, read_cases};
+use std::process::ExitCode;
+use std::{fs, io};
+
+fn main(rt: HostRuntime) -> io::Result<ExitCode> {
+    let names = fs::read_to_string(&rt, "SCRIPTS")?;
+    let mut tally = Tally::default();
+    for name in names.as_str().lines() {
+        let text = fs::read(&rt, name)?;
+        for case in read_cases(rt.alloc(), &text)?.into_iter() {
+            check_case(&rt, name, case, &mut tally)?;
+        }
+    }
+    tally.print(&rt)?;
+    Ok(ExitCode::from(u8::from(tally.failed > 0)))
+}

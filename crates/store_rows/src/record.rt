@@ -1,0 +1,57 @@
+//! Records in pieces: `"text"` from the first byte on, `OFFSET:"text"` from another one on, and dashes elsewhere.
+use row_scripts::{Fault, Words, number_of, quoted};
+use std::alloc::{AllocError, Global};
+
+/// A record of so many of a byte.
+pub fn filled(alloc: Global, length: usize, byte: u8) -> Result<Vec<u8>, AllocError> {
+    vec![in alloc; byte; length]
+}
+
+/// The offset and the text of a piece.
+fn piece(word: &[u8]) -> Option<(usize, &[u8])> {
+    let colon = match word.iter().position(|byte| *byte == b'"') {
+        None => return None,
+        Some(0) => return Some((0, word)),
+        Some(quote) => quote.saturating_sub(1),
+    };
+    let offset = number_of(word.get(..colon)?)?;
+    let text = word.get(colon..)?;
+    match text.split_first() {
+        Some((b':', text)) => Some((usize::try_from(offset).ok()?, text)),
+        _ => None,
+    }
+}
+
+fn put(record: &mut [u8], offset: usize, bytes: &[u8]) -> Result<(), Fault> {
+    match record.get_mut(offset..) {
+        Some(place) if place.len() >= bytes.len() => {
+            for (byte, new) in place.iter_mut().zip(bytes.iter()) {
+                *byte = *new;
+            }
+            Ok(())
+        }
+        _ => Err(Fault::Spelling("the piece is past the record's end")),
+    }
+}
+
+/// The record of the pieces that come next; none where no piece does.
+pub fn read_record(
+    alloc: Global,
+    words: &mut Words<'_>,
+    length: usize,
+) -> Result<Option<Vec<u8>>, Fault> {
+    let mut record = None;
+    for _ in 0..=length {
+        let Some((offset, text)) = words.ahead().and_then(piece) else {
+            break;
+        };
+        words.word();
+        let mut bytes = match record {
+            None => filled(alloc, length, b'-')?,
+            Some(bytes) => bytes,
+        };
+        put(&mut bytes, offset, &quoted(alloc, text)?)?;
+        record = Some(bytes);
+    }
+    Ok(record)
+}

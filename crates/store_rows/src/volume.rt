@@ -1,0 +1,180 @@
+//! A volume on a station in memory, with the connectors of a program over it.
+use crate::answer::Answer;
+use crate::connectors::{Kind, Verbs, refused};
+use crate::listing::list;
+use crate::statement::Statement;
+use alternate_keys::PagedStore;
+use file_recovery::recover;
+use records::Select;
+use row_scripts::Fault;
+use station::{Device, DeviceError, MemoryStation};
+use std::alloc::Global;
+
+/// A station with its connectors.
+#[derive(Drop)]
+pub struct Volume {
+    alloc: Global,
+    kind: Kind,
+    verbs: Verbs,
+    station: MemoryStation,
+}
+
+/// Why a sector isn't read or written.
+fn failed(error: DeviceError) -> Fault {
+    Fault::Refused(u64::from(error.number()))
+}
+
+/// Makes a volume without files.
+fn format(kind: Kind, station: &mut MemoryStation) -> Result<(), Fault> {
+    if station.count() < 1024 || station.count() > 921_600 {
+        return Err(Fault::Spelling("a volume has from 1024 to 921600 sectors"));
+    }
+    let formatted = match kind {
+        Kind::Halves => half_store::format(station),
+        Kind::Trees(_) => alternate_keys::format(station),
+    };
+    match formatted {
+        Ok(()) => Ok(()),
+        Err(_) => Err(Fault::Memory),
+    }
+}
+
+/// The most sectors of a station here.
+const MOST_SECTORS: usize = 10_000;
+
+/// A station of so many sectors of zeros.
+fn blank(alloc: Global, sectors: usize) -> Result<MemoryStation, Fault> {
+    let bytes = vec![in alloc; [0; 4096]; sectors.min(MOST_SECTORS)]?;
+    Ok(MemoryStation::new(alloc, bytes, Vec::new(alloc))?)
+}
+
+impl Volume {
+    /// A volume of this kind that isn't open, without files, or with sectors of zeros.
+    pub fn new(alloc: Global, kind: Kind, sectors: usize, is_blank: bool) -> Result<Volume, Fault> {
+        let mut station = blank(alloc, sectors)?;
+        if !is_blank {
+            format(kind, &mut station)?;
+        }
+        Ok(Volume {
+            alloc,
+            kind,
+            verbs: Verbs::Closed,
+            station,
+        })
+    }
+
+    /// A volume of this kind that isn't open, with these sectors.
+    pub fn with(alloc: Global, kind: Kind, sectors: &[[u8; 4096]]) -> Result<Volume, Fault> {
+        let count = sectors.len().min(MOST_SECTORS);
+        let sectors = match sectors.get(..count) {
+            Some(sectors) => Vec::from_slice(alloc, sectors)?,
+            None => Vec::new(alloc),
+        };
+        let station = MemoryStation::new(alloc, sectors, Vec::new(alloc))?;
+        Ok(Volume {
+            alloc,
+            kind,
+            verbs: Verbs::Closed,
+            station,
+        })
+    }
+
+    /// Makes a volume without files of the station. It isn't open then.
+    pub fn format(&mut self) -> Result<(), Fault> {
+        self.verbs = Verbs::Closed;
+        format(self.kind, &mut self.station)
+    }
+
+    /// Opens the volume anew, with connectors to these files.
+    pub fn open(&mut self, selects: Vec<Select>) -> Result<(), Fault> {
+        self.verbs = Verbs::Closed;
+        self.verbs = Verbs::open(self.alloc, self.kind, &mut self.station, selects)?;
+        Ok(())
+    }
+
+    /// Does a statement on its record and number.
+    pub fn perform(
+        &mut self,
+        statement: &Statement,
+        record: &mut [u8],
+        number: &mut u64,
+    ) -> Result<Answer, Fault> {
+        self.verbs
+            .perform(&mut self.station, statement, record, number)
+    }
+
+    /// Makes the n-th call from now on fail, and all later ones too where it is a stop.
+    pub fn disturb(&mut self, n: u64, is_stop: bool) {
+        if is_stop {
+            self.station.stop_at(n);
+        } else {
+            self.station.fail_at(n);
+        }
+    }
+
+    /// Stops the program. What waits for a sync is left as the choices say.
+    pub fn crash(&mut self, choices: &[u32]) {
+        self.verbs = Verbs::Closed;
+        self.station.crash(choices);
+    }
+
+    /// Forgets the calls on the station. What waits for a sync is gone.
+    pub fn rest(&mut self) {
+        self.station.crash(&[]);
+    }
+
+    /// Lets go of the record of calls. What waits for a sync is durable then.
+    pub fn renew(&mut self) -> Result<(), Fault> {
+        let count = self.station.count();
+        let mut sectors = Vec::new(self.alloc);
+        for number in 0..count {
+            sectors.push(self.sector(number)?)?;
+        }
+        if sectors.len() != count as usize {
+            return Err(Fault::Spelling("the station lost sectors"));
+        }
+        self.station = MemoryStation::new(self.alloc, sectors, Vec::new(self.alloc))?;
+        Ok(())
+    }
+
+    /// How often a sector was written.
+    pub fn writes(&self) -> u64 {
+        self.station.writes()
+    }
+
+    /// The files as text.
+    pub fn files(&mut self) -> Result<Vec<u8>, Fault> {
+        let files = recover(self.alloc, &mut self.station).map_err(refused)?;
+        Ok(list(self.alloc, &files)?)
+    }
+
+    /// How many sectors a commit may use, of a volume of trees.
+    pub fn free(&mut self) -> Result<u64, Fault> {
+        let store = PagedStore::open(self.alloc, &mut self.station, 8).map_err(refused)?;
+        Ok(u64::from(store.free_sectors()))
+    }
+
+    /// How many sectors the station has.
+    pub fn count(&self) -> u32 {
+        self.station.count()
+    }
+
+    /// A sector.
+    pub fn sector(&mut self, number: u32) -> Result<[u8; 4096], Fault> {
+        if number >= self.station.count() {
+            return Err(Fault::Spelling("there is no such sector"));
+        }
+        let mut bytes = [0; 4096];
+        self.station.read(number, &mut bytes).map_err(failed)?;
+        Ok(bytes)
+    }
+
+    /// Writes a sector, which is durable then.
+    pub fn put(&mut self, number: u32, bytes: &[u8; 4096]) -> Result<(), Fault> {
+        if number >= self.station.count() {
+            return Err(Fault::Spelling("there is no such sector"));
+        }
+        self.station.write(number, bytes).map_err(failed)?;
+        self.station.sync().map_err(failed)
+    }
+}

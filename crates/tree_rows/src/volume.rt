@@ -1,0 +1,282 @@
+//! A volume of pages on a station in memory, with one tree in it whose entries are told by their numbers.
+//!
+//! The key of an entry is sevens with its number in the last four bytes, or the last bytes of these, and each byte of its value is a tenth
+//! of its number.
+use btree::{Entry, Tree};
+use pages::{PageMap, PagesError, format};
+use row_scripts::Fault;
+use station::{Device, MemoryStation};
+use std::alloc::{AllocError, Global};
+use std::marker::Model;
+use tree_check::check_tree;
+use tree_pages::{RowLayout, TreePage};
+
+/// An opened volume on its station.
+#[derive(Drop)]
+pub struct Volume {
+    alloc: Global,
+    pages: PageMap,
+    station: MemoryStation,
+}
+
+impl Model for Volume {
+    ghost use Rattle.std.specs.Prelude.{ℕ};
+    ghost use Rattle.pages.specs.Pages.{IsOpen, sectors_of};
+
+    // Its number of sectors. No clause speaks of it: what counts is the invariant.
+    ghost Value = { ℕ };
+
+    ghost view = { λ volume. sectors_of volume.pages };
+
+    ghost invariant = { λ volume. IsOpen volume.pages };
+}
+
+/// What a call on a tree answers.
+pub type Answered<T> = Result<T, PagesError>;
+
+/// The bytes of a key.
+pub fn key_of(alloc: Global, layout: RowLayout, number: u32) -> Result<Vec<u8>, AllocError> {
+    let mut key = vec![in alloc; 7u8; layout.key_length]?;
+    let bytes = number.to_be_bytes();
+    for (byte, new) in key.iter_mut().rev().zip(bytes.iter().rev()) {
+        *byte = *new;
+    }
+    Ok(key)
+}
+
+/// The bytes of a value.
+pub fn value_of(alloc: Global, layout: RowLayout, number: u32) -> Result<Vec<u8>, AllocError> {
+    let byte = (number / 10 % 256) as u8;
+    vec![in alloc; byte; layout.value_length]
+}
+
+fn small() -> Fault {
+    Fault::Spelling("the station is too small")
+}
+
+/// The tree of a layout below a root.
+pub fn tree_of(alloc: Global, layout: RowLayout, root: u32) -> Result<Tree, Fault> {
+    if layout.is_possible() {
+        Ok(Tree::new(alloc, layout, root))
+    } else {
+        Err(Fault::Spelling("no tree has these lengths"))
+    }
+}
+
+impl Volume {
+    /// A new volume of 1,024 sectors, with room for so many pages in memory.
+    pub fn new(alloc: Global, cached: usize) -> Result<Volume, Fault> {
+        let sectors = vec![in alloc; [0; 4096]; 1024]?;
+        let mut station = MemoryStation::new(alloc, sectors, Vec::new(alloc))?;
+        if station.count() != 1024 {
+            return Err(small());
+        }
+        if format(&mut station).is_err() {
+            return Err(small());
+        }
+        Volume::opened(alloc, station, cached)
+    }
+
+    fn opened(alloc: Global, mut station: MemoryStation, cached: usize) -> Result<Volume, Fault> {
+        if cached < 1 || cached > 4096 {
+            return Err(Fault::Spelling("from 1 to 4096 pages are in memory"));
+        }
+        match PageMap::open(alloc, &mut station, cached) {
+            Ok(pages) => Ok(Volume {
+                alloc,
+                pages,
+                station,
+            }),
+            Err(_) => Err(Fault::Spelling("the volume isn't opened")),
+        }
+    }
+
+    /// Opens the volume again. What wasn't committed is gone.
+    pub fn reopen(&mut self, cached: usize) -> Result<(), Fault> {
+        if cached < 1 || cached > 4096 {
+            return Err(Fault::Spelling("from 1 to 4096 pages are in memory"));
+        }
+        match PageMap::open(self.alloc, &mut self.station, cached) {
+            Ok(pages) => {
+                self.pages = pages;
+                Ok(())
+            }
+            Err(_) => Err(Fault::Spelling("the volume isn't opened")),
+        }
+    }
+
+    /// A crash that leaves each sector at the value of this choice. The volume has to be opened again.
+    pub fn crash(&mut self, choice: u32) {
+        self.station.crash(&[choice; 200]);
+    }
+
+    /// Makes the n-th call from now on fail, and all later ones too if it is a stop.
+    pub fn disturb(&mut self, n: u64, is_stop: bool) {
+        if is_stop {
+            self.station.stop_at(n);
+        } else {
+            self.station.fail_at(n);
+        }
+    }
+
+    /// How often a sector was to be read, and to be written.
+    pub fn calls(&self) -> (u64, u64) {
+        (self.station.reads(), self.station.writes())
+    }
+
+    /// How many pages were changed since the last commit.
+    pub fn changed_pages(&self) -> usize {
+        self.pages.changed_pages()
+    }
+
+    /// How many sectors are free.
+    pub fn free_sectors(&self) -> u32 {
+        self.pages.free_sectors()
+    }
+
+    /// The root that was committed.
+    pub fn root(&self) -> u32 {
+        self.pages.catalog()
+    }
+
+    /// Commits what was changed, with a tree's root.
+    pub fn commit(&mut self, root: u32) -> Result<Answered<()>, Fault> {
+        if self.pages.sectors() > self.station.count() {
+            return Err(small());
+        }
+        self.pages.set_catalog(root);
+        Ok(self.pages.commit(&mut self.station))
+    }
+
+    /// A page of zeros that wasn't used.
+    pub fn allocate(&mut self) -> Result<u32, Fault> {
+        match self.pages.allocate() {
+            Ok(page) => Ok(page),
+            Err(_) => Err(Fault::Spelling("no page is free")),
+        }
+    }
+
+    /// Puts bytes on a page.
+    pub fn edit(&mut self, page: u32, bytes: &[u8; 4096]) -> Result<(), Fault> {
+        if page == 0 || page as usize >= self.pages.page_count() {
+            return Err(Fault::Spelling("there is no such page"));
+        }
+        match self.pages.edit(page, bytes) {
+            Ok(()) => Ok(()),
+            Err(_) => Err(Fault::Spelling("the page isn't changed")),
+        }
+    }
+
+    /// The bytes of a page.
+    pub fn page(&mut self, page: u32) -> Result<[u8; 4096], Fault> {
+        if self.pages.sectors() > self.station.count() {
+            return Err(small());
+        }
+        match self.pages.read(&mut self.station, page) {
+            Ok(Some(bytes)) => Ok(bytes),
+            _ => Err(Fault::Spelling("there is no such page")),
+        }
+    }
+
+    /// A page of a tree.
+    pub fn tree_page(&mut self, layout: RowLayout, page: u32) -> Result<TreePage, Fault> {
+        let bytes = self.page(page)?;
+        if !layout.is_possible() {
+            return Err(Fault::Spelling("no tree has these lengths"));
+        }
+        match TreePage::read(bytes, layout) {
+            Some(page) => Ok(page),
+            None => Err(Fault::Spelling("this is no page of a tree")),
+        }
+    }
+
+    /// Puts the entry of a number into a tree; tells whether it wasn't there.
+    pub fn insert(&mut self, tree: &mut Tree, number: u32) -> Result<Answered<bool>, Fault> {
+        let layout = tree.layout();
+        let key = key_of(self.alloc, layout, number)?;
+        let value = value_of(self.alloc, layout, number)?;
+        if self.pages.sectors() > self.station.count()
+            || key.len() != layout.key_length
+            || value.len() != layout.value_length
+        {
+            return Err(small());
+        }
+        Ok(tree.insert(&mut self.pages, &mut self.station, &key, &value))
+    }
+
+    /// Gives the entry of a number the value of another; tells whether it is there.
+    pub fn replace(
+        &mut self,
+        tree: &mut Tree,
+        number: u32,
+        other: u32,
+    ) -> Result<Answered<bool>, Fault> {
+        let layout = tree.layout();
+        let key = key_of(self.alloc, layout, number)?;
+        let value = value_of(self.alloc, layout, other)?;
+        if self.pages.sectors() > self.station.count() || value.len() != layout.value_length {
+            return Err(small());
+        }
+        Ok(tree.replace(&mut self.pages, &mut self.station, &key, &value))
+    }
+
+    /// Takes the entry of a number out of a tree; tells whether it was there.
+    pub fn remove(&mut self, tree: &mut Tree, number: u32) -> Result<Answered<bool>, Fault> {
+        let key = key_of(self.alloc, tree.layout(), number)?;
+        if self.pages.sectors() > self.station.count() {
+            return Err(small());
+        }
+        Ok(tree.remove(&mut self.pages, &mut self.station, &key))
+    }
+
+    /// The entry of a number.
+    pub fn get(&mut self, tree: &Tree, number: u32) -> Result<Answered<Option<Entry>>, Fault> {
+        let key = key_of(self.alloc, tree.layout(), number)?;
+        if self.pages.sectors() > self.station.count() {
+            return Err(small());
+        }
+        Ok(tree.get(&mut self.pages, &mut self.station, &key))
+    }
+
+    /// The first entry from a number on.
+    pub fn seek(&mut self, tree: &Tree, number: u32) -> Result<Answered<Option<Entry>>, Fault> {
+        let key = key_of(self.alloc, tree.layout(), number)?;
+        if self.pages.sectors() > self.station.count() {
+            return Err(small());
+        }
+        Ok(tree.seek(&mut self.pages, &mut self.station, &key))
+    }
+
+    /// The first entry after a number.
+    pub fn next(&mut self, tree: &Tree, number: u32) -> Result<Answered<Option<Entry>>, Fault> {
+        let key = key_of(self.alloc, tree.layout(), number)?;
+        if self.pages.sectors() > self.station.count() {
+            return Err(small());
+        }
+        Ok(tree.next(&mut self.pages, &mut self.station, &key))
+    }
+
+    /// The first entry.
+    pub fn first(&mut self, tree: &Tree) -> Result<Answered<Option<Entry>>, Fault> {
+        if self.pages.sectors() > self.station.count() {
+            return Err(small());
+        }
+        Ok(tree.first(&mut self.pages, &mut self.station))
+    }
+
+    /// Checks a tree, and marks its pages.
+    pub fn check(&mut self, tree: &Tree, seen: &mut [bool]) -> Result<Answered<()>, Fault> {
+        if self.pages.sectors() > self.station.count() {
+            return Err(small());
+        }
+        Ok(check_tree(self.alloc, tree, &mut self.pages, &mut self.station, seen))
+    }
+
+    /// Gives up all pages of a tree.
+    pub fn clear(&mut self, tree: &mut Tree) -> Result<Answered<()>, Fault> {
+        if self.pages.sectors() > self.station.count() {
+            return Err(small());
+        }
+        Ok(tree.clear(&mut self.pages, &mut self.station))
+    }
+}
