@@ -1,6 +1,7 @@
 //! The clauses of a SELECT, in any order, each at most once but for ALTERNATE RECORD KEY.
 
 ghost use Rattle.std.specs.Prelude.{◌≡◌, OnOk};
+ghost use Rattle.std.specs.Result.{result_map_both};
 ghost use Rattle.grammar.specs.Reading.{Reads};
 ghost use Rattle.data_division.specs.Gathering.{gathering_reader};
 ghost use Rattle.file_control.specs.ClauseReading.{clause_reader};
@@ -72,14 +73,28 @@ impl Stated {
 }
 
 /// Clauses up to where no more can begin. One that can't come a second time is refused where it does.
-#[tactic(auto, unfolding(data_division::specs::Gathering::gathering_reader, data_division::specs::Gathering::gathering_turns))]
 pub fn stated_clauses(alloc: Global, tokens: &mut Tokens<'_>) -> Result<Stated, ReadFault>
     ensures { Reads (gathering_reader spec.select_clauses clause_reader spec.none tokens.old) result tokens.new }
 {
     let mut stated = Stated::none(alloc);
+    match gather(&mut stated, alloc, tokens) {
+        Ok(()) => Ok(stated),
+        Err(fault) => {
+            drop(stated);
+            Err(fault)
+        }
+    }
+}
+
+/// Takes clauses in, up to where no more can begin.
+#[tactic(auto, unfolding(data_division::specs::Gathering::gathering_reader, data_division::specs::Gathering::gathering_turns))]
+fn gather(stated: &mut Stated, alloc: Global, tokens: &mut Tokens<'_>) -> Result<(), ReadFault>
+    ensures { Reads (gathering_reader spec.select_clauses clause_reader stated.old tokens.old)
+        (result_map_both (λ _. stated.new) (λ fault. fault) result) tokens.new }
+{
     for _turn in 0..tokens.len() {
         let Some(kind) = clause_at(tokens) else {
-            return Ok(stated);
+            return Ok(());
         };
         if stated.has(kind) {
             return Err(tokens.refuse());
@@ -89,5 +104,5 @@ pub fn stated_clauses(alloc: Global, tokens: &mut Tokens<'_>) -> Result<Stated, 
     if clause_at(tokens).is_some() {
         return Err(tokens.refuse());
     }
-    Ok(stated)
+    Ok(())
 }

@@ -1,10 +1,10 @@
-use Rattle.std.proofs.Common.{rules, arith}
+use Rattle.std.proofs.Common.{◌≡◌, ◌-◌, ◌∙◌, ap, rules, arith}
 use Rattle.std.proofs.lemmas.Grind.{common_steps}
 use Rattle.grammar.proofs.Turns.{one_more}
 use Rattle.data_division.specs.Gathering.{gathering_reader, gathering_turns}
 use Rattle.file_control.specs.Stated.{select_clauses}
 use Rattle.file_control.specs.ClauseReading.{clause_reader}
-use Rattle.file_control.proofs.stated.stated_clauses.Goals as goal
+use Rattle.file_control.proofs.stated.gather.Goals as goal
 
 pub loop-turn-init : goal.loop-turn-init
 unfolding gathering_reader
@@ -32,4 +32,11 @@ pub loop-turn-preserved : goal.loop-turn-preserved
 unfolding gathering_turns
 loop-turn-preserved c =
     let e = one_more (λ n. gathering_turns select_clauses clause_reader n c.loop-turn.stated c.loop-turn.tokens) _ c.loop-turn._turn c.loop-turn-test.true c.loop-turn.invariant in
+    first_of (search rules, grind (arith, common_steps))
+
+pub returns-then-is_some : goal.returns-then-is_some
+unfolding gathering_turns
+returns-then-is_some c =
+    let none : c.len-turn-end.result - c.loop-turn._turn ≡ 0 = omega arith in
+    let e = c.loop-turn.invariant ∙ ap (λ n. gathering_turns select_clauses clause_reader n c.loop-turn.stated c.loop-turn.tokens) none in
     first_of (search rules, grind (arith, common_steps))

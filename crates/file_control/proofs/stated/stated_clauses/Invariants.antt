@@ -1,9 +1,0 @@
-use Rattle.std.proofs.Common.{◌≡◌, ◌-◌}
-use Rattle.data_division.specs.Gathering.{gathering_reader, gathering_turns}
-use Rattle.file_control.specs.Stated.{select_clauses, none}
-use Rattle.file_control.specs.ClauseReading.{clause_reader}
-use Rattle.file_control.proofs.stated.stated_clauses.Given as goal
-
--- what is still to be read
-abbrev pub invariant-loop-turn : goal.invariant-loop-turn
-invariant-loop-turn l = gathering_reader select_clauses clause_reader none l.fn.tokens ≡ gathering_turns select_clauses clause_reader (l._turn-end - l._turn) l.stated l.tokens
