@@ -9,6 +9,7 @@ ghost use Rattle.code_image.specs.Reading.{after_mark, code_at};
 
 use crate::code::Code;
 use crate::writing::MARK;
+use answers::beside;
 use image_tables::{ImageError, ImageFault, read_table, read_tables};
 use std::alloc::Global;
 
@@ -28,18 +29,21 @@ fn read_code(alloc: Global, bytes: &[u8]) -> Result<Code, ImageError>
 {
     let rest = skip_mark(bytes)?;
     let (tables, rest) = read_tables(alloc, rest)?;
-    let (files, rest) = read_table(alloc, rest)?;
-    let (starts, rest) = read_table(alloc, rest)?;
-    let (instructions, rest) = read_table(alloc, rest)?;
-    if !rest.is_empty() {
-        return Err(ImageError::Refused(ImageFault::Length));
-    }
-    Ok(Code {
+    let (tables, (files, rest)) = beside(tables, read_table(alloc, rest))?;
+    let (held, (starts, rest)) = beside((tables, files), read_table(alloc, rest))?;
+    let (held, (instructions, rest)) = beside((held, starts), read_table(alloc, rest))?;
+    let ((tables, files), starts) = held;
+    let code = Code {
         tables,
         files,
         starts,
         instructions,
-    })
+    };
+    if !rest.is_empty() {
+        drop(code);
+        return Err(ImageError::Refused(ImageFault::Length));
+    }
+    Ok(code)
 }
 
 /// The code whose spelling the bytes are. The first fault from the left refuses them: 70 where the first eight bytes aren't the

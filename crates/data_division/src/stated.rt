@@ -1,7 +1,10 @@
 //! The clauses of an entry, in any order and each at most once.
 
 ghost use Rattle.std.specs.Prelude.{◌≡◌};
+ghost use Rattle.std.specs.Result.{result_map_both};
 ghost use Rattle.grammar.specs.Reading.{Reads};
+ghost use Rattle.data_division.specs.ClauseReading.{clause_reader};
+ghost use Rattle.data_division.specs.Gathering.{gathering_reader};
 ghost use Rattle.data_division.specs.Stated as spec;
 
 use crate::clause::{Clause, ClauseKind};
@@ -79,14 +82,29 @@ impl Stated {
 }
 
 /// Clauses up to where no more can begin. One that comes a second time is refused where it stands.
-#[tactic(auto, unfolding(crate::specs::Stated::stated_reader, crate::specs::Gathering::gathering_reader, crate::specs::Gathering::gathering_turns))]
+#[tactic(auto, unfolding(crate::specs::Stated::stated_reader))]
 pub fn stated_clauses(alloc: Global, tokens: &mut Tokens<'_>) -> Result<Stated, ReadFault>
     ensures { Reads (spec.stated_reader tokens.old) result tokens.new }
 {
     let mut stated = Stated::none();
+    match gather(&mut stated, alloc, tokens) {
+        Ok(()) => Ok(stated),
+        Err(fault) => {
+            drop(stated);
+            Err(fault)
+        }
+    }
+}
+
+/// Takes clauses in, up to where no more can begin.
+#[tactic(auto, unfolding(crate::specs::Gathering::gathering_reader, crate::specs::Gathering::gathering_turns))]
+fn gather(stated: &mut Stated, alloc: Global, tokens: &mut Tokens<'_>) -> Result<(), ReadFault>
+    ensures { Reads (gathering_reader spec.entry_clauses clause_reader stated.old tokens.old)
+        (result_map_both (λ _. stated.new) (λ fault. fault) result) tokens.new }
+{
     for _turn in 0..tokens.len() {
         let Some(kind) = clause_at(tokens) else {
-            return Ok(stated);
+            return Ok(());
         };
         if stated.has(kind) {
             return Err(tokens.refuse());
@@ -96,5 +114,5 @@ pub fn stated_clauses(alloc: Global, tokens: &mut Tokens<'_>) -> Result<Stated, 
     if clause_at(tokens).is_some() {
         return Err(tokens.refuse());
     }
-    Ok(stated)
+    Ok(())
 }

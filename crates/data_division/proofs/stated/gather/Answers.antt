@@ -2,12 +2,12 @@ use Rattle.std.proofs.Common.{rules, arith}
 use Rattle.std.proofs.lemmas.Grind.{common_steps}
 use Rattle.grammar.proofs.Turns.{one_more}
 use Rattle.data_division.specs.Gathering.{gathering_reader, gathering_turns}
-use Rattle.data_division.specs.Stated.{entry_clauses, stated_reader}
+use Rattle.data_division.specs.Stated.{entry_clauses}
 use Rattle.data_division.specs.ClauseReading.{clause_reader}
-use Rattle.data_division.proofs.stated.stated_clauses.Goals as goal
+use Rattle.data_division.proofs.stated.gather.Goals as goal
 
 pub loop-turn-init : goal.loop-turn-init
-unfolding stated_reader gathering_reader
+unfolding gathering_reader
 loop-turn-init c = first_of (search rules, grind (arith, common_steps))
 
 pub returns-in_default : goal.returns-in_default

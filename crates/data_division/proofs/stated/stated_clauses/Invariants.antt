@@ -1,9 +1,0 @@
-use Rattle.std.proofs.Common.{◌≡◌, ◌-◌}
-use Rattle.data_division.specs.Gathering.{gathering_turns}
-use Rattle.data_division.specs.Stated.{entry_clauses, stated_reader}
-use Rattle.data_division.specs.ClauseReading.{clause_reader}
-use Rattle.data_division.proofs.stated.stated_clauses.Given as goal
-
--- what is still to be read
-abbrev pub invariant-loop-turn : goal.invariant-loop-turn
-invariant-loop-turn l = stated_reader l.fn.tokens ≡ gathering_turns entry_clauses clause_reader (l._turn-end - l._turn) l.stated l.tokens
